@@ -2,3 +2,4 @@
 pub mod Ints
 pub mod Room
 pub mod TwoWords
+pub mod Division
