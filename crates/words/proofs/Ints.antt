@@ -1,6 +1,6 @@
 -- Signed sums for `omega`: a whole number z is its part above zero, `P z`, and its part below, `N z`; each operation, test and bound is linear in those.
 use Prim.Native.Nat.{ℕ, zero, suc, _+_, _-_, _≤_, _<_, _^_, min}
-use mathlib.Core.Path.{_≡_, refl, ap, _∙_}
+use mathlib.Core.Path.{_≡_, refl, sym, ap, _∙_, subst}
 use mathlib.Core.Bool.{Bool, true, false, cond}
 use mathlib.Core.Logic.{_⊎_, inl, inr}
 use native.Mathlib.Omega.{arith}
@@ -9,7 +9,8 @@ use lib.Signed.{ltZ, leZ}
 use lib.Dec.{ltb, leb}
 use borrow.Author.Tests.{ltb-true, ltb-false, leb-true, leb-false}
 use mir.Syntax.{w64}
-use mir.Val.{SFits}
+use mir.Val.{SFits, toZ, ofZ}
+use mir.Facts.{toZ-ofZ}
 use Rattle.words.specs.Sums.{clamp64, signed}
 
 unfoldable pub P : ℤ → ℕ
@@ -188,6 +189,10 @@ clamp-fits z = fits-of (clamp64 z) (omega (arith, P-clamp z)) (omega (arith, N-c
 
 pub clamp-same : (z : ℤ) → SFits w64 z → clamp64 z ≡ z
 clamp-same z h = eq-of (clamp64 z) z (omega (arith, P-clamp z, N-clamp z, P-fits z h, N-fits z h))
+
+-- the bits of what was clamped, read back
+pub clamp-back : (r z : ℤ) → r ≡ clamp64 z → toZ w64 (ofZ w64 r) ≡ clamp64 z
+clamp-back r z e = toZ-ofZ (subst (SFits w64) (sym e) (clamp-fits z)) ∙ e
 
 -- at or past either end
 pub clamp-top : (z : ℤ) → 2 ^ 63 + N z ≤ P z → clamp64 z ≡ pos 9223372036854775807

@@ -3,3 +3,4 @@ pub mod Ints
 pub mod Room
 pub mod TwoWords
 pub mod Division
+pub mod Signs

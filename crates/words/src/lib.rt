@@ -2,7 +2,7 @@
 ghost use mathlib.Core.Path.{_≡_};
 ghost use Prim.Native.Nat.{_+_, _*_, _/_, _^_, _≤_, _<_, min};
 ghost use lib.IntN.{pos, natAbs};
-ghost use lib.Signed.{ltZ};
+ghost use lib.Signed.{nonNeg};
 ghost use mathlib.Core.Bool.{xor};
 ghost use Rattle.words.specs.Sums.{clamp64, satAdd, satSub, satNeg, satAbs, value, notional, priceAt, signed, snap, SCALE};
 ghost use Rattle.words.specs.Wide.{valueOf, wide};
@@ -10,6 +10,9 @@ ghost use Rattle.words.specs.Wide.{valueOf, wide};
 pub const MAX: i64 = 9223372036854775807;
 
 pub const MIN: i64 = -9223372036854775808;
+
+// "SCALE is 1,000,000."
+pub const SCALE: u64 = 1000000;
 
 // Two 64-bit words, the upper one first.
 pub struct Wide {
@@ -208,4 +211,51 @@ pub fn clamped(negative: bool, n: Wide) -> i64
     } else {
         if negative { MIN } else { MAX }
     }
+}
+
+// Whether a product or a quotient of the two has a minus sign; of a zero either answer will do.
+fn opposite(a: i64, b: i64) -> bool
+    ensures { λ r. ⌜ r ≡ xor (nonNeg a) (nonNeg b) ⌝ }
+{
+    (a < 0) != (b < 0)
+}
+
+// The exact product over SCALE. Most products take one word, and then so does their quotient.
+fn scaled(q: u64, p: u64) -> Wide
+    ensures { λ r. ⌜ r ≡ wide (q * p / SCALE) ⌝ }
+{
+    let product = mul_wide(q, p);
+    if product.hi == 0 {
+        return Wide {
+            hi: 0,
+            lo: product.lo / SCALE,
+        };
+    }
+    div_digits(product, SCALE)
+}
+
+// "A value is quantity times price over SCALE, exact product, truncated toward zero, clamped to i64."
+pub fn value(quantity: i64, price: i64) -> i64
+    ensures { λ r. ⌜ r ≡ value quantity price ⌝ }
+{
+    let amount = scaled(unsigned_abs(quantity), unsigned_abs(price));
+    clamped(opposite(quantity, price), amount)
+}
+
+// The value of the magnitudes.
+pub fn magnitude(quantity: i64, price: i64) -> i64
+    ensures { λ r. ⌜ r ≡ notional quantity price ⌝ }
+{
+    clamped(false, scaled(unsigned_abs(quantity), unsigned_abs(price)))
+}
+
+// The price at which the quantity has this value, truncated toward zero and clamped; 0 for quantity 0.
+pub fn price_at(value: i64, quantity: i64) -> i64
+    ensures { λ r. ⌜ r ≡ priceAt value quantity ⌝ }
+{
+    let total = mul_wide(unsigned_abs(value), SCALE);
+    clamped(
+        opposite(value, quantity),
+        div_wide(total, unsigned_abs(quantity)),
+    )
 }
