@@ -1,0 +1,27 @@
+-- The quotients among the figures, as the Rust's `compute_metrics` has them. Definitions only.
+use mathlib.Core.Bool.{Bool, cond, _&&_}
+use Prim.Native.Nat.{ℕ}
+use lib.Dec.{ltb}
+use lib.IntN.{pos}
+use lib.Ieee.{Float, binary64, sub, div, lt, ne, ofInt}
+use Rattle.metrics.specs.Double.{zero, one, infinity, absolute, finite}
+
+-- `n as f64`
+abbrev pub asDouble : ℕ → Float
+asDouble n = ofInt binary64 (pos n)
+
+-- "Win rate": `winning_periods as f64 / n as f64`
+unfoldable pub winRate : ℕ → ℕ → Float
+winRate winning periods = div binary64 (asDouble winning) (asDouble periods)
+
+-- `if count > 0 { sum / count as f64 } else { 0.0 }`
+unfoldable pub mean : Float → ℕ → Float
+mean sum count = cond (ltb 0 count) (div binary64 sum (asDouble count)) zero
+
+-- `if loss != 0.0 { gain / loss.abs() } else if gain > 0.0 { f64::INFINITY } else { 0.0 }`
+unfoldable pub gainOverLoss : Float → Float → Float
+gainOverLoss gain loss = cond (ne loss zero) (div binary64 gain (absolute loss)) (cond (lt zero gain) infinity zero)
+
+-- "Kelly criterion: w - (1 - w) / b", and 0.0 unless `payoff_ratio > 0.0 && payoff_ratio.is_finite()`
+unfoldable pub kellyOf : Float → Float → Float
+kellyOf rate payoff = cond (lt zero payoff && finite payoff) (sub binary64 rate (div binary64 (sub binary64 one rate) payoff)) zero
