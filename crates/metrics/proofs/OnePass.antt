@@ -45,7 +45,7 @@ module _ (test : Float → Bool) where
       go rest false = rest s
 
 module _ (rs : List Float) where
-  equity-is : foldl curveAfter flat rs .equity ≡ foldl grown one rs
+  pub equity-is : foldl curveAfter flat rs .equity ≡ foldl grown one rs
   unfolding curveAfter
   equity-is = fold-part (λ c. c .equity) curveAfter grown (λ c r. refl) flat rs
 

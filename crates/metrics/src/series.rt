@@ -1,5 +1,4 @@
 // One pass over a return series.
-ghost use mathlib.Core.Bool.{_&&_};
 ghost use mathlib.Core.Path.{_≡_};
 ghost use Prim.Native.Nat.{_≤_};
 ghost use lib.ListN.{length};
@@ -15,12 +14,7 @@ pub(crate) struct Gathered {
     pub(crate) tally: Tally,
 }
 
-fn both(a: bool, b: bool) -> bool
-    ensures { λ r. ⌜ r ≡ (a && b) ⌝ }
-{
-    if a { b } else { false }
-}
-
+// The figures' passes over the series in one: each reads the returns in the same order.
 pub(crate) fn gather(returns: &[f64]) -> Gathered
     requires { ⌜ length (now returns) ≤ 4096 ⌝ }
     ensures { λ r. ⌜ r ≡ gathered (now (returns .entry)) ⌝ }
@@ -31,7 +25,7 @@ pub(crate) fn gather(returns: &[f64]) -> Gathered
     let mut i = 0usize;
     while i < returns.len() {
         let r = returns[i];
-        finite = both(finite, is_finite(r));
+        finite = finite & is_finite(r);
         curve = curve.after(r);
         tally = tally.after(r);
         i += 1;

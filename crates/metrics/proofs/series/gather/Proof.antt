@@ -1,10 +1,8 @@
 -- `metrics::series::gather` meets its contract. The invariant: what is gathered before the place, gone on with from the place, is what the whole series gives. The measure is what is left of the series.
 use borrow.Author.Needs.{needs}
 use Prim.Native.Nat.{_-_}
-use mathlib.Core.Path.{_∙_, ap, sym}
 use native.Mathlib.Omega.{arith}
-use lib.ListN.{length, getD}
-use lib.Ieee.{Float, ofBits}
+use lib.ListN.{length}
 use Rattle.metrics.proofs.Gathering.{Gathering, gather-first, gather-on, gather-last}
 use Rattle.metrics.proofs.series.gather.Statement.{statement}
 use Rattle.metrics.proofs.series.gather.Tie as tie
@@ -33,9 +31,6 @@ shared-slice-read-r c = search needs
 is-finite-requires : tie.Need-is-finite-requires Inv-loop μ-loop
 is-finite-requires c κs = search needs
 
-both-requires : tie.Need-both-requires Inv-loop μ-loop
-both-requires c κs = search needs
-
 after-requires : tie.Need-after-requires Inv-loop μ-loop
 after-requires c κs = search needs
 
@@ -50,10 +45,9 @@ loop-less c = omega arith
 
 loop-again : tie.Need-loop-again Inv-loop μ-loop
 loop-again c =
-    let q = c .before .before .before .before .before in
-    let l = q .before in
-    simp (c .after2 .ensures, c .before .after .ensures, c .before .before .both .ensures, c .before .before .before .is-finite .ensures)
-    (gather-on _ _ _ _ _ _ (q .loop-test .taken) (l .loop .inv))
+    let q = c .before .before .before .before in
+    simp (c .after2 .ensures, c .before .after .ensures, c .before .before .is-finite .ensures)
+    (gather-on _ _ _ _ _ _ (q .loop-test .taken) (q .before .loop .inv))
 
 returns : tie.Need-returns Inv-loop μ-loop
 returns c = gather-last _ _ _ _ _ (c .loop-test .left) (c .before .loop .inv)
@@ -70,7 +64,6 @@ gather-spec =
     mul-r
     shared-slice-read-r
     is-finite-requires
-    both-requires
     after-requires
     after-requires-2
     add-i
