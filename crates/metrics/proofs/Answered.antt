@@ -1,31 +1,20 @@
--- Document 01's number tells the answers apart, so a series has one answer only.
-use mathlib.Core.Path.{_≡_, refl, sym, ap, _∙_}
+-- Which number a series is answered by.
+use mathlib.Core.Path.{_≡_, refl}
+use mathlib.Core.Bool.{Bool, true, false, cond}
 use mathlib.Core.List.{List}
-use Prim.Native.Nat.{ℕ}
 use lib.Ieee.{Float}
-use Rattle.metrics.specs.Answers.{numberOf, onPaper, answerTo}
-use Rattle.metrics.specs.declared.Answer.{Answer}
-use Rattle.metrics.specs.declared.Answer.the-variants.{Done, TooLong, BadSeries}
-use Rattle.metrics.specs.declared.Figures.{Figures}
+use Rattle.answer.specs.Numbers.{numberOf}
+use Rattle.answer.specs.declared.Answer.the-variants.{Done, TooLong, BadSeries}
+use Rattle.metrics.specs.Answers.{tooLong, goodSeries, refusal, metricsOf}
+use Rattle.metrics.specs.Figures.{figuresOf}
 use Rattle.metrics.specs.declared.Metrics.{Metrics}
 
-same-number : (a b : Answer) → numberOf a ≡ numberOf b → a ≡ b
-same-number Done Done e = refl
-same-number Done TooLong e = cc
-same-number Done BadSeries e = cc
-same-number TooLong Done e = cc
-same-number TooLong TooLong e = refl
-same-number TooLong BadSeries e = cc
-same-number BadSeries Done e = cc
-same-number BadSeries TooLong e = cc
-same-number BadSeries BadSeries e = refl
-
-abbrev told : Answer → Figures → Metrics
-told a f = record { answer = a; figures = f }
-
-pub one-answer : (rs : List Float) (a b : Metrics) → onPaper a ≡ answerTo rs → onPaper b ≡ answerTo rs → a ≡ b
-one-answer rs a b p q =
-    let e : onPaper a ≡ onPaper b = p ∙ sym q in
-    let n : a .answer ≡ b .answer = same-number (a .answer) (b .answer) (ap (λ x. x .number) e) in
-    let f : a .figures ≡ b .figures = ap (λ x. x .figures) e in
-    ap (λ x. told x (a .figures)) n ∙ ap (told (b .answer)) f
+-- "6: a return series is over its bound", "12: a return series is empty or has a non-finite member", in that order
+pub numbered : (rs : List Float) → numberOf (metricsOf rs .answer) ≡ cond (tooLong rs) 6 (cond (goodSeries rs) 0 12)
+unfolding metricsOf
+numbered rs = go (tooLong rs) (goodSeries rs)
+  where
+    go : (long good : Bool) → numberOf (cond long (refusal TooLong) (cond good (record { answer = Done; figures = figuresOf rs }) (refusal BadSeries)) .answer) ≡ cond long 6 (cond good 0 12)
+    go true good = refl
+    go false true = refl
+    go false false = refl

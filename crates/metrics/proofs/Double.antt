@@ -1,4 +1,4 @@
--- Laws of single doubles: the absolute value by a comparison, the test for finite by two.
+-- The absolute value of a double by a comparison.
 use mathlib.Core.Path.{_≡_, refl, ap}
 use mathlib.Core.Bool.{Bool, true, false, not, _&&_, _||_}
 use Prim.Native.Nat.{ℕ, zero, suc, _+_, _*_, _≤_}
@@ -7,7 +7,7 @@ use lib.Dec.{eqb}
 use lib.Ieee.{Float, nan, inf, fin, neg, lt, eq, ne, up, down}
 use borrow.Author.Tests.{ltb-true, ltb-false}
 use Rattle.metrics.specs.Double as D
-use Rattle.metrics.specs.Double.{infinity, absolute, finite}
+use Rattle.metrics.specs.Double.{absolute}
 
 pub absolute-below : (x : Float) → lt x D.zero ≡ true → neg x ≡ absolute x
 unfolding lt neg absolute
@@ -33,16 +33,3 @@ absolute-above (inf true) n h = cc
 absolute-above (inf false) n h = refl
 absolute-above (fin true m e) n h = absurd (let z = not-level (m * up e * 1) (0 * 1 * down e) (ltb-false _ _ h) n in omega arith)
 absolute-above (fin false m e) n h = refl
-
-pub finite-between : (x : Float) → lt x infinity ≡ true → lt (neg infinity) x ≡ finite x
-unfolding lt neg
-finite-between nan h = refl
-finite-between (inf true) h = refl
-finite-between (inf false) h = cc
-finite-between (fin s m e) h = refl
-
-pub not-finite : (x : Float) → lt x infinity ≡ false → false ≡ finite x
-unfolding lt
-not-finite nan h = refl
-not-finite (inf s) h = refl
-not-finite (fin s m e) h = cc

@@ -8,7 +8,8 @@ use native.Mathlib.Numerals.{add-one}
 use lib.ListN.{length, drop, getD, drop-of-length-le}
 use lib.Seq.{drop-cons}
 use lib.Ieee.{Float}
-use Rattle.metrics.specs.Double.{finite, allFinite}
+use Rattle.doubles.specs.Doubles.{finite}
+use Rattle.metrics.specs.Double.{allFinite}
 use Rattle.metrics.specs.Curve.{flat, curveAfter}
 use Rattle.metrics.specs.Tally.{wins, loses, counted, noReturns, tallyAfter}
 use Rattle.metrics.specs.Gathered.{gathered}

@@ -3,7 +3,7 @@ use mathlib.Core.Bool.{Bool, true, false, _&&_}
 use mathlib.Core.List.{List, [], _∷_}
 use lib.IntN.{pos}
 use lib.Ieee.{Float, nan, inf, fin}
-use lib.Ieee.Scale as Scale
+use Rattle.doubles.specs.Doubles.{finite}
 
 abbrev pub zero : Float
 zero = fin false 0 (pos 0)
@@ -20,10 +20,6 @@ unfoldable pub absolute : Float → Float
 absolute nan = nan
 absolute (inf s) = inf false
 absolute (fin s m e) = fin false m e
-
--- `f64::is_finite`
-abbrev pub finite : Float → Bool
-finite x = Scale.finite x
 
 -- No member is an infinity or a NaN.
 unfoldable pub allFinite : List Float → Bool

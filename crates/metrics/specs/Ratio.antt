@@ -2,21 +2,17 @@
 use mathlib.Core.Bool.{Bool, cond, _&&_}
 use Prim.Native.Nat.{ℕ}
 use lib.Dec.{ltb}
-use lib.IntN.{pos}
-use lib.Ieee.{Float, binary64, sub, div, lt, ne, ofInt}
-use Rattle.metrics.specs.Double.{zero, one, infinity, absolute, finite}
-
--- `n as f64`
-abbrev pub asDouble : ℕ → Float
-asDouble n = ofInt binary64 (pos n)
+use lib.Ieee.{Float, binary64, sub, div, lt, ne}
+use Rattle.doubles.specs.Doubles.{finite, ofU64}
+use Rattle.metrics.specs.Double.{zero, one, infinity, absolute}
 
 -- "Win rate": `winning_periods as f64 / n as f64`
 unfoldable pub winRate : ℕ → ℕ → Float
-winRate winning periods = div binary64 (asDouble winning) (asDouble periods)
+winRate winning periods = div binary64 (ofU64 winning) (ofU64 periods)
 
 -- `if count > 0 { sum / count as f64 } else { 0.0 }`
 unfoldable pub mean : Float → ℕ → Float
-mean sum count = cond (ltb 0 count) (div binary64 sum (asDouble count)) zero
+mean sum count = cond (ltb 0 count) (div binary64 sum (ofU64 count)) zero
 
 -- `if loss != 0.0 { gain / loss.abs() } else if gain > 0.0 { f64::INFINITY } else { 0.0 }`
 unfoldable pub gainOverLoss : Float → Float → Float

@@ -5,18 +5,12 @@ mod series;
 mod tally;
 
 ghost use mathlib.Core.Path.{_≡_};
-ghost use Rattle.metrics.specs.Answers.{numberOf, onPaper, answerTo};
-ghost use Rattle.metrics.specs.Figures.{noFigures};
+ghost use Rattle.metrics.specs.Answers.{metricsOf, refusal};
 ghost use Rattle.metrics.specs.Gathered.{figuresFrom};
+use answer::Answer;
 
 // At most 4,096 returns in one set of figures.
 const MOST_RETURNS: usize = 4096;
-
-pub enum Answer {
-    Done,
-    TooLong,
-    BadSeries,
-}
 
 pub struct Figures {
     // Total cumulative return (e.g., 0.15 = 15%)
@@ -44,20 +38,9 @@ pub struct Metrics {
     pub figures: Figures,
 }
 
-// The answer's number in document 01.
-pub fn number(answer: Answer) -> u64
-    ensures { λ r. ⌜ r ≡ numberOf answer ⌝ }
-{
-    match answer {
-        Answer::Done => 0,
-        Answer::TooLong => 6,
-        Answer::BadSeries => 12,
-    }
-}
-
 // "Each refusal returns its number with zero figures".
 fn refused(answer: Answer) -> Metrics
-    ensures { λ r. ⌜ r ≡ record { answer = answer; figures = noFigures } ⌝ }
+    ensures { λ r. ⌜ r ≡ refusal answer ⌝ }
 {
     let figures = Figures {
         total_return: 0.0,
@@ -98,7 +81,7 @@ fn figures_of(num_periods: u64, curve: curve::Curve, tally: tally::Tally) -> Fig
 
 // Compute performance metrics from a series of periodic returns.
 pub fn compute_metrics(returns: &[f64]) -> Metrics
-    ensures { λ r. ⌜ onPaper r ≡ answerTo (now (returns .entry)) ⌝ }
+    ensures { λ r. ⌜ r ≡ metricsOf (now (returns .entry)) ⌝ }
 {
     if returns.len() > MOST_RETURNS {
         return refused(Answer::TooLong);

@@ -2,24 +2,16 @@
 ghost use mathlib.Core.Path.{_≡_};
 ghost use mathlib.Core.Bool.{true};
 ghost use lib.Ieee.{ne};
-ghost use Rattle.metrics.specs.Double.{zero, infinity, absolute, finite};
+ghost use Rattle.metrics.specs.Double.{zero, infinity, absolute};
 ghost use Rattle.metrics.specs.Ratio.{winRate, mean, gainOverLoss, kellyOf};
+use doubles::is_finite;
+use doubles::u64_to_f64;
 
 // No constant may hold an infinity.
 fn infinity() -> f64
     ensures { λ r. ⌜ r ≡ infinity ⌝ }
 {
     f64::from_bits(0x7ff0_0000_0000_0000)
-}
-
-pub(crate) fn is_finite(x: f64) -> bool
-    ensures { λ r. ⌜ r ≡ finite x ⌝ }
-{
-    let top = infinity();
-    if x < top {
-        return x > -top;
-    }
-    false
 }
 
 // The absolute value, where that is not zero.
@@ -33,7 +25,7 @@ fn absolute(x: f64) -> f64
 pub(crate) fn win_rate(winning_periods: u64, num_periods: u64) -> f64
     ensures { λ r. ⌜ r ≡ winRate «winning_periods» «num_periods» ⌝ }
 {
-    std::num::nearest_u64_to_f64(winning_periods) / std::num::nearest_u64_to_f64(num_periods)
+    u64_to_f64(winning_periods) / u64_to_f64(num_periods)
 }
 
 // The mean of `count` returns that come to `sum`, and 0 of none.
@@ -41,7 +33,7 @@ pub(crate) fn mean(sum: f64, count: u64) -> f64
     ensures { λ r. ⌜ r ≡ mean sum count ⌝ }
 {
     if count > 0 {
-        sum / std::num::nearest_u64_to_f64(count)
+        sum / u64_to_f64(count)
     } else {
         0.0
     }

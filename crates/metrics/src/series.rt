@@ -4,8 +4,8 @@ ghost use Prim.Native.Nat.{_≤_};
 ghost use lib.ListN.{length};
 ghost use Rattle.metrics.specs.Gathered.{gathered};
 use crate::curve::Curve;
-use crate::ratio::is_finite;
 use crate::tally::Tally;
+use doubles::is_finite;
 
 // What the returns so far have come to, and whether all of them are finite.
 pub(crate) struct Gathered {

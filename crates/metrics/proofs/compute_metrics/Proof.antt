@@ -5,7 +5,7 @@ use native.Mathlib.Omega.{arith}
 use Prim.Native.Nat.{_<_}
 use lib.ListN.{length}
 use borrow.Author.Tests.{lt-ltb, le-ltb, not-true, not-false}
-use Rattle.metrics.specs.Answers.{answerTo}
+use Rattle.metrics.specs.Answers.{metricsOf}
 use Rattle.metrics.specs.Gathered.{gathered}
 use Rattle.metrics.proofs.OnePass.{figures-are}
 use Rattle.metrics.proofs.compute_metrics.Statement.{statement}
@@ -15,14 +15,14 @@ refused-requires : tie.Need-refused-requires
 refused-requires c κs = search needs
 
 returns : tie.Need-returns
-unfolding answerTo
+unfolding metricsOf
 returns c = simp (c .refused .ensures, lt-ltb _ _ (c .before .if1 .taken))
 
 refused-requires-2 : tie.Need-refused-requires-2
 refused-requires-2 c κs = search needs
 
 returns-2 : tie.Need-returns-2
-unfolding answerTo
+unfolding metricsOf
 returns-2 c = simp (c .refused2 .ensures, c .before .if2 .taken)
 
 gather-requires : tie.Need-gather-requires
@@ -32,7 +32,7 @@ refused-requires-3 : tie.Need-refused-requires-3
 refused-requires-3 c κs = search needs
 
 returns-3 : tie.Need-returns-3
-unfolding answerTo gathered
+unfolding metricsOf gathered
 returns-3 c =
     let g = c .before .before .before in
     let some : 0 < length (g .before .before .before .before .args .returns .now) = omega (arith, g .before .if2 .left) in
@@ -47,7 +47,7 @@ figures-of-requires : tie.Need-figures-of-requires
 figures-of-requires c κs = search needs
 
 returns-4 : tie.Need-returns-4
-unfolding answerTo gathered
+unfolding metricsOf gathered
 returns-4 c =
     let e = c .before .before .before in
     let g = e .before .before in

@@ -6,16 +6,16 @@ use Rattle.metrics.specs.Ratio.{mean}
 use Rattle.metrics.proofs.ratio.mean.Statement.{statement}
 use Rattle.metrics.proofs.ratio.mean.Tie as tie
 
-nearest-u64-to-f64-requires : tie.Need-nearest-u64-to-f64-requires
-nearest-u64-to-f64-requires c κs = search needs
+u64-to-f64-requires : tie.Need-u64-to-f64-requires
+u64-to-f64-requires c κs = search needs
 
 returns : tie.Need-returns
 unfolding mean
-returns c = simp (lt-ltb _ _ (c .before .if1 .taken), c .nearest-u64-to-f64 .ensures)
+returns c = simp (lt-ltb _ _ (c .before .if1 .taken), c .u64-to-f64 .ensures)
 
 returns-2 : tie.Need-returns-2
 unfolding mean ofBits
 returns-2 c = simp (le-ltb _ _ (c .if1 .left))
 
 pub mean-spec : {M : Type 1} → statement M
-mean-spec = tie.close (tie.spec nearest-u64-to-f64-requires returns returns-2)
+mean-spec = tie.close (tie.spec u64-to-f64-requires returns returns-2)
