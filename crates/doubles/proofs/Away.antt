@@ -75,7 +75,7 @@ module _ (b e : ℕ) (p : e ≡ exponentOf b) where
     nearest-shift = (λ i. (q i + half-unit i) / 2 ^ (1075 - e)) ∙ near-shift e (fractionOf b) h k ∙ near-is
 
 -- ---- a double of that size
-spread : (n d c : ℕ) → (2 * n + d) * (2 * c) ≡ 4 * (n * c) + 2 * (d * c)
+pub spread : (n d c : ℕ) → (2 * n + d) * (2 * c) ≡ 4 * (n * c) + 2 * (d * c)
 spread n d c =
     let a : (2 * n + d) * (2 * c) ≡ 2 * ((2 * n + d) * c) = mul-left-comm (2 * n + d) 2 c in
     let b : (2 * n + d) * c ≡ 2 * (n * c) + d * c = add-mul (2 * n) d c ∙ ap (λ (x : ℕ). x + d * c) (mul-assoc 2 n c) in
@@ -84,7 +84,7 @@ spread n d c =
 pub near-same : (n d a l : ℕ) → 0 < d → 0 < l → n * l ≡ a * d → (2 * n + d) / (2 * d) ≡ (2 * a + l) / (2 * l)
 near-same n d a l D L h = div-same (2 * n + d) (2 * d) (2 * a + l) (2 * l) (omega arith) (omega arith) (omega (arith, spread n d l, spread a l d, mul-comm d l))
 
-near-whole : (n : ℕ) → (2 * n + 1) / (2 * 1) ≡ n
+pub near-whole : (n : ℕ) → (2 * n + 1) / (2 * 1) ≡ n
 near-whole n = mul-add-div (pow-pos 1) n 1 ∙ add-zero n
 
 -- what `fits` says of the digits
