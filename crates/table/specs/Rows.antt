@@ -59,13 +59,15 @@ isZero (pos zero) = true
 isZero (pos (suc n)) = false
 isZero (negsuc n) = false
 
+abbrev pub all : {A : Type 0} → (A → Bool) → List A → Bool
+all f [] = true
+all f (x ∷ l) = both (f x) (all f l)
+
 abbrev pub zeros : List ℕ → Bool
-zeros [] = true
-zeros (x ∷ l) = both (eqb x 0) (zeros l)
+zeros l = all (λ x. eqb x 0) l
 
 abbrev pub zerosZ : List ℤ → Bool
-zerosZ [] = true
-zerosZ (x ∷ l) = both (isZero x) (zerosZ l)
+zerosZ l = all isZero l
 
 unfoldable pub unused : ℕ → Cols → Bool
 unused n c =
