@@ -2,13 +2,16 @@
 use Prim.Native.Nat.{ℕ, zero, suc, _+_, _-_, _≤_, _<_}
 use mathlib.Core.Path.{_≡_, refl, sym, ap, _∙_}
 use mathlib.Core.List.{List, [], _∷_}
-use mathlib.Core.Bool.{Bool, true, false}
+use mathlib.Core.Bool.{Bool, true, false, _&&_}
 use native.Mathlib.Omega.{arith}
 use lib.Dec.{eqb, leb}
 use lib.IntN.{ℤ, pos, negsuc}
-use lib.ListN.{length, take, drop, getD, replicate, length-drop, length-replicate, getD-replicate}
-use lib.Seq.{ext-getD, getD-drop}
-use borrow.Author.Tests.{eqb-true, leb-true, le-leb}
+use lib.ListN.{length, take, drop, getD, replicate, length-drop, length-replicate, getD-replicate, drop-of-length-le}
+use lib.Seq.{ext-getD, getD-drop, drop-cons}
+use native.Mathlib.Numerals.{add-one}
+use mir.Syntax.{w64}
+use mir.Val.{SFits, ofZ}
+use borrow.Author.Tests.{eqb-true, leb-true, le-leb, ne-eqb}
 use Rattle.position.specs.Rows.{row, fresh, keyOf}
 use Rattle.position.specs.declared.position.Position.{Position}
 use Rattle.table.specs.Keyed.{both, ascending}
@@ -26,6 +29,27 @@ module _ {A : Type 0} (f : A → Bool) (z : A) where
   pub at-all : (l : List A) → ((i : ℕ) → i < length l → f (getD l i z) ≡ true) → all f l ≡ true
   at-all [] e = refl
   at-all (x ∷ l) e = simp (e 0 (omega arith), at-all l (λ i h. e (suc i) (omega arith)))
+
+-- one step of a walk that keeps the outcome so far
+pub all-on : {A : Type 0} (f : A → Bool) (z : A) (b : Bool) (l : List A) (i : ℕ) → i < length l → both (b && f (getD l i z)) (all f (drop (i + 1) l)) ≡ both b (all f (drop i l))
+all-on f z b l i h = go b ∙ ap (λ t. both b (all f t)) (ap (λ k. getD l i z ∷ drop k l) (add-one i) ∙ sym (drop-cons l i z h))
+  where
+    go : (b : Bool) → both (b && f (getD l i z)) (all f (drop (i + 1) l)) ≡ both b (both (f (getD l i z)) (all f (drop (i + 1) l)))
+    go true = refl
+    go false = refl
+
+pub all-end : {A : Type 0} (f : A → Bool) (b : Bool) (l : List A) (i : ℕ) → length l ≤ i → b ≡ both b (all f (drop i l))
+all-end f b l i h = go b ∙ ap (λ t. both b (all f t)) (sym (drop-of-length-le l h))
+  where
+    go : (b : Bool) → b ≡ both b true
+    go true = refl
+    go false = refl
+
+-- a signed number is zero where its bits are
+pub zero-bits : (x : ℤ) → SFits w64 x → eqb (ofZ w64 x) 0 ≡ isZero x
+zero-bits (pos zero) f = refl
+zero-bits (pos (suc n)) f = ne-eqb (suc n) 0 (λ e. omega (arith, e))
+zero-bits (negsuc n) f = ne-eqb (ofZ w64 (negsuc n)) 0 (λ e. omega (arith, e, f .sfits))
 
 pub is-zero : (x : ℤ) → isZero x ≡ true → x ≡ pos 0
 is-zero (pos zero) e = refl
