@@ -1,2 +1,3 @@
 -- What a position is and what a fill does to it.
 pub mod Rows
+pub mod Symbols

@@ -1,0 +1,2 @@
+-- Laws of symbols, shares and positions.
+pub mod Symbols
