@@ -1,2 +1,3 @@
 -- Laws of symbols, shares and positions.
+pub mod Counts
 pub mod Symbols
