@@ -2,3 +2,4 @@
 pub mod Rows
 pub mod Shares
 pub mod Symbols
+pub mod Fills
