@@ -43,7 +43,8 @@ impl Shares {
     pub fn raw(self) -> i64
         ensures { λ r. ⌜ r ≡ self .0 ⌝ }
     {
-        self.0
+        let raw = self.0;
+        raw
     }
 
     // The quantity as a fractional share count.
