@@ -4,3 +4,5 @@ pub mod Whole
 pub mod Even
 pub mod Signs
 pub mod Away
+pub mod Order
+pub mod Laws

@@ -13,11 +13,11 @@ fn exponent(bits: u64) -> u64
     (bits >> 52) & 0x7ff
 }
 
-// The low 52 bits: the digits below the leading one.
-fn fraction(bits: u64) -> u64
-    ensures { λ r. ⌜ r ≡ fractionOf bits ⌝ }
+// The fraction's 52 bits with the leading digit above them, which an exponent field above 0 implies.
+fn significand(bits: u64) -> u64
+    ensures { λ r. ⌜ r ≡ 2 ^ 52 + fractionOf bits ⌝ }
 {
-    bits & 0xf_ffff_ffff_ffff
+    (bits & 0xf_ffff_ffff_ffff) | 0x10_0000_0000_0000
 }
 
 pub fn is_finite(x: f64) -> bool
@@ -40,7 +40,7 @@ fn whole_part(bits: u64) -> u64
     if e >= 1086 {
         return 0x8000_0000_0000_0000;
     }
-    let digits = fraction(bits) | 0x10_0000_0000_0000;
+    let digits = significand(bits);
     if e < 1075 {
         return digits >> (1075 - e);
     }
@@ -120,7 +120,7 @@ fn nearest_whole(bits: u64) -> u64
     if e < 1022 {
         return 0;
     }
-    let digits = fraction(bits) | 0x10_0000_0000_0000;
+    let digits = significand(bits);
     let half = 1u64 << (1074 - e);
     (digits + half) >> (1075 - e)
 }
