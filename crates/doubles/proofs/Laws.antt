@@ -202,15 +202,15 @@ top-is : ofU64 (2 ^ 64) ≡ fin false 1 (pos 64)
 unfolding ofInt round
 top-is = refl
 
-finite-under : (x : Float) → T (clear x) → T (le x (fin false 1 (pos 64))) → T (finite x)
+pub finite-below : (x : Float) (t : Bool) (n : ℕ) (d : ℤ) → T (clear x) → T (le x (fin t n d)) → T (finite x)
 unfolding le
-finite-under nan p h = h
-finite-under (inf true) p h = p
-finite-under (inf false) p h = h
-finite-under (fin s m e) p h = tt
+finite-below nan t n d p h = h
+finite-below (inf true) t n d p h = p
+finite-below (inf false) t n d p h = h
+finite-below (fin s m e) t n d p h = tt
 
 pub ofU64-finite : (n : ℕ) → n < 2 ^ 64 → T (finite (ofU64 n))
-ofU64-finite n h = finite-under (ofU64 n) (ofU64-clear n) (subst (λ (y : Float). T (le (ofU64 n) y)) top-is (ofU64-mono n (2 ^ 64) (le-of-lt h)))
+ofU64-finite n h = finite-below (ofU64 n) false 1 (pos 64) (ofU64-clear n) (subst (λ (y : Float). T (le (ofU64 n) y)) top-is (ofU64-mono n (2 ^ 64) (le-of-lt h)))
 
 neg-finite : (x : Float) → T (finite x) → T (finite (neg x))
 unfolding neg
