@@ -1,19 +1,19 @@
 -- What commissions and effective prices need of the whole chain: product, quotient, rounding and cast, through overflow and subnormals. Assumes nothing.
 use mathlib.Core.Path.{_≡_, refl, sym, ap, _∙_, subst}
-use mathlib.Core.Bool.{Bool, true, false, not, _&&_, _||_, cond}
-use Prim.Native.Nat.{ℕ, zero, suc, _+_, _-_, _*_, _/_, _^_, _≤_, _<_}
-use native.Mathlib.Nat.{le-refl, le-of-eq, le-trans, lt-of-lt-of-le, lt-irrefl, mul-one, one-mul, mul-assoc, mul-comm, mul-left-comm, mul-le-mul-left, mul-le-mul-right, mul-pos, zero-mul, mul-zero}
+use mathlib.Core.Bool.{Bool, true, false, cond}
+use Prim.Native.Nat.{ℕ, zero, suc, _+_, _-_, _*_, _^_, _≤_, _<_}
+use native.Mathlib.Nat.{le-of-eq, le-trans, lt-of-lt-of-le, lt-irrefl, mul-one, one-mul, mul-assoc, mul-comm, mul-left-comm, mul-le-mul-left, mul-le-mul-right, mul-pos, zero-mul, mul-zero}
 use native.Mathlib.Omega.{arith}
 use lib.Dec.{T, ltb, eqb, ltb→lt, eqb·suc-zero}
 use lib.Pow.{pow-pos}
-use lib.IntN.{ℤ, pos, negsuc}
+use lib.IntN.{ℤ, pos}
 use lib.Signed.{leZ}
 use lib.Ieee.{Float, nan, inf, fin, binary64, up, down, round, sum, add, mul, div, neg, le, ofInt, toSigned, fits}
 use lib.Ieee.Fits.{up-pos, down-pos, mul-fits, div-fits}
 use lib.Ieee.Order.{round-mono}
 use lib.Ieee.Scale.{round-same}
 use Rattle.doubles.specs.Doubles.{finite, toI64, ofI64, ofU64, roundAway}
-use Rattle.doubles.proofs.Order.{SignedLe, le-fin→, clear, round-clear, zero-le-clear, no-product}
+use Rattle.doubles.proofs.Order.{le-fin→, clear, round-clear, zero-le-clear, no-product}
 use Rattle.doubles.proofs.Signs.{round-neg}
 use Rattle.doubles.proofs.Laws.{toI64-mono, roundAway-mono, ofU64-mono, ofU64-clear, ofU64-finite, finite-below}
 
