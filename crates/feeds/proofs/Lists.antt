@@ -72,9 +72,9 @@ module _ (l : List ℕ) (i : ℕ) (g : 1 ≤ i) where
   ascends-end h = one (drop (i - 1) l) (omega (arith, length-drop (i - 1) l))
 
 -- ---- a symbol twice
-over-down : (a b : ℕ) (l : List ℕ) → a < b → Over b l → Over a l
-over-down a b [] h o = o
-over-down a b (x ∷ l) h o = omega arith
+pub below-first : (a b : ℕ) (l : List ℕ) → a < b → Over b l → Over a l
+below-first a b [] h o = o
+below-first a b (x ∷ l) h o = omega arith
 
 -- what is below the first of a list that ascends is not in it
 pub below-not-among : (s : ℕ) (l : List ℕ) → Over s l → Rising l → among s l ≡ false
@@ -82,7 +82,7 @@ unfolding among
 below-not-among s [] o r = refl
 below-not-among s (x ∷ l) o r =
     let n : (x ≡ s → ⊥) = λ e. omega arith in
-    simp (ne-eqb x s n) (below-not-among s l (over-down s x l o (r .0)) (r .1))
+    simp (ne-eqb x s n) (below-not-among s l (below-first s x l o (r .0)) (r .1))
 
 rising-distinct : (l : List ℕ) → Rising l → distinct l ≡ true
 unfolding distinct
