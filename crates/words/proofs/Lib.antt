@@ -1,0 +1,3 @@
+-- Laws of the sums on words.
+pub mod Ints
+pub mod Room
