@@ -1,3 +1,4 @@
 -- Laws of the sums on words.
 pub mod Ints
 pub mod Room
+pub mod TwoWords
