@@ -5,11 +5,12 @@ use Prim.Native.Nat.{ℕ, zero, suc, _+_, _-_, _*_, _/_, _%_, _^_, _≤_, _<_, m
 use native.Mathlib.Nat.{mul-one, add-mul, le-of-eq, le-trans}
 use native.Mathlib.Omega.{arith}
 use lib.Bits.{bitAnd, bitOr, and-mask, or-shifted-r}
-use lib.Dec.{T, leb, eqb, eqb→eq}
+use lib.Dec.{T, leb, eqb, eqb→eq, leb→le, le→leb}
 use lib.Pow.{field}
 use lib.Ieee.{Float, nan, inf, fin, binary64, odd, ne, isNan, fits, ofFields, ofBits, toBits}
-use lib.Ieee.Bits.{ofBits-toBits}
+use lib.Ieee.Bits.{ofBits-toBits, toBits-lt}
 use lib.Ieee.Compare.{differs-from-itself, nan-differs}
+use lib.Ieee.Fits.{eq→eqb}
 use lib.Ieee.Exact.{HasValue, odd-sign}
 use lib.Ieee.Scale.{finite}
 use Rattle.doubles.specs.Fields.{exponentOf, fractionOf, unitsOf}
@@ -40,6 +41,17 @@ fraction-mask b = and-mask b 52
 
 pub leading-digit : (t : ℕ) → t < 2 ^ 52 → bitOr t 0x10_0000_0000_0000 ≡ 2 ^ 52 + t
 leading-digit t h = or-shifted-r 1 52 t h
+
+same-test : {a b : Bool} → (T a → T b) → (T b → T a) → a ≡ b
+same-test {a = true} {b = true} f g = refl
+same-test {a = true} {b = false} f g = absurd (f tt)
+same-test {a = false} {b = true} f g = absurd (g tt)
+same-test {a = false} {b = false} f g = refl
+
+pub sign-bit : (b : ℕ) → b < 2 ^ 64 → eqb (b / 2 ^ 63) 1 ≡ leb (2 ^ 63) b
+sign-bit b h =
+    same-test (λ t. let e = eqb→eq (b / 2 ^ 63) 1 t in le→leb (2 ^ 63) b (omega arith))
+    (λ t. let l = leb→le (2 ^ 63) b t in eq→eqb {a = b / 2 ^ 63} {b = 1} (omega arith))
 
 -- ---- the double that the fields stand for
 odd-finite : (d : ℕ) (s : Bool) (q k l : ℕ) → finite (odd d s q k l) ≡ true
@@ -98,6 +110,9 @@ module _ (x : Float) (h : T (fits binary64 x)) where
   -- reading the pattern that was written for x gives x
   fields-are : ofFields binary64 (leb (2 ^ 63) (toBits binary64 x)) (exponentOf (toBits binary64 x)) (fractionOf (toBits binary64 x)) ≡ x
   fields-are = unfold ofBits in ofBits-toBits binary64 x h
+
+  pub sign-of-bits : eqb (toBits binary64 x / 2 ^ 63) 1 ≡ leb (2 ^ 63) (toBits binary64 x)
+  sign-of-bits = sign-bit (toBits binary64 x) (toBits-lt binary64 x h)
 
   pub finite-exponent : finite x ≡ not (eqb (exponentOf (toBits binary64 x)) 2047)
   finite-exponent = ap finite (sym fields-are) ∙ finite-fields (leb (2 ^ 63) (toBits binary64 x)) (exponentOf (toBits binary64 x)) (fractionOf (toBits binary64 x))
