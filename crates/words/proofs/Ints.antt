@@ -1,6 +1,6 @@
 -- Signed sums for `omega`: a whole number z is its part above zero, `P z`, and its part below, `N z`; each operation, test and bound is linear in those.
 use Prim.Native.Nat.{ℕ, zero, suc, _+_, _-_, _≤_, _<_, _^_, min}
-use mathlib.Core.Path.{_≡_, refl, ap}
+use mathlib.Core.Path.{_≡_, refl, sym, ap, _∙_, subst}
 use mathlib.Core.Bool.{Bool, true, false, cond}
 use mathlib.Core.Logic.{_⊎_, inl, inr}
 use native.Mathlib.Omega.{arith}
@@ -9,8 +9,9 @@ use lib.Signed.{ltZ, leZ}
 use lib.Dec.{ltb, leb}
 use borrow.Author.Tests.{ltb-true, ltb-false, leb-true, leb-false}
 use mir.Syntax.{w64}
-use mir.Val.{SFits}
-use Rattle.words.specs.Sums.{clamp64}
+use mir.Val.{SFits, toZ, ofZ}
+use mir.Facts.{toZ-ofZ}
+use Rattle.words.specs.Sums.{clamp64, signed}
 
 unfoldable pub P : ℤ → ℕ
 P (pos n) = n
@@ -78,6 +79,18 @@ N-neg (negsuc n) = refl
 
 pub P-sub : (a b : ℤ) → P (a -ℤ b) + (N a + P b) ≡ N (a -ℤ b) + (P a + N b)
 P-sub a b = omega (arith, P-add a (negℤ b), P-neg b, N-neg b)
+
+pub P-signed : (n : ℕ) → P (signed true n) ≡ 0
+unfolding P signed
+P-signed n = P-neg (pos n) ∙ N-pos n
+
+pub N-signed : (n : ℕ) → N (signed true n) ≡ n
+unfolding N signed
+N-signed n = N-neg (pos n) ∙ P-pos n
+
+pub signed-pos : (n : ℕ) → signed false n ≡ pos n
+unfolding signed
+signed-pos n = refl
 
 -- ---- tests
 pub lt-yes : (a b : ℤ) → ltZ a b ≡ true → P a + N b < P b + N a
@@ -177,13 +190,17 @@ clamp-fits z = fits-of (clamp64 z) (omega (arith, P-clamp z)) (omega (arith, N-c
 pub clamp-same : (z : ℤ) → SFits w64 z → clamp64 z ≡ z
 clamp-same z h = eq-of (clamp64 z) z (omega (arith, P-clamp z, N-clamp z, P-fits z h, N-fits z h))
 
--- past either end
+-- the bits of what was clamped, read back
+pub clamp-back : (r z : ℤ) → r ≡ clamp64 z → toZ w64 (ofZ w64 r) ≡ clamp64 z
+clamp-back r z e = toZ-ofZ (subst (SFits w64) (sym e) (clamp-fits z)) ∙ e
+
+-- at or past either end
 pub clamp-top : (z : ℤ) → 2 ^ 63 + N z ≤ P z → clamp64 z ≡ pos 9223372036854775807
 unfolding P N clamp64
 clamp-top (pos n) h = ap pos (omega arith)
 clamp-top (negsuc n) h = absurd (omega arith)
 
-pub clamp-low : (z : ℤ) → 2 ^ 63 + P z < N z → clamp64 z ≡ negsuc 9223372036854775807
+pub clamp-low : (z : ℤ) → 2 ^ 63 + P z ≤ N z → clamp64 z ≡ negsuc 9223372036854775807
 unfolding P N clamp64
 clamp-low (pos n) h = absurd (omega arith)
 clamp-low (negsuc n) h = ap negsuc (omega arith)

@@ -2,3 +2,5 @@
 pub mod Ints
 pub mod Room
 pub mod TwoWords
+pub mod Division
+pub mod Signs

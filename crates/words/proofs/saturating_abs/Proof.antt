@@ -10,7 +10,7 @@ use mir.Val.{SFits, toZ, ofZ}
 use mir.Facts.{toZ-ofZ}
 use borrow.Author.Tests.{ltb-true}
 use Rattle.words.specs.Sums.{clamp64, satNeg, satAbs}
-use Rattle.words.proofs.Ints.{clamp-fits, clamp-same}
+use Rattle.words.proofs.Ints.{clamp-back, clamp-same}
 use Rattle.words.proofs.saturating_abs.Statement.{statement}
 use Rattle.words.proofs.saturating_abs.Tie as tie
 
@@ -32,7 +32,7 @@ returns c =
     let r : toZ w64 (ofZ w64 (s .args .a)) ≡ s .args .a = toZ-ofZ (s .fits .a) in
     let e : c .saturating-neg .result ≡ clamp64 (negℤ (s .args .a)) = c .saturating-neg .ensures ∙ simp r in
     let b = below (s .args .a) (rw r at (c .before .if1 .taken)) in
-    toZ-ofZ (rw e (clamp-fits (negℤ (s .args .a)))) ∙ e ∙ ap clamp64 b
+    clamp-back _ _ e ∙ ap clamp64 b
 
 returns-2 : tie.Need-returns-2
 unfolding satAbs
