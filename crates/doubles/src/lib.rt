@@ -2,6 +2,7 @@
 ghost use mathlib.Core.Path.{_≡_};
 ghost use mathlib.Core.Bool.{Bool};
 ghost use Prim.Native.Nat.{_%_, _/_, _^_, _<_, _≤_, _+_, _*_, _-_};
+ghost use lib.Ieee.Nearest.{closest};
 ghost use Rattle.doubles.specs.Fields.{exponentOf, fractionOf, wholeOf, signedOf};
 ghost use Rattle.doubles.specs.Doubles.{finite, toI64, ofI64, ofU64, roundAway};
 
@@ -70,4 +71,42 @@ pub fn to_i64(x: f64) -> i64
     }
     let bits = f64::to_bits(x);
     signed(bits >> 63 == 1, whole_part(bits))
+}
+
+// n over 2^k, to the nearest whole number, a tie to the even one.
+fn shifted_to_even(n: u64, k: u32) -> u64
+    requires { ⌜ (0 < k) × (k < 64) ⌝ }
+    ensures { λ r. ⌜ r ≡ closest n (2 ^ k) ⌝ }
+{
+    let kept = n >> k;
+    let rest = n & ((1u64 << k) - 1);
+    let half = 1u64 << (k - 1);
+    if rest < half {
+        return kept;
+    }
+    if rest > half {
+        return kept + 1;
+    }
+    kept + (kept & 1)
+}
+
+pub fn u64_to_f64(n: u64) -> f64
+    ensures { λ r. ⌜ r ≡ ofU64 n ⌝ }
+{
+    if n < 0x20_0000_0000_0000 {
+        return n as f64;
+    }
+    let k = 11 - u64::leading_zeros(n);
+    // The leading digit adds one to the exponent's field, and a carry out of the fraction another.
+    f64::from_bits(((k as u64 + 1074) << 52) + shifted_to_even(n, k))
+}
+
+pub fn i64_to_f64(n: i64) -> f64
+    ensures { λ r. ⌜ r ≡ ofI64 n ⌝ }
+{
+    if n >= 0 {
+        return u64_to_f64(n as u64);
+    }
+    // The complement, one less than the size, is an i64 even at i64::MIN.
+    -u64_to_f64((!n) as u64 + 1)
 }
