@@ -3,6 +3,7 @@ ghost use mathlib.Core.Path.{_≡_};
 ghost use Rattle.position.specs.Rows.{fresh};
 use crate::shares::Shares;
 use crate::symbol::Symbol;
+use answer::Answer;
 
 // Quantity (positive = long, negative = short), average entry price and realized profit; money in cents.
 pub struct Position {
@@ -12,6 +13,12 @@ pub struct Position {
     pub realized_pnl: i64,
     // Cumulative cost of entry, from which the average is worked out.
     pub total_cost: i64,
+}
+
+// What a fill by itself answers, and the position after it.
+pub struct Filled {
+    pub answer: Answer,
+    pub position: Position,
 }
 
 impl Position {

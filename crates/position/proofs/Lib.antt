@@ -1,0 +1,3 @@
+-- Laws of symbols, shares and positions.
+pub mod Counts
+pub mod Symbols
