@@ -8,7 +8,7 @@ use native.Mathlib.Nat.{eq-or-lt-of-le}
 use Rattle.sizing.specs.Afford.{largest}
 
 -- never passes again once it has failed
-pub Falls : (ℕ → Bool) → Type 0
+abbrev pub Falls : (ℕ → Bool) → Type 0
 Falls fits = (k m : ℕ) → k ≤ m → fits m ≡ true → fits k ≡ true
 
 true-or-false : (t : Bool) → (t ≡ true) ⊎ (t ≡ false)
@@ -58,7 +58,6 @@ module _ (fits : ℕ → Bool) where
       (true-or-false (fits (suc n)))
 
   pub largest-below-failing : Falls fits → (n k : ℕ) → suc k ≤ n → fits (suc k) ≡ false → largest fits n ≡ largest fits k
-  unfolding Falls
   largest-below-failing falls zero k h p = absurd (omega arith)
   largest-below-failing falls (suc n) k h p =
       ⊎-elim
@@ -70,3 +69,12 @@ module _ (fits : ℕ → Bool) where
       (λ l. largest-below-failing falls n k (omega arith) p)
       (eq-or-lt-of-le h))
       (true-or-false (fits (suc n)))
+
+  pub end-moves : Falls fits → (n m : ℕ) → 0 < m → m ≤ n → fits m ≡ false → largest fits (m - 1) ≡ largest fits n
+  end-moves falls n zero some h p = absurd (omega arith)
+  end-moves falls n (suc k) some h p =
+      let e : suc k - 1 ≡ k = omega arith in
+      ap (largest fits) e ∙ sym (largest-below-failing falls n k h p)
+
+  pub largest-at : (n : ℕ) → (n ≡ 0) ⊎ (fits n ≡ true) → largest fits n ≡ n
+  largest-at n = ⊎-elim (λ e. rw e largest-none) (largest-passing n)
