@@ -11,7 +11,7 @@ use borrow.Author.Tests.{ltb-true, ltb-false, leb-true, leb-false}
 use mir.Syntax.{w64}
 use mir.Val.{SFits, toZ, ofZ}
 use mir.Facts.{toZ-ofZ}
-use Rattle.words.specs.Sums.{clamp64, signed}
+use Rattle.words.specs.Sums.{clamp64, satAdd, satSub, satNeg, satAbs, signed}
 
 unfoldable pub P : ℤ → ℕ
 P (pos n) = n
@@ -149,6 +149,40 @@ ge-is a b h = go (ltZ a b) refl
     go true e = absurd (omega (arith, lt-yes a b e))
     go false e = e
 
+-- an order of numbers is an order of both parts
+pub le-parts : (a b : ℤ) → leZ a b ≡ true → (P a ≤ P b) × (N b ≤ N a)
+unfolding P N
+le-parts (pos m) (pos n) e = (leb-true m n e, omega arith)
+le-parts (pos m) (negsuc n) e = let z : _≡_ {A = ℕ} 0 1 = cc in absurd (omega arith)
+le-parts (negsuc m) (pos n) e = (omega arith, omega arith)
+le-parts (negsuc m) (negsuc n) e = (omega arith, omega (arith, leb-true n m e))
+
+pub le-refl : (a : ℤ) → leZ a a ≡ true
+le-refl a = le-is a a (omega arith)
+
+pub le-trans : (a b c : ℤ) → leZ a b ≡ true → leZ b c ≡ true → leZ a c ≡ true
+le-trans a b c h g = le-is a c (omega (arith, le-yes a b h, le-yes b c g))
+
+pub lt-le : (a b : ℤ) → ltZ a b ≡ true → leZ a b ≡ true
+lt-le a b h = le-is a b (omega (arith, lt-yes a b h))
+
+-- no part below zero, none above
+pub N-zero : (z : ℤ) → leZ (pos 0) z ≡ true → N z ≡ 0
+unfolding P N
+N-zero z h = omega (arith, le-parts (pos 0) z h)
+
+pub P-zero : (z : ℤ) → leZ z (pos 0) ≡ true → P z ≡ 0
+unfolding P N
+P-zero z h = omega (arith, le-parts z (pos 0) h)
+
+pub from-zero : (z : ℤ) → N z ≡ 0 → leZ (pos 0) z ≡ true
+unfolding P N
+from-zero z h = le-is (pos 0) z (omega arith)
+
+pub to-zero : (z : ℤ) → P z ≡ 0 → leZ z (pos 0) ≡ true
+unfolding P N
+to-zero z h = le-is z (pos 0) (omega arith)
+
 -- ---- bounds
 pub P-fits : (z : ℤ) → SFits w64 z → P z < 2 ^ 63
 unfolding P
@@ -204,3 +238,73 @@ pub clamp-low : (z : ℤ) → 2 ^ 63 + P z ≤ N z → clamp64 z ≡ negsuc 9223
 unfolding P N clamp64
 clamp-low (pos n) h = absurd (omega arith)
 clamp-low (negsuc n) h = ap negsuc (omega arith)
+
+pub clamp-mono : (a b : ℤ) → leZ a b ≡ true → leZ (clamp64 a) (clamp64 b) ≡ true
+clamp-mono a b h = le-is (clamp64 a) (clamp64 b) (omega (arith, le-parts a b h, P-clamp a, P-clamp b, N-clamp a, N-clamp b))
+
+-- ---- saturating sums: a number of an i64; the exact sum where that is one; ordered as their parts are
+pub satAdd-fits : (a b : ℤ) → SFits w64 (satAdd a b)
+unfolding satAdd
+satAdd-fits a b = clamp-fits (a +ℤ b)
+
+pub satSub-fits : (a b : ℤ) → SFits w64 (satSub a b)
+unfolding satSub
+satSub-fits a b = clamp-fits (a -ℤ b)
+
+pub satNeg-fits : (a : ℤ) → SFits w64 (satNeg a)
+unfolding satNeg
+satNeg-fits a = clamp-fits (negℤ a)
+
+pub satAbs-fits : (a : ℤ) → SFits w64 (satAbs a)
+unfolding satAbs
+satAbs-fits a = clamp-fits (pos (natAbs a))
+
+pub satAdd-clamp : (a b : ℤ) → satAdd a b ≡ clamp64 (a +ℤ b)
+unfolding satAdd
+satAdd-clamp a b = refl
+
+pub satSub-clamp : (a b : ℤ) → satSub a b ≡ clamp64 (a -ℤ b)
+unfolding satSub
+satSub-clamp a b = refl
+
+pub satAdd-exact : (a b : ℤ) → SFits w64 (a +ℤ b) → satAdd a b ≡ a +ℤ b
+satAdd-exact a b h = satAdd-clamp a b ∙ clamp-same (a +ℤ b) h
+
+pub satSub-exact : (a b : ℤ) → SFits w64 (a -ℤ b) → satSub a b ≡ a -ℤ b
+satSub-exact a b h = satSub-clamp a b ∙ clamp-same (a -ℤ b) h
+
+pub satAdd-mono : (a a' b b' : ℤ) → leZ a a' ≡ true → leZ b b' ≡ true → leZ (satAdd a b) (satAdd a' b') ≡ true
+unfolding satAdd
+satAdd-mono a a' b b' h g =
+    clamp-mono (a +ℤ b) (a' +ℤ b') (le-is (a +ℤ b) (a' +ℤ b') (omega (arith, le-yes a a' h, le-yes b b' g, P-add a b, P-add a' b')))
+
+pub satSub-mono : (a a' b b' : ℤ) → leZ a a' ≡ true → leZ b' b ≡ true → leZ (satSub a b) (satSub a' b') ≡ true
+unfolding satSub
+satSub-mono a a' b b' h g =
+    clamp-mono (a -ℤ b) (a' -ℤ b') (le-is (a -ℤ b) (a' -ℤ b') (omega (arith, le-yes a a' h, le-yes b' b g, P-sub a b, P-sub a' b')))
+
+-- ---- negation and absolute value: their parts
+pub P-satNeg : (a : ℤ) → P (satNeg a) ≡ min (N a) (2 ^ 63 - 1)
+unfolding satNeg
+P-satNeg a = omega (arith, P-clamp (negℤ a), P-neg a)
+
+pub N-satNeg : (a : ℤ) → N (satNeg a) ≡ min (P a) (2 ^ 63)
+unfolding satNeg
+N-satNeg a = omega (arith, N-clamp (negℤ a), N-neg a)
+
+pub satNeg-exact : (a : ℤ) → SFits w64 a → N a < 2 ^ 63 → satNeg a ≡ negℤ a
+satNeg-exact a f h = eq-of (satNeg a) (negℤ a) (omega (arith, P-satNeg a, N-satNeg a, P-neg a, N-neg a, P-fits a f))
+
+pub satNeg-twice : (a : ℤ) → SFits w64 a → N a < 2 ^ 63 → satNeg (satNeg a) ≡ a
+satNeg-twice a f h = eq-of (satNeg (satNeg a)) a (omega (arith, P-satNeg (satNeg a), N-satNeg (satNeg a), P-satNeg a, N-satNeg a, P-fits a f))
+
+pub P-satAbs : (a : ℤ) → P (satAbs a) ≡ min (natAbs a) (2 ^ 63 - 1)
+unfolding satAbs
+P-satAbs a = omega (arith, P-clamp (pos (natAbs a)), P-pos (natAbs a))
+
+pub N-satAbs : (a : ℤ) → N (satAbs a) ≡ 0
+unfolding satAbs
+N-satAbs a = omega (arith, N-clamp (pos (natAbs a)), N-pos (natAbs a))
+
+pub satAbs-same : (a : ℤ) → SFits w64 a → leZ (pos 0) a ≡ true → satAbs a ≡ a
+satAbs-same a f h = eq-of (satAbs a) a (omega (arith, P-satAbs a, N-satAbs a, natAbs-parts a, N-zero a h, P-fits a f))

@@ -4,3 +4,4 @@ pub mod Room
 pub mod TwoWords
 pub mod Division
 pub mod Signs
+pub mod Laws
