@@ -5,10 +5,10 @@ use Prim.Native.Nat.{ℕ, zero, suc, _+_, _-_, _*_, _/_, _%_, _^_, _≤_, _<_, m
 use native.Mathlib.Nat.{mul-one, add-mul, le-of-eq, le-trans}
 use native.Mathlib.Omega.{arith}
 use lib.Bits.{bitAnd, bitOr, and-mask, or-shifted-r}
-use lib.Dec.{T, leb, eqb, eqb→eq, leb→le, le→leb}
+use lib.Dec.{T, leb, eqb, eqb→eq, leb→le, le→leb, not-T}
 use lib.Pow.{field}
 use lib.Ieee.{Float, nan, inf, fin, binary64, odd, ne, isNan, fits, ofFields, ofBits, toBits}
-use lib.Ieee.Bits.{ofBits-toBits, toBits-lt}
+use lib.Ieee.Bits.{ofBits-toBits, toBits-lt, is-true, is-false}
 use lib.Ieee.Compare.{differs-from-itself, nan-differs}
 use lib.Ieee.Fits.{eq→eqb}
 use lib.Ieee.Exact.{HasValue, odd-sign}
@@ -113,6 +113,12 @@ module _ (x : Float) (h : T (fits binary64 x)) where
 
   pub sign-of-bits : eqb (toBits binary64 x / 2 ^ 63) 1 ≡ leb (2 ^ 63) (toBits binary64 x)
   sign-of-bits = sign-bit (toBits binary64 x) (toBits-lt binary64 x h)
+
+  pub sign-set : toBits binary64 x / 2 ^ 63 ≡ 1 → true ≡ leb (2 ^ 63) (toBits binary64 x)
+  sign-set e = sym (is-true (eqb (toBits binary64 x / 2 ^ 63) 1) (eq→eqb e)) ∙ sign-of-bits
+
+  pub sign-clear : (toBits binary64 x / 2 ^ 63 ≡ 1 → ⊥) → false ≡ leb (2 ^ 63) (toBits binary64 x)
+  sign-clear n = sym (is-false (eqb (toBits binary64 x / 2 ^ 63) 1) (not-T (eqb (toBits binary64 x / 2 ^ 63) 1) (λ t. n (eqb→eq (toBits binary64 x / 2 ^ 63) 1 t)))) ∙ sign-of-bits
 
   pub finite-exponent : finite x ≡ not (eqb (exponentOf (toBits binary64 x)) 2047)
   finite-exponent = ap finite (sym fields-are) ∙ finite-fields (leb (2 ^ 63) (toBits binary64 x)) (exponentOf (toBits binary64 x)) (fractionOf (toBits binary64 x))

@@ -3,3 +3,4 @@ pub mod Fields
 pub mod Whole
 pub mod Even
 pub mod Signs
+pub mod Away
