@@ -9,7 +9,8 @@ use lib.Signed.{ltZ, leZ}
 use mir.Syntax.{w64}
 use mir.Val.{SFits}
 use Rattle.words.specs.Sums.{SCALE, clamp64, signed, snap, notional}
-use Rattle.words.proofs.Ints.{P, N, P-pos, N-pos, P-neg, N-neg, natAbs-parts, P-clamp, N-clamp, clamp-fits, clamp-same, fits-of, le-is}
+use Rattle.words.proofs.Ints.{P, N, P-pos, N-pos, natAbs-parts, P-signed, N-signed, signed-pos, N-zero, P-clamp, N-clamp, clamp-fits, clamp-same, fits-of, le-is}
+use Rattle.words.proofs.Laws.{P-notional, N-notional, snap-le}
 use Rattle.sizing.specs.Sizing.{above, sharesFor, sized, cutTo}
 
 pub above-is-P : (z : ℤ) → above z ≡ P z
@@ -17,29 +18,14 @@ unfolding above P
 above-is-P (pos n) = refl
 above-is-P (negsuc n) = refl
 
-pub none-below : (z : ℤ) → leZ (pos 0) z ≡ true → N z ≡ 0
-unfolding N
-none-below (pos n) h = refl
-none-below (negsuc n) h = let e : _≡_ {A = ℕ} 0 1 = cc in absurd (omega arith)
-
 -- ---- a magnitude with a sign
-pub P-signed : (s : Bool) (n : ℕ) → P (signed s n) ≡ cond s 0 n
-unfolding signed
-P-signed true n = P-neg (pos n) ∙ N-pos n
-P-signed false n = P-pos n
-
-pub N-signed : (s : Bool) (n : ℕ) → N (signed s n) ≡ cond s n 0
-unfolding signed
-N-signed true n = N-neg (pos n) ∙ P-pos n
-N-signed false n = N-pos n
-
 pub natAbs-signed : (s : Bool) (n : ℕ) → natAbs (signed s n) ≡ n
-natAbs-signed true n = omega (arith, natAbs-parts (signed true n), P-signed true n, N-signed true n)
-natAbs-signed false n = omega (arith, natAbs-parts (signed false n), P-signed false n, N-signed false n)
+natAbs-signed true n = omega (arith, natAbs-parts (signed true n), P-signed n, N-signed n)
+natAbs-signed false n = rw (signed-pos n)
 
 pub signed-fits : (s : Bool) (n : ℕ) → n < 2 ^ 63 → SFits w64 (signed s n)
-signed-fits true n h = let p = P-signed true n in let q = N-signed true n in fits-of _ (omega arith) (omega arith)
-signed-fits false n h = let p = P-signed false n in let q = N-signed false n in fits-of _ (omega arith) (omega arith)
+signed-fits true n h = let p = P-signed n in let q = N-signed n in fits-of _ (omega arith) (omega arith)
+signed-fits false n h = rw (signed-pos n) (record { sfits = h })
 
 -- ---- the shares that a value is
 pub sharesFor-multiple : (v p s : ℕ) → sharesFor v p s ≡ v * SCALE / p / s * s
@@ -47,8 +33,8 @@ unfolding sharesFor snap
 sharesFor-multiple v p s = refl
 
 pub sharesFor-truncates : (v p s : ℕ) → sharesFor v p s ≤ v * SCALE / p
-unfolding sharesFor snap
-sharesFor-truncates v p s = div-mul-le-self (v * SCALE / p) s
+unfolding sharesFor
+sharesFor-truncates v p s = snap-le (v * SCALE / p) s
 
 -- worth no more than the value
 pub worth : (n v p : ℕ) → n ≤ v * SCALE / p → n * p / SCALE ≤ v
@@ -74,11 +60,11 @@ module _ (gap price step : ℤ) where
   -- a gap below zero is sold, any other bought
   pub sized-buys : ltZ gap (pos 0) ≡ false → N (sized gap price step) ≡ 0
   unfolding sized
-  sized-buys h = rw h (omega (arith, N-clamp (signed false wanted), N-signed false wanted))
+  sized-buys h = rw (h, signed-pos) (omega (arith, N-clamp (pos wanted), N-pos wanted))
 
   pub sized-sells : ltZ gap (pos 0) ≡ true → P (sized gap price step) ≡ 0
   unfolding sized
-  sized-sells h = rw h (omega (arith, P-clamp (signed true wanted), P-signed true wanted))
+  sized-sells h = rw h (omega (arith, P-clamp (signed true wanted), P-signed wanted))
 
 -- ---- the truncation to a maximum
 module _ (quantity price step max : ℤ) where
@@ -95,11 +81,11 @@ module _ (quantity price step max : ℤ) where
 
   pub cutTo-buys : ltZ quantity (pos 0) ≡ false → N (cutTo quantity price step max) ≡ 0
   unfolding cutTo
-  cutTo-buys h = rw h (N-signed false _)
+  cutTo-buys h = rw (h, signed-pos) (N-pos _)
 
   pub cutTo-sells : ltZ quantity (pos 0) ≡ true → P (cutTo quantity price step max) ≡ 0
   unfolding cutTo
-  cutTo-sells h = rw h (P-signed true _)
+  cutTo-sells h = rw h (P-signed _)
 
   pub cutTo-multiple : above max * SCALE / natAbs price < 2 ^ 63 → natAbs (cutTo quantity price step max) ≡ above max * SCALE / natAbs price / above step * above step
   cutTo-multiple h =
@@ -107,9 +93,10 @@ module _ (quantity price step max : ℤ) where
 
   -- its notional at the price is at most the maximum
   pub cutTo-within : leZ (pos 0) max ≡ true → leZ (notional (cutTo quantity price step max) price) max ≡ true
-  unfolding notional
   cutTo-within h =
-      let n = natAbs (cutTo quantity price step max) in
-      let w = worth n (above max) (natAbs price) (omega (arith, natAbs-cutTo, sharesFor-truncates (above max) (natAbs price) (above step))) in
-      let v = n * natAbs price / SCALE in
-      le-is (clamp64 (pos v)) max (omega (arith, P-clamp (pos v), N-clamp (pos v), P-pos v, N-pos v, above-is-P max, none-below max h))
+      let q = cutTo quantity price step max in
+      let n = natAbs q in
+      let w =
+      worth n (above max) (natAbs price)
+      (omega (arith, natAbs-cutTo, sharesFor-truncates (above max) (natAbs price) (above step))) in
+      le-is (notional q price) max (omega (arith, P-notional q price, N-notional q price, above-is-P max, N-zero max h))
