@@ -1,22 +1,21 @@
 -- Rounding from the fields: the digits and half a unit, shifted, are `roundAway` below 2 ^ 52, and from there on nothing changes. Assumes nothing.
 use mathlib.Core.Path.{_≡_, refl, sym, ap, _∙_, subst}
-use mathlib.Core.Bool.{Bool, true, false, not, _&&_, cond}
+use mathlib.Core.Bool.{Bool, _&&_}
 use Prim.Native.Nat.{ℕ, zero, suc, _+_, _-_, _*_, _/_, _%_, _^_, _≤_, _<_}
-use native.Mathlib.Nat.{le-of-eq, le-trans, lt-of-lt-of-le, lt-of-le-of-lt, not-le-of-lt, mul-one, one-mul, mul-assoc, mul-comm, mul-left-comm, add-mul, mul-add, mul-le-mul-left, mul-le-mul-right, mul-lt-mul-of-pos-right, le-of-mul-le-mul-right, mul-div-mul-right, mul-div-mul-left, mod-eq-of-lt, div-eq-of-lt, div-one, div-lt-iff-lt-mul, mul-add-div, add-zero, pow-succ'}
+use native.Mathlib.Nat.{le-of-eq, le-trans, lt-of-lt-of-le, lt-of-le-of-lt, not-le-of-lt, mul-one, one-mul, mul-assoc, mul-comm, mul-left-comm, add-mul, mul-add, mul-le-mul-left, mul-lt-mul-of-pos-right, mul-div-mul-right, mul-div-mul-left, mod-eq-of-lt, div-eq-of-lt, div-one, div-lt-iff-lt-mul, mul-add-div, add-zero, pow-succ'}
 use native.Mathlib.Omega.{arith}
-use lib.Bits.{bitOr}
 use lib.Dec.{T, ltb, leb, eqb, ltb→lt}
-use lib.Pow.{pow-pos, pow-add, pow-mono}
+use lib.Pow.{pow-pos, pow-add, pow-mono, pow-lt}
 use lib.IntN.{ℤ, pos, negsuc}
-use lib.Ieee.{Float, nan, inf, fin, Format, binary64, prec, emax, low, up, down, round, fits, toSigned}
-use lib.Ieee.Fits.{and-l, and-r, up-pos, down-pos, round-fits}
+use lib.Ieee.{Float, nan, inf, fin, binary64, emax, low, up, down, round, fits, toSigned}
+use lib.Ieee.Fits.{and-l, and-r, down-pos, round-fits}
 use lib.Ieee.Exact.{HasValue}
 use lib.Ieee.Nearest.{div-same}
 use lib.Ieee.Back.{round-whole, whole-unique}
-use Rattle.doubles.specs.Doubles.{nearWhole, roundAway}
+use Rattle.doubles.specs.Doubles.{roundAway}
 use Rattle.doubles.specs.Fields.{exponentOf, fractionOf, unitsOf, nearestOf, signedOf}
-use Rattle.doubles.proofs.Fields.{Sized, leading-digit}
-use Rattle.doubles.proofs.Whole.{fraction-lt, units-lt, units-ge}
+use Rattle.doubles.proofs.Fields.{Sized, fraction-lt}
+use Rattle.doubles.proofs.Whole.{units-lt, units-ge}
 
 -- ---- the nearest whole number of a units of 2 ^ -1074
 abbrev pub nearUnits : ℕ → ℕ
@@ -54,38 +53,29 @@ near-small a h = go a (2 ^ 1074) (pow-pos 1074) (lt-of-lt-of-le h (le-of-eq (pow
         let q : (2 * a + l) / (2 * l) < 2 ^ 52 + 1 = div-lt-iff-lt-mul D .1 (omega arith) in
         omega arith
 
-module _ (b e t : ℕ) (p : e ≡ exponentOf b) (q : t ≡ fractionOf b) where
-  small : t < 2 ^ 52
-  small = subst (λ (x : ℕ). x < 2 ^ 52) (sym q) (fraction-lt b)
-
-  near-is : nearUnits (unitsOf e t) ≡ nearestOf b
+module _ (b e : ℕ) (p : e ≡ exponentOf b) where
+  near-is : nearUnits (unitsOf e (fractionOf b)) ≡ nearestOf b
   unfolding nearestOf
-  near-is i = nearUnits (unitsOf (p i) (q i))
+  near-is i = nearUnits (unitsOf (p i) (fractionOf b))
 
   pub nearest-none : e < 1022 → 0 ≡ nearestOf b
-  nearest-none h = near-none e t small h ∙ near-is
+  nearest-none h = near-none e (fractionOf b) (fraction-lt b) h ∙ near-is
 
-  module _ (h : 1022 ≤ e) (k : e < 1075) where
-    pub half-unit : 1 * 2 ^ (1074 - e) % 2 ^ 64 ≡ 2 ^ (1074 - e)
-    half-unit = ap (λ (x : ℕ). x % 2 ^ 64) (one-mul (2 ^ (1074 - e))) ∙ mod-eq-of-lt (lt-of-le-of-lt (pow-mono {i = 1074 - e} {j = 52} (omega arith)) (pow-lt52))
-      where
-        pow-lt52 : 2 ^ 52 < 2 ^ 64
-        pow-lt52 = omega arith
+  module _ (d : ℕ) (q : d ≡ 2 ^ 52 + fractionOf b) (h : 1022 ≤ e) (k : e < 1075) where
+    half-small : 2 ^ (1074 - e) ≤ 2 ^ 52
+    half-small = pow-mono {i = 1074 - e} {j = 52} (omega arith)
 
-    pub half-le : 1 * 2 ^ (1074 - e) % 2 ^ 64 ≤ 2 ^ 52
-    half-le = le-trans (le-of-eq half-unit) (pow-mono {i = 1074 - e} {j = 52} (omega arith))
+    half-unit : 1 * 2 ^ (1074 - e) % 2 ^ 64 ≡ 2 ^ (1074 - e)
+    half-unit = ap (λ (x : ℕ). x % 2 ^ 64) (one-mul (2 ^ (1074 - e))) ∙ mod-eq-of-lt (lt-of-le-of-lt half-small (pow-lt {i = 52} {j = 64} (omega arith)))
 
-    pub digits-lt : bitOr t 0x10_0000_0000_0000 < 2 ^ 53
-    digits-lt = lt-of-le-of-lt (le-of-eq (leading-digit t small)) (more t small)
-      where
-        more : (t : ℕ) → t < 2 ^ 52 → 2 ^ 52 + t < 2 ^ 53
-        more t l = omega arith
+    pub sum-fits : d + 1 * 2 ^ (1074 - e) % 2 ^ 64 < 2 ^ 64
+    sum-fits = omega (arith, half-small, half-unit, fraction-lt b)
 
-    pub nearest-shift : (bitOr t 0x10_0000_0000_0000 + 1 * 2 ^ (1074 - e) % 2 ^ 64) / 2 ^ (1075 - e) ≡ nearestOf b
-    nearest-shift = (λ i. (leading-digit t small i + half-unit i) / 2 ^ (1075 - e)) ∙ near-shift e t h k ∙ near-is
+    pub nearest-shift : (d + 1 * 2 ^ (1074 - e) % 2 ^ 64) / 2 ^ (1075 - e) ≡ nearestOf b
+    nearest-shift = (λ i. (q i + half-unit i) / 2 ^ (1075 - e)) ∙ near-shift e (fractionOf b) h k ∙ near-is
 
 -- ---- a double of that size
-spread : (n d c : ℕ) → (2 * n + d) * (2 * c) ≡ 4 * (n * c) + 2 * (d * c)
+pub spread : (n d c : ℕ) → (2 * n + d) * (2 * c) ≡ 4 * (n * c) + 2 * (d * c)
 spread n d c =
     let a : (2 * n + d) * (2 * c) ≡ 2 * ((2 * n + d) * c) = mul-left-comm (2 * n + d) 2 c in
     let b : (2 * n + d) * c ≡ 2 * (n * c) + d * c = add-mul (2 * n) d c ∙ ap (λ (x : ℕ). x + d * c) (mul-assoc 2 n c) in
@@ -94,7 +84,7 @@ spread n d c =
 pub near-same : (n d a l : ℕ) → 0 < d → 0 < l → n * l ≡ a * d → (2 * n + d) / (2 * d) ≡ (2 * a + l) / (2 * l)
 near-same n d a l D L h = div-same (2 * n + d) (2 * d) (2 * a + l) (2 * l) (omega arith) (omega arith) (omega (arith, spread n d l, spread a l d, mul-comm d l))
 
-near-whole : (n : ℕ) → (2 * n + 1) / (2 * 1) ≡ n
+pub near-whole : (n : ℕ) → (2 * n + 1) / (2 * 1) ≡ n
 near-whole n = mul-add-div (pow-pos 1) n 1 ∙ add-zero n
 
 -- what `fits` says of the digits

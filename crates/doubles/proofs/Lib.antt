@@ -4,3 +4,6 @@ pub mod Whole
 pub mod Even
 pub mod Signs
 pub mod Away
+pub mod Order
+pub mod Laws
+pub mod Chain

@@ -5,13 +5,13 @@ use mathlib.Core.Bool.{Bool, true, false}
 use native.Mathlib.Omega.{arith}
 use native.Mathlib.Nat.{div-le-self}
 use lib.IntN.{ℤ, pos, negsuc, _*ℤ_, negℤ}
-use lib.Signed.{ltZ, quotZ}
+use lib.Signed.{ltZ, leZ, quotZ}
 use lib.Dec.{eqb}
 use borrow.Author.Tests.{eqb-true, eqb-false, eq-eqb, ne-eqb}
 use mir.Syntax.{w64}
 use mir.Val.{SFits, ofZ}
 use Rattle.words.specs.Sums.{clamp64, SCALE}
-use Rattle.words.proofs.Ints.{P, N, P-neg, N-neg, P-fits, N-fits, fits-of, lt-yes, lt-no, clamp-top, clamp-low, clamp-same}
+use Rattle.words.proofs.Ints.{P, N, P-neg, N-neg, P-fits, N-fits, fits-of, lt-yes, lt-no, le-is, gt-is, clamp-top, clamp-low, clamp-same}
 use Rattle.position.specs.Shares.{fromWhole, wholeShares, isZero}
 
 -- ---- zero
@@ -24,6 +24,13 @@ pub zero-is : (z : ℤ) → isZero z ≡ true → z ≡ pos 0
 unfolding isZero
 zero-is (pos n) e = ap pos (eqb-true n 0 e)
 zero-is (negsuc n) e = absurd (let z : _≡_ {A = ℕ} 0 1 = cc in omega arith)
+
+-- ---- the other side of a test
+pub lt-not-ge : (a b : ℤ) → ltZ a b ≡ true → leZ b a ≡ false
+lt-not-ge a b h = gt-is b a (omega (arith, lt-yes a b h))
+
+pub not-lt-ge : (a b : ℤ) → ltZ a b ≡ false → leZ b a ≡ true
+not-lt-ge a b h = le-is b a (omega (arith, lt-no a b h))
 
 -- ---- whole shares
 P-scaled : (n : ℤ) → P (n *ℤ pos SCALE) ≡ P n * SCALE

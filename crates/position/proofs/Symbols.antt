@@ -45,11 +45,11 @@ past-the-end i n e s =
     let eight : i ≡ 8 = omega arith in
     omega (arith, s .is ∙ ap (λ (j : ℕ). s .high * 256 ^ j) eight)
 
-and-left : (a b : Bool) → a && b ≡ true → a ≡ true
+pub and-left : (a b : Bool) → a && b ≡ true → a ≡ true
 and-left true b e = refl
 and-left false b e = e
 
-and-right : (a b : Bool) → a && b ≡ true → b ≡ true
+pub and-right : (a b : Bool) → a && b ≡ true → b ≡ true
 and-right true b e = e
 and-right false true e = refl
 and-right false false e = e

@@ -28,9 +28,9 @@ sound p = goodSymbol (keyOf p) && soundNumbers (held p) (avg p) (total p)
 unfoldable pub sameSide : ℤ → ℤ → Bool
 sameSide a b = cond (isPositive a) (isPositive b) (not (isPositive b))
 
--- ---- opening
-unfoldable pub opened : Position → ℤ → ℤ → Position
-opened p q price = row (keyOf p) q price (realized p) (value q price)
+-- ---- opening, and what is left after flipping: all of it entered at the price
+unfoldable pub entered : ℕ → ℤ → ℤ → ℤ → Position
+entered s q r price = row s q price r (value q price)
 
 -- ---- adding: the average is worked out of the new total
 unfoldable pub averaged : ℕ → ℤ → ℤ → ℤ → Position
@@ -62,16 +62,13 @@ closed p r = row (keyOf p) (pos 0) (pos 0) r (pos 0)
 unfoldable pub partlyClosed : Position → ℤ → ℤ → Position
 partlyClosed p q r = averaged (keyOf p) (satAdd (held p) q) r (satSub (total p) (closedCost p (closedBy (held p) q)))
 
-unfoldable pub flipped : Position → ℤ → ℤ → ℤ → Position
-flipped p net price r = row (keyOf p) net price r (value net price)
-
 unfoldable pub reduced : Position → ℤ → ℤ → Position
 reduced p q price =
     cond (isZero (satAdd (held p) q))
     (closed p (realizedBy p q price))
     (cond (sameSide (satAdd (held p) q) (held p))
     (partlyClosed p q (realizedBy p q price))
-    (flipped p (satAdd (held p) q) price (realizedBy p q price)))
+    (entered (keyOf p) (satAdd (held p) q) (realizedBy p q price) price))
 
 -- ---- a fill of so many micro-shares, below 0 for a sale, at a price
 unfoldable pub applied : Position → ℤ → ℤ → Position
@@ -79,7 +76,7 @@ applied p q price =
     cond (isZero q)
     p
     (cond (isZero (held p))
-    (opened p q price)
+    (entered (keyOf p) q (realized p) price)
     (cond (sameSide (held p) q)
     (grown p q price)
     (reduced p q price)))

@@ -3,6 +3,8 @@ use mathlib.Core.Bool.{Bool, false}
 use lib.IntN.{ℤ, pos, negsuc, _*ℤ_}
 use lib.Dec.{eqb}
 use lib.Signed.{quotZ, ltZ}
+use lib.Ieee.{Float, binary64, div, ofInt}
+use Rattle.doubles.specs.Doubles.{ofI64}
 use Rattle.words.specs.Sums.{clamp64, SCALE}
 
 -- whole shares as micro-shares
@@ -12,6 +14,11 @@ fromWhole n = clamp64 (n *ℤ pos SCALE)
 -- the whole shares in a count of micro-shares, any fraction dropped
 unfoldable pub wholeShares : ℤ → ℤ
 wholeShares n = quotZ n (pos SCALE)
+
+-- a fractional share count: both numbers as doubles, then divided
+unfoldable pub toF64 : ℤ → Float
+unfolding div ofInt
+toF64 n = div binary64 (ofI64 n) (ofI64 (pos SCALE))
 
 unfoldable pub isZero : ℤ → Bool
 isZero (pos n) = eqb n 0

@@ -3,7 +3,7 @@ ghost use mathlib.Core.Path.{_≡_};
 ghost use lib.IntN.{natAbs};
 ghost use Rattle.words.specs.Sums.{satAdd, satSub, satNeg, satAbs};
 ghost use Rattle.position.specs.Rows.{shares};
-ghost use Rattle.position.specs.Shares.{fromWhole, wholeShares, isZero, isPositive, isNegative};
+ghost use Rattle.position.specs.Shares.{fromWhole, toF64, wholeShares, isZero, isPositive, isNegative};
 
 // A share count in fixed-point micro-shares: 1 unit is 0.000001 share.
 // A type of its own, so that a share count never stands for a price or a value.
@@ -43,7 +43,15 @@ impl Shares {
     pub fn raw(self) -> i64
         ensures { λ r. ⌜ r ≡ self .0 ⌝ }
     {
-        self.0
+        let raw = self.0;
+        raw
+    }
+
+    // The quantity as a fractional share count.
+    pub fn to_f64(self) -> f64
+        ensures { λ r. ⌜ r ≡ toF64 (self .0) ⌝ }
+    {
+        doubles::i64_to_f64(self.0) / 1_000_000.0
     }
 
     // Truncate to a whole-share count (drops any fractional remainder).

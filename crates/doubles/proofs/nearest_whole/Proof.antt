@@ -1,10 +1,8 @@
 -- Below a half nothing is left; from there on the digits and half a unit are shifted to their place.
 use borrow.Author.Needs.{needs}
-use mathlib.Core.Path.{refl, sym, subst}
+use mathlib.Core.Path.{sym, subst}
 use Prim.Native.Nat.{ℕ, _<_}
-use native.Mathlib.Omega.{arith}
-use Rattle.doubles.specs.Fields.{fractionOf}
-use Rattle.doubles.proofs.Away.{nearest-none, nearest-shift, half-le, digits-lt}
+use Rattle.doubles.proofs.Away.{nearest-none, nearest-shift, sum-fits}
 use Rattle.doubles.proofs.nearest_whole.Statement.{statement}
 use Rattle.doubles.proofs.nearest_whole.Tie as tie
 
@@ -15,10 +13,10 @@ returns : tie.Need-returns
 returns c =
     let s = c .before in
     let b = s .before .args .bits in
-    nearest-none b (s .exponent .result) (fractionOf b) (s .exponent .ensures) refl (c .if1 .taken)
+    nearest-none b (s .exponent .result) (s .exponent .ensures) (c .if1 .taken)
 
-fraction-requires : tie.Need-fraction-requires
-fraction-requires c κs = search needs
+significand-requires : tie.Need-significand-requires
+significand-requires c κs = search needs
 
 low : (s : tie.After-exponent) → s .exponent .result < 1075
 low s = subst (λ (x : ℕ). x < 1075) (sym (s .exponent .ensures)) (s .before .pre)
@@ -32,10 +30,7 @@ shl-half c = search needs
 add-result : tie.Need-add-result
 add-result c =
     let s = c .before .before in
-    let b = s .before .args .bits in
-    let h = half-le b (s .exponent .result) (c .fraction .result) (s .exponent .ensures) (c .fraction .ensures) (c .before .if1 .left) (low s) in
-    let d = digits-lt b (s .exponent .result) (c .fraction .result) (s .exponent .ensures) (c .fraction .ensures) (c .before .if1 .left) (low s) in
-    record { fits = omega (arith, h, d) }
+    record { fits = sum-fits (s .before .args .bits) (s .exponent .result) (s .exponent .ensures) (c .significand .result) (c .significand .ensures) (c .before .if1 .left) (low s) }
 
 sub-result : tie.Need-sub-result
 sub-result c = search needs
@@ -46,7 +41,7 @@ shr-result c = search needs
 returns-2 : tie.Need-returns-2
 returns-2 c =
     let s = c .before .before in
-    nearest-shift (s .before .args .bits) (s .exponent .result) (c .fraction .result) (s .exponent .ensures) (c .fraction .ensures) (c .before .if1 .left) (low s)
+    nearest-shift (s .before .args .bits) (s .exponent .result) (s .exponent .ensures) (c .significand .result) (c .significand .ensures) (c .before .if1 .left) (low s)
 
 pub nearest-whole-spec : {M : Type 1} → statement M
 nearest-whole-spec =
@@ -54,7 +49,7 @@ nearest-whole-spec =
     (tie.spec
     exponent-requires
     returns
-    fraction-requires
+    significand-requires
     sub-half
     shl-half
     add-result

@@ -13,7 +13,7 @@ saturating-abs-requires c κs = search needs
 
 returns : tie.Need-returns
 returns c =
-    let f : SFits w64 (c .before .before .args .self .0) = record { sfits = c .before .struct-told .given .0 .1 } in
+    let f : SFits w64 (c .before .before .args .self .0) = search needs in
     let r : SFits w64 (c .saturating-abs .result) = search needs in
     ap shares (toZ-ofZ r ∙ (simp (toZ-ofZ f) at (c .saturating-abs .ensures)))
 

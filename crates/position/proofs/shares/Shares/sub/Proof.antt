@@ -14,8 +14,8 @@ saturating-sub-requires c κs = search needs
 returns : tie.Need-returns
 returns c =
     let s = c .before .before .before in
-    let f : SFits w64 (s .args .self .0) = record { sfits = c .before .before .struct-told .given .0 .1 } in
-    let g : SFits w64 (s .args .other .0) = record { sfits = c .before .struct-told2 .given .0 .1 } in
+    let f : SFits w64 (s .args .self .0) = search needs in
+    let g : SFits w64 (s .args .other .0) = search needs in
     let r : SFits w64 (c .saturating-sub .result) = search needs in
     ap shares (toZ-ofZ r ∙ (simp (toZ-ofZ f, toZ-ofZ g) at (c .saturating-sub .ensures)))
 

@@ -11,7 +11,7 @@ unsigned-abs-requires c κs = search needs
 
 returns : tie.Need-returns
 returns c =
-    let f : SFits w64 (c .before .before .args .self .0) = record { sfits = c .before .struct-told .given .0 .1 } in
+    let f : SFits w64 (c .before .before .args .self .0) = search needs in
     simp (toZ-ofZ f) at (c .unsigned-abs .ensures)
 
 pub unsigned-abs-spec : {M : Type 1} → statement M
