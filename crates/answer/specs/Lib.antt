@@ -1,0 +1,2 @@
+-- What each answer says: document 01, 'Answer numbers'.
+pub mod Numbers

@@ -1,0 +1,32 @@
+-- Document 01, 'Answer numbers': the number of each answer, given exactly when the table says.
+use Prim.Native.Nat.{ℕ}
+use Rattle.answer.specs.declared.Answer.{Answer}
+use Rattle.answer.specs.declared.Answer.the-variants.{Done, BadSetting, BadSymbol, Twice, BadPrice, BadWeight, TooLong, TooMany, NoRecordRoom, NotHeld, BufferFull, Unsound, BadSeries}
+
+abbrev pub numberOf : Answer → ℕ
+-- done
+numberOf Done = 0
+-- a setting or opening cash is bad
+numberOf BadSetting = 1
+-- a symbol is bad
+numberOf BadSymbol = 2
+-- a symbol stands twice in one list
+numberOf Twice = 3
+-- a price is below 1
+numberOf BadPrice = 4
+-- a weight is not finite
+numberOf BadWeight = 5
+-- a list or return series is over its bound
+numberOf TooLong = 6
+-- held symbols (flat ones too) and target symbols together exceed 64
+numberOf TooMany = 7
+-- recording is on and the record buffer has under 64 places
+numberOf NoRecordRoom = 8
+-- a close names an absent or flat position
+numberOf NotHeld = 9
+-- the equity or return buffer has no free place
+numberOf BufferFull = 10
+-- the account is not sound
+numberOf Unsound = 11
+-- a return series is empty or has a non-finite member
+numberOf BadSeries = 12

@@ -1,0 +1,40 @@
+// The answers of document 01's table.
+ghost use mathlib.Core.Path.{_≡_};
+ghost use Rattle.answer.specs.Numbers.{numberOf};
+
+pub enum Answer {
+    Done,
+    BadSetting,
+    BadSymbol,
+    Twice,
+    BadPrice,
+    BadWeight,
+    TooLong,
+    TooMany,
+    NoRecordRoom,
+    NotHeld,
+    BufferFull,
+    Unsound,
+    BadSeries,
+}
+
+// The number that document 01 gives an answer.
+pub fn number(a: Answer) -> u64
+    ensures { λ r. ⌜ r ≡ numberOf a ⌝ }
+{
+    match a {
+        Answer::Done => 0,
+        Answer::BadSetting => 1,
+        Answer::BadSymbol => 2,
+        Answer::Twice => 3,
+        Answer::BadPrice => 4,
+        Answer::BadWeight => 5,
+        Answer::TooLong => 6,
+        Answer::TooMany => 7,
+        Answer::NoRecordRoom => 8,
+        Answer::NotHeld => 9,
+        Answer::BufferFull => 10,
+        Answer::Unsound => 11,
+        Answer::BadSeries => 12,
+    }
+}
