@@ -1,6 +1,6 @@
 //! A differential run over the leaves: the same inputs to the port, to Rust's own arithmetic and to nanobook.
 
-use crate::leaf::{Class, Inputs, Kind, LEAVES, Leaf};
+use crate::leaf::{self, Class, Inputs, Kind, Leaf};
 use crate::random::Random;
 
 /// What one leaf's run found.
@@ -19,7 +19,7 @@ pub fn run(seed: u64, count: u64) -> bool {
         println!("leaves: SKIPPED the comparison with nanobook's own functions: its source is not at hand");
     }
     let mut tallies = Vec::new();
-    for (k, leaf) in LEAVES.iter().enumerate() {
+    for (k, leaf) in leaf::all().enumerate() {
         let mut random = Random::new(seed.wrapping_add(k as u64));
         let tally = compare(leaf, nanobook.as_ref(), &mut random, count);
         print(leaf, &tally);
@@ -29,7 +29,7 @@ pub fn run(seed: u64, count: u64) -> bool {
     let unmet = tallies.iter().flat_map(|t| &t.met).filter(|n| **n == 0).count();
     println!(
         "leaves: {} leaves, {} inputs, {} of them beside nanobook too, {} differences, {unmet} classes not met",
-        LEAVES.len(),
+        tallies.len(),
         total(|t| t.tried),
         total(|t| t.with_nanobook),
         total(|t| t.differences),

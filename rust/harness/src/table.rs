@@ -1,7 +1,7 @@
 //! A small table to look at: document 01's numbers through the port, beside Rust's.
 
 use crate::differ::{call, same, shown};
-use crate::leaf::{Inputs, LEAVES};
+use crate::leaf::{self, Inputs};
 
 const fn signed(n: i64) -> u64 {
     n as u64
@@ -35,7 +35,7 @@ pub fn run() -> bool {
     println!("{:<64} {:>24} {:>24}", "call", "Threshcoil", "Rust");
     let mut agreed = true;
     for (name, inputs) in ROWS {
-        let leaf = LEAVES.iter().find(|leaf| leaf.name == *name).expect("a leaf of the table");
+        let leaf = leaf::all().find(|leaf| leaf.name == *name).expect("a leaf of the table");
         let (ours, theirs) = ((leaf.port)(inputs), (leaf.rust)(inputs));
         agreed &= same(leaf.gives, ours, theirs);
         println!("{:<64} {:>24} {:>24}", call(leaf, inputs), shown(leaf.gives, ours), shown(leaf.gives, theirs));
