@@ -1,7 +1,7 @@
 //! A differential run over the leaves: the same inputs to the port, to Rust's own arithmetic and to nanobook.
 
 use crate::leaf::{self, Class, Inputs, Kind, Leaf};
-use crate::random::Random;
+use scenario::Random;
 
 /// What one leaf's run found.
 struct Tally {

@@ -1,11 +1,13 @@
 //! The harness: `harness COMMAND`. Exit status 1 where the port and the Rust differ.
 
+mod account;
 mod differ;
 mod leaf;
-mod random;
+mod sample;
 mod table;
 
-const USAGE: &str = "usage: harness leaves [SEED [COUNT]] | table";
+const USAGE: &str =
+    "usage: harness leaves [SEED [COUNT]] | scenarios [SEED [COUNT]] | table | sample write FILE | sample check FILE";
 
 fn main() {
     let words: Vec<String> = std::env::args().skip(1).collect();
@@ -14,7 +16,12 @@ fn main() {
         ["leaves"] => differ::run(20261115, 200_000),
         ["leaves", seed] => differ::run(number(seed), 200_000),
         ["leaves", seed, count] => differ::run(number(seed), number(count)),
+        ["scenarios"] => account::emit(20261115, 1_000),
+        ["scenarios", seed] => account::emit(number(seed), 1_000),
+        ["scenarios", seed, count] => account::emit(number(seed), number(count)),
         ["table"] => table::run(),
+        ["sample", "write", path] => sample::write(path),
+        ["sample", "check", path] => sample::check(path),
         _ => stop(USAGE),
     };
     if !agreed {

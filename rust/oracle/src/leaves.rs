@@ -1,12 +1,6 @@
 //! The Rust's small functions, private ones too, on plain numbers.
 
-/// A cost model as numbers, since its own type is nanobook's.
-#[derive(Clone, Copy, Debug, PartialEq)]
-pub struct Costs {
-    pub commission_bps: f64,
-    pub slippage_bps: f64,
-    pub min_commission: i64,
-}
+use scenario::Costs;
 
 /// Each function under its name in the Rust; share counts are raw micro-shares.
 #[derive(Clone, Copy)]
@@ -34,13 +28,9 @@ pub fn leaves() -> Option<Leaves> {
 
 #[cfg(nanobook)]
 pub fn leaves() -> Option<Leaves> {
+    use crate::account::model;
     use crate::portfolio::position::probe as position;
-    use crate::portfolio::{CostModel, Shares, probe};
-
-    fn model(costs: Costs) -> CostModel {
-        let Costs { commission_bps, slippage_bps, min_commission } = costs;
-        CostModel { commission_bps, slippage_bps, min_commission }
-    }
+    use crate::portfolio::{Shares, probe};
 
     Some(Leaves {
         notional_cents: position::notional_cents,

@@ -13,10 +13,23 @@ pub use frame::{Exchange, Side, Trade};
 #[cfg(nanobook)]
 pub use types::{Price, Symbol};
 
+#[cfg(nanobook)]
+mod account;
 mod figures;
 mod leaves;
 pub use figures::{Figures, figures};
-pub use leaves::{Costs, Leaves, leaves};
+pub use leaves::{Leaves, leaves};
 
 /// Whether this build has nanobook's files in it.
 pub const PRESENT: bool = cfg!(nanobook);
+
+/// The Rust's answers to a scenario, as far as it is an oracle for it.
+pub fn play(scenario: &scenario::Scenario) -> Option<scenario::Played> {
+    #[cfg(nanobook)]
+    return Some(scenario::play::<account::Nanobook>(scenario));
+    #[cfg(not(nanobook))]
+    return {
+        let _ = scenario;
+        None
+    };
+}

@@ -1,7 +1,8 @@
 //! The frame answers as the Rust does: document 01's checked cases on the small functions. Skipped, and said so, where
 //! nanobook is not at hand.
 
-use oracle::{Costs, Leaves, leaves};
+use oracle::{Leaves, leaves};
+use scenario::Costs;
 
 fn nanobook() -> Option<Leaves> {
     let found = leaves();

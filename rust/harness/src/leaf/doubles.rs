@@ -45,6 +45,7 @@ fn is_tie(n: u64) -> bool {
 pub const LEAVES: &[Leaf] = &[
     Leaf {
         name: "tc_is_finite",
+        number: 31,
         takes: &[F64],
         gives: Bool,
         port: |i| u64::from(port::tc_is_finite(x(i))),
@@ -54,6 +55,7 @@ pub const LEAVES: &[Leaf] = &[
     },
     Leaf {
         name: "tc_to_i64",
+        number: 32,
         takes: &[F64],
         gives: I64,
         port: |i| port::tc_to_i64(x(i)) as u64,
@@ -63,6 +65,7 @@ pub const LEAVES: &[Leaf] = &[
     },
     Leaf {
         name: "tc_i64_to_f64",
+        number: 33,
         takes: &[I64],
         gives: F64,
         port: |i| port::tc_i64_to_f64(i[0] as i64).to_bits(),
@@ -72,6 +75,7 @@ pub const LEAVES: &[Leaf] = &[
     },
     Leaf {
         name: "tc_u64_to_f64",
+        number: 34,
         takes: &[U64],
         gives: F64,
         port: |i| port::tc_u64_to_f64(i[0]).to_bits(),
@@ -81,6 +85,7 @@ pub const LEAVES: &[Leaf] = &[
     },
     Leaf {
         name: "tc_round",
+        number: 35,
         takes: &[F64],
         gives: F64,
         port: |i| port::tc_round(x(i)).to_bits(),
@@ -90,6 +95,7 @@ pub const LEAVES: &[Leaf] = &[
     },
     Leaf {
         name: "tc_round_to_i64",
+        number: 36,
         takes: &[F64],
         gives: I64,
         port: |i| port::tc_round_to_i64(x(i)) as u64,

@@ -24,6 +24,8 @@ pub type Class = (&'static str, fn(&Inputs, u64) -> bool);
 
 pub struct Leaf {
     pub name: &'static str,
+    /// Its number in the stored sample, which the crate replay knows it by.
+    pub number: u64,
     pub takes: &'static [Kind],
     pub gives: Kind,
     pub port: fn(&Inputs) -> u64,

@@ -14,6 +14,7 @@ const SIGNED: &[Class] = &[
 pub const LEAVES: &[Leaf] = &[
     Leaf {
         name: "tc_saturating_add",
+        number: 1,
         takes: &[I64, I64],
         gives: I64,
         port: |i| port::tc_saturating_add(i[0] as i64, i[1] as i64) as u64,
@@ -23,6 +24,7 @@ pub const LEAVES: &[Leaf] = &[
     },
     Leaf {
         name: "tc_saturating_sub",
+        number: 2,
         takes: &[I64, I64],
         gives: I64,
         port: |i| port::tc_saturating_sub(i[0] as i64, i[1] as i64) as u64,
@@ -32,6 +34,7 @@ pub const LEAVES: &[Leaf] = &[
     },
     Leaf {
         name: "tc_saturating_neg",
+        number: 3,
         takes: &[I64],
         gives: I64,
         port: |i| port::tc_saturating_neg(i[0] as i64) as u64,
@@ -41,6 +44,7 @@ pub const LEAVES: &[Leaf] = &[
     },
     Leaf {
         name: "tc_saturating_abs",
+        number: 4,
         takes: &[I64],
         gives: I64,
         port: |i| port::tc_saturating_abs(i[0] as i64) as u64,
@@ -54,6 +58,7 @@ pub const LEAVES: &[Leaf] = &[
     },
     Leaf {
         name: "tc_unsigned_abs",
+        number: 5,
         takes: &[I64],
         gives: U64,
         port: |i| port::tc_unsigned_abs(i[0] as i64),

@@ -53,6 +53,7 @@ fn price_at(i: &Inputs) -> u64 {
 pub const LEAVES: &[Leaf] = &[
     Leaf {
         name: "tc_mul_high",
+        number: 11,
         takes: &[U64, U64],
         gives: U64,
         port: |i| port::tc_mul_high(i[0], i[1]),
@@ -62,6 +63,7 @@ pub const LEAVES: &[Leaf] = &[
     },
     Leaf {
         name: "tc_mul_low",
+        number: 12,
         takes: &[U64, U64],
         gives: U64,
         port: |i| port::tc_mul_low(i[0], i[1]),
@@ -71,6 +73,7 @@ pub const LEAVES: &[Leaf] = &[
     },
     Leaf {
         name: "tc_div_high",
+        number: 13,
         takes: &[U64, U64, U64],
         gives: U64,
         port: |i| port::tc_div_high(i[0], i[1], i[2]),
@@ -80,6 +83,7 @@ pub const LEAVES: &[Leaf] = &[
     },
     Leaf {
         name: "tc_div_low",
+        number: 14,
         takes: &[U64, U64, U64],
         gives: U64,
         port: |i| port::tc_div_low(i[0], i[1], i[2]),
@@ -89,6 +93,7 @@ pub const LEAVES: &[Leaf] = &[
     },
     Leaf {
         name: "tc_snap_high",
+        number: 15,
         takes: &[U64, U64, U64],
         gives: U64,
         port: |i| port::tc_snap_high(i[0], i[1], i[2]),
@@ -98,6 +103,7 @@ pub const LEAVES: &[Leaf] = &[
     },
     Leaf {
         name: "tc_snap_low",
+        number: 16,
         takes: &[U64, U64, U64],
         gives: U64,
         port: |i| port::tc_snap_low(i[0], i[1], i[2]),
@@ -107,6 +113,7 @@ pub const LEAVES: &[Leaf] = &[
     },
     Leaf {
         name: "tc_value",
+        number: 17,
         takes: &[I64, I64],
         gives: I64,
         port: |i| port::tc_value(i[0] as i64, i[1] as i64) as u64,
@@ -116,6 +123,7 @@ pub const LEAVES: &[Leaf] = &[
     },
     Leaf {
         name: "tc_magnitude",
+        number: 18,
         takes: &[I64, I64],
         gives: I64,
         port: |i| port::tc_magnitude(i[0] as i64, i[1] as i64) as u64,
@@ -130,6 +138,7 @@ pub const LEAVES: &[Leaf] = &[
     },
     Leaf {
         name: "tc_price_at",
+        number: 19,
         takes: &[I64, I64],
         gives: I64,
         port: |i| port::tc_price_at(i[0] as i64, i[1] as i64) as u64,
