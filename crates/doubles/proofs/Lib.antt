@@ -1,0 +1,5 @@
+-- The laws of this crate.
+pub mod Fields
+pub mod Whole
+pub mod Even
+pub mod Signs

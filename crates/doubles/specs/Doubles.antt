@@ -1,0 +1,35 @@
+-- What the casts, the rounding and the test of binary64 give. Definitions only. A double is lib.Ieee's `Float`: `nan`, an infinity, or m * 2 ^ e with its sign.
+use mathlib.Core.Bool.{Bool}
+use Prim.Native.Nat.{ℕ, _+_, _*_, _/_}
+use lib.IntN.{ℤ, pos, negsuc}
+use lib.Ieee.{Float, nan, inf, fin, binary64, up, down, round, ofInt, toSigned}
+use lib.Ieee.Scale as Scale
+
+-- IEEE 754-2019 5.7.2, isFinite: "zero, subnormal or normal (not infinite or NaN)".
+abbrev pub finite : Float → Bool
+finite x = Scale.finite x
+
+-- Document 01: "f64 to i64 truncates, saturates, and gives 0 for NaN." Rust Reference, Numeric cast: "rounds the float towards zero, NaN will
+-- return 0, values larger than the maximum integer value, including INFINITY, will saturate to the maximum value of the integer type", and so for the minimum.
+abbrev pub toI64 : Float → ℤ
+toI64 x = toSigned 63 x
+
+-- Document 01: "i64 to f64 rounds to nearest, ties to even, u64 likewise." IEEE 754-2019 5.4.1, convertFromInt, by 4.3.1, roundTiesToEven.
+abbrev pub ofI64 : ℤ → Float
+ofI64 z = ofInt binary64 z
+
+abbrev pub ofU64 : ℕ → Float
+ofU64 n = ofInt binary64 (pos n)
+
+-- The whole number nearest to m * 2 ^ e, the upper one at a tie: m * 2 ^ e + 1 / 2, cut.
+abbrev pub nearWhole : ℕ → ℤ → ℕ
+nearWhole m e = (2 * (m * up e) + down e) / (2 * down e)
+
+-- Document 01: "`round` takes halves away from zero." IEEE 754-2019 5.9, roundToIntegralTiesToAway: a zero result has the operand's sign, and
+-- a whole number, an infinity and a NaN are as they were.
+unfoldable pub roundAway : Float → Float
+unfolding round
+roundAway nan = nan
+roundAway (inf s) = inf s
+roundAway (fin s m (pos k)) = fin s m (pos k)
+roundAway (fin s m (negsuc k)) = round binary64 s (nearWhole m (negsuc k)) 1

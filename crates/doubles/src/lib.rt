@@ -1,0 +1,112 @@
+// Casts, rounding and the test for finite of binary64, for every input, from a double's sign, exponent and fraction fields.
+ghost use mathlib.Core.Path.{_≡_};
+ghost use mathlib.Core.Bool.{Bool};
+ghost use Prim.Native.Nat.{_%_, _/_, _^_, _<_, _≤_, _+_, _*_, _-_};
+ghost use lib.Ieee.Nearest.{closest};
+ghost use Rattle.doubles.specs.Fields.{exponentOf, fractionOf, wholeOf, signedOf};
+ghost use Rattle.doubles.specs.Doubles.{finite, toI64, ofI64, ofU64, roundAway};
+
+// The eleven bits between the sign and the fraction.
+fn exponent(bits: u64) -> u64
+    ensures { λ r. ⌜ r ≡ exponentOf bits ⌝ }
+{
+    (bits >> 52) & 0x7ff
+}
+
+// The low 52 bits: the digits below the leading one.
+fn fraction(bits: u64) -> u64
+    ensures { λ r. ⌜ r ≡ fractionOf bits ⌝ }
+{
+    bits & 0xf_ffff_ffff_ffff
+}
+
+pub fn is_finite(x: f64) -> bool
+    ensures { λ r. ⌜ r ≡ finite x ⌝ }
+{
+    if x != x {
+        return false;
+    }
+    exponent(f64::to_bits(x)) != 0x7ff
+}
+
+// The size of the pattern's value cut to a whole number; from 2^63 on, infinities included, 2^63.
+fn whole_part(bits: u64) -> u64
+    ensures { λ r. ⌜ r ≡ wholeOf bits ⌝ }
+{
+    let e = exponent(bits);
+    if e < 1023 {
+        return 0;
+    }
+    if e >= 1086 {
+        return 0x8000_0000_0000_0000;
+    }
+    let digits = fraction(bits) | 0x10_0000_0000_0000;
+    if e < 1075 {
+        return digits >> (1075 - e);
+    }
+    digits << (e - 1075)
+}
+
+// The number of that sign and size, held to i64's range.
+fn signed(negative: bool, size: u64) -> i64
+    ensures { λ r. ⌜ r ≡ signedOf negative size ⌝ }
+{
+    if negative {
+        if size < 0x8000_0000_0000_0000 {
+            return -(size as i64);
+        }
+        return i64::MIN;
+    }
+    if size < 0x8000_0000_0000_0000 {
+        return size as i64;
+    }
+    i64::MAX
+}
+
+pub fn to_i64(x: f64) -> i64
+    ensures { λ r. ⌜ r ≡ toI64 x ⌝ }
+{
+    if x != x {
+        return 0; // a NaN has no size
+    }
+    let bits = f64::to_bits(x);
+    signed(bits >> 63 == 1, whole_part(bits))
+}
+
+// n over 2^k, to the nearest whole number, a tie to the even one.
+fn shifted_to_even(n: u64, k: u32) -> u64
+    requires { ⌜ (0 < k) × (k < 64) ⌝ }
+    ensures { λ r. ⌜ r ≡ closest n (2 ^ k) ⌝ }
+{
+    let kept = n >> k;
+    let rest = n & ((1u64 << k) - 1);
+    let half = 1u64 << (k - 1);
+    if rest < half {
+        return kept;
+    }
+    if rest > half {
+        return kept + 1;
+    }
+    kept + (kept & 1)
+}
+
+pub fn u64_to_f64(n: u64) -> f64
+    ensures { λ r. ⌜ r ≡ ofU64 n ⌝ }
+{
+    if n < 0x20_0000_0000_0000 {
+        return n as f64;
+    }
+    let k = 11 - u64::leading_zeros(n);
+    // The leading digit adds one to the exponent's field, and a carry out of the fraction another.
+    f64::from_bits(((k as u64 + 1074) << 52) + shifted_to_even(n, k))
+}
+
+pub fn i64_to_f64(n: i64) -> f64
+    ensures { λ r. ⌜ r ≡ ofI64 n ⌝ }
+{
+    if n >= 0 {
+        return u64_to_f64(n as u64);
+    }
+    // The complement, one less than the size, is an i64 even at i64::MIN.
+    -u64_to_f64((!n) as u64 + 1)
+}

@@ -1,0 +1,6 @@
+-- Laws of the figures, by what they speak of.
+pub mod Answered
+pub mod Double
+pub mod EverySeries
+pub mod Gathering
+pub mod OnePass
