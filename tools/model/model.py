@@ -277,6 +277,12 @@ def truncated_to(quantity, price, step, most):
     return -size if quantity < 0 else size
 
 
+def sized(gap, price, step):
+    """'the gap becomes shares, truncated, snapped toward zero to the step, then clamped'."""
+    size = snapped(abs(gap) * SCALE // price, step)
+    return clamp(size if gap > 0 else -size)
+
+
 def planned(settings, symbol, quantity, price, drift):
     """The order that a close or a target becomes, or None where it is skipped."""
     if settings.no_trade_band_bps > 0.0 and drift <= settings.no_trade_band_bps:
@@ -302,8 +308,8 @@ def plan(account, targets, prices, equity):
             price = prices[symbol]
             worth = value(account.positions.get(symbol, Position()).quantity, price)
             gap = clamp(to_i64(float(equity) * weight) - worth)
-            size = snapped(abs(gap) * SCALE // price, settings.quantity_step)
-            orders.append(planned(settings, symbol, clamp(size if gap > 0 else -size), price, drift_of(gap, equity)))
+            quantity = sized(gap, price, settings.quantity_step)
+            orders.append(planned(settings, symbol, quantity, price, drift_of(gap, equity)))
     return [order for order in orders if order is not None]
 
 
