@@ -21,12 +21,12 @@ use lib.Ieee.Scale.{grid, overflow, round-val}
 use lib.Ieee.Back.{whole-unique}
 
 -- ---- the comparison of the rest with a half says which way
-abbrev Cmp : Ordering → ℕ → ℕ → Type 0
+abbrev pub Cmp : Ordering → ℕ → ℕ → Type 0
 Cmp Ordering·lt a b = a < b
 Cmp Ordering·eq a b = a ≡ b
 Cmp Ordering·gt a b = b < a
 
-compared : (a b : ℕ) → Cmp (compare a b) a b
+pub compared : (a b : ℕ) → Cmp (compare a b) a b
 compared a b = go (compare a b) (leb→le a b) (nleb→lt a b) (eqb→eq a b) (λ (e : a ≡ b). subst (λ (x : ℕ). T (eqb a x)) e (eqb-refl a))
   where
     go : (o : Ordering) → (T (isLe o) → a ≤ b) → (T (not (isLe o)) → b < a) → (T (isEq o) → a ≡ b) → (a ≡ b → T (isEq o)) → Cmp o a b
@@ -150,7 +150,7 @@ pattern-no-nan e q lo hi h =
     subst (λ (b : Bool). T (not b)) (sym (nanBits-is binary64 (e * 2 ^ 52 + q))) (valued-no-nan (ofBits binary64 (e * 2 ^ 52 + q)) false (q * 2 ^ e) (2 ^ 1074) (pattern-value e q lo hi h))
 
 -- ---- what `round` keeps of an integer n with 53 + k digits
-whole-value : (x : Float) (s : Bool) (a l : ℕ) → 0 < l → HasValue x s (a * l) l → HasValue x s a 1
+pub whole-value : (x : Float) (s : Bool) (a l : ℕ) → 0 < l → HasValue x s (a * l) l → HasValue x s a 1
 whole-value nan s a l L v = v
 whole-value (inf t) s a l L v = v
 whole-value (fin t m e) s a l L v = (
@@ -181,7 +181,7 @@ module _ (n k : ℕ) (lo : 2 ^ (52 + k) ≤ n) (hi : n < 2 ^ (53 + k)) (K : k �
       closest-same (n * 2 ^ 1074) (1 * 2 ^ (k + 1074)) n (2 ^ k) (lt-of-lt-of-le (pow-pos (k + 1074)) (le-of-eq (sym (one-mul (2 ^ (k + 1074)))))) (pow-pos k)
       (mul-assoc n (2 ^ 1074) (2 ^ k) ∙ ap (λ (x : ℕ). n * x) (mul-comm (2 ^ 1074) (2 ^ k) ∙ sym (pow-add 2 k 1074) ∙ sym (one-mul (2 ^ (k + 1074)))))
 
-  grid-is : grid binary64 n 1 ≡ closest n (2 ^ k) * 2 ^ k * 2 ^ 1074
+  pub grid-is : grid binary64 n 1 ≡ closest n (2 ^ k) * 2 ^ k * 2 ^ 1074
   grid-is =
       (λ i. closest (n * 2 ^ 1074) (1 * 2 ^ (dropped i)) * 2 ^ (dropped i)) ∙ ap (λ (x : ℕ). x * 2 ^ (k + 1074)) kept-is ∙ ap (λ (x : ℕ). closest n (2 ^ k) * x) (pow-add 2 k 1074)
       ∙ sym (mul-assoc (closest n (2 ^ k)) (2 ^ k) (2 ^ 1074))
@@ -192,7 +192,7 @@ module _ (n k : ℕ) (lo : 2 ^ (52 + k) ≤ n) (hi : n < 2 ^ (53 + k)) (K : k �
   pub leading-le : closest n (2 ^ k) ≤ 2 ^ 53
   leading-le = le-trans (nearest-le (n / 2 ^ k) (compare (n % 2 ^ k * 2) (2 ^ k))) (div-lt-iff-lt-mul (pow-pos k) .1 (lt-of-lt-of-le hi (le-of-eq (pow-add 2 53 k))))
 
-  grid-small : grid binary64 n 1 < overflow binary64
+  pub grid-small : grid binary64 n 1 < overflow binary64
   grid-small =
       lt-of-le-of-lt (le-trans (le-of-eq grid-is) (mul-le-mul-right (2 ^ 1074) (mul-le-mul-right (2 ^ k) leading-le)))
       (lt-of-le-of-lt (le-of-eq (ap (λ (x : ℕ). x * 2 ^ 1074) (sym (pow-add 2 53 k)) ∙ sym (pow-add 2 (53 + k) 1074))) (pow-lt {i = 53 + k + 1074} {j = 2098} (omega arith)))

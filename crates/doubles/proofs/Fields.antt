@@ -2,13 +2,13 @@
 use mathlib.Core.Path.{_≡_, refl, sym, ap, _∙_, subst}
 use mathlib.Core.Bool.{Bool, true, false, not, cond}
 use Prim.Native.Nat.{ℕ, zero, suc, _+_, _-_, _*_, _/_, _%_, _^_, _≤_, _<_, min}
-use native.Mathlib.Nat.{mul-one, add-mul, le-of-eq, le-trans}
+use native.Mathlib.Nat.{mul-one, add-mul, mod-lt, le-of-eq, le-trans}
 use native.Mathlib.Omega.{arith}
 use lib.Bits.{bitAnd, bitOr, and-mask, or-shifted-r}
-use lib.Dec.{T, leb, eqb, eqb→eq, leb→le, le→leb}
-use lib.Pow.{field}
+use lib.Dec.{T, leb, eqb, eqb→eq, leb→le, le→leb, not-T}
+use lib.Pow.{pow-pos, field}
 use lib.Ieee.{Float, nan, inf, fin, binary64, odd, ne, isNan, fits, ofFields, ofBits, toBits}
-use lib.Ieee.Bits.{ofBits-toBits, toBits-lt}
+use lib.Ieee.Bits.{ofBits-toBits, toBits-lt, is-true, is-false}
 use lib.Ieee.Compare.{differs-from-itself, nan-differs}
 use lib.Ieee.Fits.{eq→eqb}
 use lib.Ieee.Exact.{HasValue, odd-sign}
@@ -36,11 +36,11 @@ like-itself (fin s m e) h = tt
 pub exponent-mask : (b : ℕ) → bitAnd (b / 2 ^ 52) 0x7ff ≡ exponentOf b
 exponent-mask b = and-mask (b / 2 ^ 52) 11 ∙ sym (field b 11 52)
 
-pub fraction-mask : (b : ℕ) → bitAnd b 0xf_ffff_ffff_ffff ≡ fractionOf b
-fraction-mask b = and-mask b 52
+pub fraction-lt : (b : ℕ) → fractionOf b < 2 ^ 52
+fraction-lt b = mod-lt b (pow-pos 52)
 
-pub leading-digit : (t : ℕ) → t < 2 ^ 52 → bitOr t 0x10_0000_0000_0000 ≡ 2 ^ 52 + t
-leading-digit t h = or-shifted-r 1 52 t h
+pub significand-mask : (b : ℕ) → bitOr (bitAnd b 0xf_ffff_ffff_ffff) 0x10_0000_0000_0000 ≡ 2 ^ 52 + fractionOf b
+significand-mask b = ap (λ (t : ℕ). bitOr t (2 ^ 52)) (and-mask b 52) ∙ or-shifted-r 1 52 (fractionOf b) (fraction-lt b)
 
 same-test : {a b : Bool} → (T a → T b) → (T b → T a) → a ≡ b
 same-test {a = true} {b = true} f g = refl
@@ -113,6 +113,12 @@ module _ (x : Float) (h : T (fits binary64 x)) where
 
   pub sign-of-bits : eqb (toBits binary64 x / 2 ^ 63) 1 ≡ leb (2 ^ 63) (toBits binary64 x)
   sign-of-bits = sign-bit (toBits binary64 x) (toBits-lt binary64 x h)
+
+  pub sign-set : toBits binary64 x / 2 ^ 63 ≡ 1 → true ≡ leb (2 ^ 63) (toBits binary64 x)
+  sign-set e = sym (is-true (eqb (toBits binary64 x / 2 ^ 63) 1) (eq→eqb e)) ∙ sign-of-bits
+
+  pub sign-clear : (toBits binary64 x / 2 ^ 63 ≡ 1 → ⊥) → false ≡ leb (2 ^ 63) (toBits binary64 x)
+  sign-clear n = sym (is-false (eqb (toBits binary64 x / 2 ^ 63) 1) (not-T (eqb (toBits binary64 x / 2 ^ 63) 1) (λ t. n (eqb→eq (toBits binary64 x / 2 ^ 63) 1 t)))) ∙ sign-of-bits
 
   pub finite-exponent : finite x ≡ not (eqb (exponentOf (toBits binary64 x)) 2047)
   finite-exponent = ap finite (sym fields-are) ∙ finite-fields (leb (2 ^ 63) (toBits binary64 x)) (exponentOf (toBits binary64 x)) (fractionOf (toBits binary64 x))

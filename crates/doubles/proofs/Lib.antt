@@ -3,3 +3,6 @@ pub mod Fields
 pub mod Whole
 pub mod Even
 pub mod Signs
+pub mod Away
+pub mod Order
+pub mod Laws

@@ -2,9 +2,8 @@
 use mathlib.Core.Path.{_≡_, refl, sym, ap, _∙_, subst}
 use mathlib.Core.Bool.{Bool, true, false, not, cond}
 use Prim.Native.Nat.{ℕ, zero, suc, _+_, _-_, _*_, _/_, _%_, _^_, _≤_, _<_, min}
-use native.Mathlib.Nat.{le-of-eq, le-trans, lt-of-lt-of-le, mul-assoc, mul-le-mul-right, mul-lt-mul-of-pos-right, mul-div-mul-right, mul-div-cancel, mod-lt, div-eq-of-lt, div-lt-iff-lt-mul, le-div-iff-mul-le, le-add-right}
+use native.Mathlib.Nat.{le-of-eq, le-trans, lt-of-lt-of-le, mul-assoc, mul-le-mul-right, mul-lt-mul-of-pos-right, mul-div-mul-right, mul-div-cancel, div-eq-of-lt, div-lt-iff-lt-mul, le-div-iff-mul-le, le-add-right}
 use native.Mathlib.Omega.{arith}
-use lib.Bits.{bitOr}
 use lib.Dec.{T, leb}
 use lib.Pow.{pow-pos, pow-add, pow-mono}
 use lib.IntN.{ℤ, pos, negsuc, negℤ}
@@ -12,12 +11,9 @@ use lib.Ieee.{Float, nan, inf, fin, up, down, toSigned}
 use lib.Ieee.Fits.{down-pos}
 use lib.Ieee.Nearest.{div-same}
 use Rattle.doubles.specs.Fields.{exponentOf, fractionOf, unitsOf, wholeOf, signedOf}
-use Rattle.doubles.proofs.Fields.{Sized, leading-digit}
+use Rattle.doubles.proofs.Fields.{Sized, fraction-lt}
 
 -- ---- the size of the fields between powers of two
-pub fraction-lt : (b : ℕ) → fractionOf b < 2 ^ 52
-fraction-lt b = mod-lt b (pow-pos 52)
-
 pub units-lt : (e t k : ℕ) → t < 2 ^ 52 → e ≤ k → unitsOf e t < 2 ^ (52 + k)
 units-lt zero t k l h = lt-of-lt-of-le l (pow-mono {i = 52} {j = 52 + k} (omega arith))
 units-lt (suc e) t k l h =
@@ -87,25 +83,23 @@ held-left (suc e) t l h k =
     below : (n : ℕ) → n < 2 ^ 63 → n % 2 ^ 64 ≡ min n (2 ^ 63)
     below n h = omega arith
 
-module _ (b e t : ℕ) (p : e ≡ exponentOf b) (q : t ≡ fractionOf b) where
-  small : t < 2 ^ 52
-  small = subst (λ (x : ℕ). x < 2 ^ 52) (sym q) (fraction-lt b)
-
-  held : heldAt e t ≡ wholeOf b
+module _ (b e : ℕ) (p : e ≡ exponentOf b) where
+  held : heldAt e (fractionOf b) ≡ wholeOf b
   unfolding wholeOf
-  held i = heldAt (p i) (q i)
+  held i = heldAt (p i) (fractionOf b)
 
   pub whole-none : e < 1023 → 0 ≡ wholeOf b
-  whole-none h = held-none e t small h ∙ held
+  whole-none h = held-none e (fractionOf b) (fraction-lt b) h ∙ held
 
   pub whole-top : 1086 ≤ e → 2 ^ 63 ≡ wholeOf b
-  whole-top h = held-top e t h ∙ held
+  whole-top h = held-top e (fractionOf b) h ∙ held
 
-  pub whole-right : 1023 ≤ e → e < 1075 → bitOr t 0x10_0000_0000_0000 / 2 ^ (1075 - e) ≡ wholeOf b
-  whole-right h k = ap (λ (d : ℕ). d / 2 ^ (1075 - e)) (leading-digit t small) ∙ held-right e t small h k ∙ held
+  module _ (d : ℕ) (q : d ≡ 2 ^ 52 + fractionOf b) where
+    pub whole-right : 1023 ≤ e → e < 1075 → d / 2 ^ (1075 - e) ≡ wholeOf b
+    whole-right h k = ap (λ (d : ℕ). d / 2 ^ (1075 - e)) q ∙ held-right e (fractionOf b) (fraction-lt b) h k ∙ held
 
-  pub whole-left : 1075 ≤ e → e < 1086 → bitOr t 0x10_0000_0000_0000 * 2 ^ (e - 1075) % 2 ^ 64 ≡ wholeOf b
-  whole-left h k = ap (λ (d : ℕ). d * 2 ^ (e - 1075) % 2 ^ 64) (leading-digit t small) ∙ held-left e t small h k ∙ held
+    pub whole-left : 1075 ≤ e → e < 1086 → d * 2 ^ (e - 1075) % 2 ^ 64 ≡ wholeOf b
+    whole-left h k = ap (λ (d : ℕ). d * 2 ^ (e - 1075) % 2 ^ 64) q ∙ held-left e (fractionOf b) (fraction-lt b) h k ∙ held
 
 -- ---- the cast of a double of that sign and size
 min-min : (n a b : ℕ) → b ≤ a → min (min n a) b ≡ min n b

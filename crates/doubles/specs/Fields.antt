@@ -20,6 +20,10 @@ unitsOf (suc e) t = (2 ^ 52 + t) * 2 ^ e
 unfoldable pub wholeOf : ℕ → ℕ
 wholeOf b = min (unitsOf (exponentOf b) (fractionOf b) / 2 ^ 1074) (2 ^ 63)
 
+-- The size of a pattern to the nearest whole number, the upper one at a tie: the size and a half, cut.
+unfoldable pub nearestOf : ℕ → ℕ
+nearestOf b = (2 * unitsOf (exponentOf b) (fractionOf b) + 2 ^ 1074) / (2 * 2 ^ 1074)
+
 -- The number of that sign and size, held to i64's range.
 abbrev pub signedOf : Bool → ℕ → ℤ
 signedOf s n = cond s (negℤ (pos (min n (2 ^ 63)))) (pos (min n (2 ^ 63 - 1)))

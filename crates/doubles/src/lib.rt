@@ -3,7 +3,7 @@ ghost use mathlib.Core.Path.{_≡_};
 ghost use mathlib.Core.Bool.{Bool};
 ghost use Prim.Native.Nat.{_%_, _/_, _^_, _<_, _≤_, _+_, _*_, _-_};
 ghost use lib.Ieee.Nearest.{closest};
-ghost use Rattle.doubles.specs.Fields.{exponentOf, fractionOf, wholeOf, signedOf};
+ghost use Rattle.doubles.specs.Fields.{exponentOf, fractionOf, wholeOf, nearestOf, signedOf};
 ghost use Rattle.doubles.specs.Doubles.{finite, toI64, ofI64, ofU64, roundAway};
 
 // The eleven bits between the sign and the fraction.
@@ -13,11 +13,11 @@ fn exponent(bits: u64) -> u64
     (bits >> 52) & 0x7ff
 }
 
-// The low 52 bits: the digits below the leading one.
-fn fraction(bits: u64) -> u64
-    ensures { λ r. ⌜ r ≡ fractionOf bits ⌝ }
+// The fraction's 52 bits with the leading digit above them, which an exponent field above 0 implies.
+fn significand(bits: u64) -> u64
+    ensures { λ r. ⌜ r ≡ 2 ^ 52 + fractionOf bits ⌝ }
 {
-    bits & 0xf_ffff_ffff_ffff
+    (bits & 0xf_ffff_ffff_ffff) | 0x10_0000_0000_0000
 }
 
 pub fn is_finite(x: f64) -> bool
@@ -40,7 +40,7 @@ fn whole_part(bits: u64) -> u64
     if e >= 1086 {
         return 0x8000_0000_0000_0000;
     }
-    let digits = fraction(bits) | 0x10_0000_0000_0000;
+    let digits = significand(bits);
     if e < 1075 {
         return digits >> (1075 - e);
     }
@@ -109,4 +109,49 @@ pub fn i64_to_f64(n: i64) -> f64
     }
     // The complement, one less than the size, is an i64 even at i64::MIN.
     -u64_to_f64((!n) as u64 + 1)
+}
+
+// The size of a pattern below 2^52, to the nearest whole number, a half upward.
+fn nearest_whole(bits: u64) -> u64
+    requires { ⌜ exponentOf bits < 1075 ⌝ }
+    ensures { λ r. ⌜ r ≡ nearestOf bits ⌝ }
+{
+    let e = exponent(bits);
+    if e < 1022 {
+        return 0;
+    }
+    let digits = significand(bits);
+    let half = 1u64 << (1074 - e);
+    (digits + half) >> (1075 - e)
+}
+
+pub fn round(x: f64) -> f64
+    ensures { λ r. ⌜ r ≡ roundAway x ⌝ }
+{
+    if x != x {
+        return x;
+    }
+    let bits = f64::to_bits(x);
+    // From 2^52 on every double is a whole number.
+    if exponent(bits) >= 1075 {
+        return x;
+    }
+    let size = nearest_whole(bits) as f64;
+    if bits >> 63 == 1 {
+        return -size;
+    }
+    size
+}
+
+pub fn round_to_i64(x: f64) -> i64
+    ensures { λ r. ⌜ r ≡ toI64 (roundAway x) ⌝ }
+{
+    if x != x {
+        return 0;
+    }
+    let bits = f64::to_bits(x);
+    if exponent(bits) < 1075 {
+        return signed(bits >> 63 == 1, nearest_whole(bits));
+    }
+    to_i64(x)
 }

@@ -7,7 +7,6 @@ use Rattle.answer.specs.Numbers.{numberOf}
 use Rattle.answer.specs.declared.Answer.the-variants.{Done, TooLong, BadSeries}
 use Rattle.metrics.specs.Answers.{tooLong, goodSeries, refusal, metricsOf}
 use Rattle.metrics.specs.Figures.{figuresOf}
-use Rattle.metrics.specs.declared.Metrics.{Metrics}
 
 -- "6: a return series is over its bound", "12: a return series is empty or has a non-finite member", in that order
 pub numbered : (rs : List Float) → numberOf (metricsOf rs .answer) ≡ cond (tooLong rs) 6 (cond (goodSeries rs) 0 12)

@@ -1,10 +1,10 @@
 -- The absolute value of a double by a comparison.
-use mathlib.Core.Path.{_≡_, refl, ap}
-use mathlib.Core.Bool.{Bool, true, false, not, _&&_, _||_}
+use mathlib.Core.Path.{_≡_, refl}
+use mathlib.Core.Bool.{true, false, not, _&&_, _||_}
 use Prim.Native.Nat.{ℕ, zero, suc, _+_, _*_, _≤_}
 use native.Mathlib.Omega.{arith}
 use lib.Dec.{eqb}
-use lib.Ieee.{Float, nan, inf, fin, neg, lt, eq, ne, up, down}
+use lib.Ieee.{Float, nan, inf, fin, neg, lt, ne, up, down}
 use borrow.Author.Tests.{ltb-true, ltb-false}
 use Rattle.metrics.specs.Double as D
 use Rattle.metrics.specs.Double.{absolute}

@@ -9,8 +9,8 @@ use lib.Dec.{T, ltb, eqb, eqb→eq}
 use lib.IntN.{ℤ, pos, negsuc}
 use lib.ListN.{length}
 use lib.Pow.{pow-pos}
-use lib.Ieee.{Float, nan, inf, fin, binary64, up, down, lt, eq, le, fits, add, sub, mul, div, neg, round, sum, units, odd, size}
-use lib.Ieee.Fits.{up-pos, down-pos, and-l, and-r}
+use lib.Ieee.{Float, nan, inf, fin, binary64, up, down, lt, eq, le, fits, add, sub, mul, div}
+use lib.Ieee.Fits.{up-pos, and-l}
 use borrow.Author.Tests.{ltb-true, lt-ltb}
 use Rattle.metrics.proofs.OnePass.{equity-is}
 use Rattle.metrics.specs.Double as D

@@ -1,7 +1,7 @@
 -- What the pass over a series has gathered before a place, and that the place moves on.
-use Prim.Native.Nat.{ℕ, suc, _+_, _≤_, _<_}
+use Prim.Native.Nat.{ℕ, _+_, _≤_, _<_}
 use mathlib.Core.Path.{_≡_, refl, sym, ap, _∙_}
-use mathlib.Core.Bool.{Bool, true, false, cond, _&&_}
+use mathlib.Core.Bool.{Bool, true, false, _&&_}
 use mathlib.Core.List.{List, [], _∷_, foldl}
 use native.Mathlib.Omega.{arith}
 use native.Mathlib.Numerals.{add-one}
@@ -14,7 +14,6 @@ use Rattle.metrics.specs.Curve.{flat, curveAfter}
 use Rattle.metrics.specs.Tally.{wins, loses, counted, noReturns, tallyAfter}
 use Rattle.metrics.specs.Gathered.{gathered}
 use Rattle.metrics.specs.declared.curve.Curve.{Curve}
-use Rattle.metrics.specs.declared.series.Gathered.{Gathered}
 use Rattle.metrics.specs.declared.tally.Tally.{Tally}
 
 pub record Gathering (rs : List Float) (f : Bool) (c : Curve) (t : Tally) (i : ℕ) : Type 0 where

@@ -4,3 +4,4 @@ pub mod Double
 pub mod EverySeries
 pub mod Gathering
 pub mod OnePass
+pub mod SumStart

@@ -1,6 +1,6 @@
 -- One pass gives what each figure's own fold, filter or count gives, so its figures are those of the series.
-use Prim.Native.Nat.{ℕ, suc, _+_}
-use mathlib.Core.Path.{_≡_, refl, sym, ap, _∙_}
+use Prim.Native.Nat.{ℕ, _+_}
+use mathlib.Core.Path.{_≡_, refl, ap, _∙_}
 use mathlib.Core.Bool.{Bool, true, false, cond}
 use mathlib.Core.List.{List, [], _∷_, foldl}
 use native.Mathlib.Nat.{zero-add}
@@ -13,9 +13,6 @@ use Rattle.metrics.specs.Tally.{wins, loses, counted, summed, noReturns,
 use Rattle.metrics.specs.Series.{totalReturn, maxDrawdown, filtered, winningPeriods, losingPeriods, sumOf, sumPositive, sumNegative, seriesWinRate, profitFactor, payoffRatio, kelly}
 use Rattle.metrics.specs.Gathered.{tallyPayoff, figuresFrom}
 use Rattle.metrics.specs.Figures.{figuresOf}
-use Rattle.metrics.specs.declared.Figures.{Figures}
-use Rattle.metrics.specs.declared.curve.Curve.{Curve}
-use Rattle.metrics.specs.declared.tally.Tally.{Tally}
 
 -- a part of the state that goes its own way goes it to the end
 pub fold-part : {S A : Type 0} (part : S → A) (f : S → Float → S) (g : A → Float → A) → ((s : S) (r : Float) → part (f s r) ≡ g (part s) r)

@@ -1,19 +1,19 @@
 -- The answer to a return series. Definitions only.
 use mathlib.Core.Bool.{Bool, cond, _&&_}
 use mathlib.Core.List.{List}
-use Prim.Native.Nat.{ℕ}
 use lib.Dec.{ltb}
 use lib.ListN.{length}
 use lib.Ieee.{Float}
 use Rattle.answer.specs.declared.Answer.{Answer}
 use Rattle.answer.specs.declared.Answer.the-variants.{Done, TooLong, BadSeries}
 use Rattle.metrics.specs.Double.{allFinite}
+use Rattle.metrics.specs.Tally.{mostReturns}
 use Rattle.metrics.specs.Figures.{figuresOf, noFigures}
 use Rattle.metrics.specs.declared.Metrics.{Metrics}
 
--- "4,096 returns in one set of figures"
+-- "a list or return series is over its bound"
 abbrev pub tooLong : List Float → Bool
-tooLong rs = ltb 4096 (length rs)
+tooLong rs = ltb mostReturns (length rs)
 
 -- "a return series is empty or has a non-finite member"
 abbrev pub goodSeries : List Float → Bool

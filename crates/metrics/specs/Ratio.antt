@@ -1,5 +1,5 @@
 -- The quotients among the figures, as the Rust's `compute_metrics` has them. Definitions only.
-use mathlib.Core.Bool.{Bool, cond, _&&_}
+use mathlib.Core.Bool.{cond, _&&_}
 use Prim.Native.Nat.{ℕ}
 use lib.Dec.{ltb}
 use lib.Ieee.{Float, binary64, sub, div, lt, ne}

@@ -1,5 +1,5 @@
 -- Each figure of a whole series as its own fold, filter or count, as the Rust's `compute_metrics` takes it. Definitions only.
-use mathlib.Core.Bool.{Bool, true, false, cond}
+use mathlib.Core.Bool.{Bool, cond}
 use mathlib.Core.List.{List, [], _∷_, foldl}
 use Prim.Native.Nat.{ℕ}
 use lib.ListN.{length}

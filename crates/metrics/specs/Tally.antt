@@ -5,6 +5,10 @@ use lib.Ieee.{Float, binary64, add, lt}
 use Rattle.metrics.specs.Double.{zero}
 use Rattle.metrics.specs.declared.tally.Tally.{Tally}
 
+-- "4,096 returns in one set of figures"
+abbrev pub mostReturns : ℕ
+mostReturns = 4096
+
 -- `r > 0.0`
 abbrev pub wins : Float → Bool
 wins r = lt zero r

@@ -79,7 +79,8 @@ fn figures_of(num_periods: u64, curve: curve::Curve, tally: tally::Tally) -> Fig
     }
 }
 
-// Compute performance metrics from a series of periodic returns.
+// Compute performance metrics from a series of periodic returns: answer 6 for a series over its bound,
+// then 12 for one that is empty or has a non-finite member.
 pub fn compute_metrics(returns: &[f64]) -> Metrics
     ensures { λ r. ⌜ r ≡ metricsOf (now (returns .entry)) ⌝ }
 {

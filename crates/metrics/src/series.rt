@@ -2,6 +2,7 @@
 ghost use mathlib.Core.Path.{_≡_};
 ghost use Prim.Native.Nat.{_≤_};
 ghost use lib.ListN.{length};
+ghost use Rattle.metrics.specs.Tally.{mostReturns};
 ghost use Rattle.metrics.specs.Gathered.{gathered};
 use crate::curve::Curve;
 use crate::tally::Tally;
@@ -16,7 +17,7 @@ pub(crate) struct Gathered {
 
 // The figures' passes over the series in one: each reads the returns in the same order.
 pub(crate) fn gather(returns: &[f64]) -> Gathered
-    requires { ⌜ length (now returns) ≤ 4096 ⌝ }
+    requires { ⌜ length (now returns) ≤ mostReturns ⌝ }
     ensures { λ r. ⌜ r ≡ gathered (now (returns .entry)) ⌝ }
 {
     let mut finite = true;

@@ -1,7 +1,7 @@
 // The winning and the losing returns: how many, and what they come to.
 ghost use mathlib.Core.Path.{_≡_};
 ghost use Prim.Native.Nat.{_<_};
-ghost use Rattle.metrics.specs.Tally.{counted, summed, noReturns, tallyAfter};
+ghost use Rattle.metrics.specs.Tally.{mostReturns, counted, summed, noReturns, tallyAfter};
 
 pub(crate) struct Tally {
     pub(crate) winning_periods: u64,
@@ -12,7 +12,7 @@ pub(crate) struct Tally {
 
 // One more where the return counts.
 fn counted(n: u64, counts: bool) -> u64
-    requires { ⌜ n < 4096 ⌝ }
+    requires { ⌜ n < mostReturns ⌝ }
     ensures { λ r. ⌜ r ≡ counted n counts ⌝ }
 {
     if counts { n + 1 } else { n }
@@ -26,7 +26,7 @@ fn summed(sum: f64, counts: bool, r: f64) -> f64
 }
 
 impl Tally {
-    // Before the first return. The Rust's `sum` starts at -0.0.
+    // Before the first return. The Rust's `sum` starts at -0.0, which shows only in the sign of a sum of nothing.
     pub(crate) fn start() -> Self
         ensures { λ r. ⌜ r ≡ noReturns ⌝ }
     {
@@ -40,7 +40,7 @@ impl Tally {
 
     // After one more return.
     pub(crate) fn after(self, r: f64) -> Self
-        requires { ⌜ (self .«winning_periods» < 4096) × (self .«losing_periods» < 4096) ⌝ }
+        requires { ⌜ (self .«winning_periods» < mostReturns) × (self .«losing_periods» < mostReturns) ⌝ }
         ensures { λ t. ⌜ t ≡ tallyAfter self r ⌝ }
     {
         let wins = r > 0.0;

@@ -22,5 +22,14 @@ fresh s = row s (pos 0) (pos 0) (pos 0) (pos 0)
 abbrev pub keyOf : Position → ℕ
 keyOf p = p .symbol .0
 
+abbrev pub held : Position → ℤ
+held p = p .quantity .0
+
 abbrev pub avg : Position → ℤ
 avg p = p .«avg_entry_price»
+
+abbrev pub realized : Position → ℤ
+realized p = p .«realized_pnl»
+
+abbrev pub total : Position → ℤ
+total p = p .«total_cost»

@@ -1,12 +1,13 @@
 -- Laws of lists in ascending order of a key: what a search finds after an insertion, and that insertions commute.
 use Prim.Native.Nat.{ℕ, zero, suc, _+_, _≤_, _<_}
 use mathlib.Core.List.{List, [], _∷_, map}
-use mathlib.Core.Bool.{Bool, true, false}
+use mathlib.Core.Bool.{Bool, true, false, _&&_}
 use mathlib.Core.Option.{Option, none, some}
 use mathlib.Core.Path.{_≡_, refl, sym, ap, _∙_}
 use native.Mathlib.Omega.{arith}
 use lib.Dec.{eqb, leb, ltb}
-use lib.ListN.{length, getD}
+use lib.ListN.{length, getD, drop}
+use lib.Seq.{drop-cons}
 use borrow.Author.Tests.{ltb-true, ltb-false, eqb-true, eqb-false, leb-true, leb-false, le-leb, lt-leb, lt-ltb, le-ltb, eq-eqb, ne-eqb}
 use Rattle.table.specs.Keyed.{pick, both, there, new, seek, put, put64, over, ascending, Over, Rising}
 
@@ -37,6 +38,10 @@ rising-strict (x ∷ l) zero (suc j) r h g = above-all x l j (r .0) (r .1) (omeg
 rising-strict (x ∷ l) (suc i) (suc j) r h g = rising-strict l i j (r .1) (omega arith) (omega arith)
 
 -- the test and the fact
+pub and-both : (a b : Bool) → a && b ≡ both a b
+and-both true b = refl
+and-both false b = refl
+
 pub both-false : (a : Bool) → both a false ≡ false
 both-false true = refl
 both-false false = refl
@@ -62,6 +67,26 @@ true-over x (y ∷ l) o = lt-ltb x y o
 pub rising-ascends : (l : List ℕ) → Rising l → ascending l ≡ true
 rising-ascends [] r = refl
 rising-ascends (x ∷ l) r = simp (true-over x l (r .0), rising-ascends l (r .1))
+
+-- a walk over neighbours
+module _ (l : List ℕ) (i : ℕ) where
+  two : i + 1 < length l → drop i l ≡ getD l i 0 ∷ (getD l (i + 1) 0 ∷ drop (suc (i + 1)) l)
+  two h =
+      let e : suc i ≡ i + 1 = omega arith in
+      drop-cons l i 0 (omega arith) ∙ ap (λ t. getD l i 0 ∷ t) (ap (λ k. drop k l) e ∙ drop-cons l (i + 1) 0 h)
+
+  pub ascending-on : i + 1 < length l → getD l i 0 < getD l (i + 1) 0 → ascending (drop i l) ≡ ascending (drop (i + 1) l)
+  ascending-on h g = ap ascending (two h) ∙ simp (lt-ltb _ _ g) (ap ascending (sym (drop-cons l (i + 1) 0 h)))
+
+  pub ascending-not : i + 1 < length l → getD l (i + 1) 0 ≤ getD l i 0 → ascending (drop i l) ≡ false
+  ascending-not h g = ap ascending (two h) ∙ simp (le-ltb _ _ g)
+
+pub ascending-end : (l : List ℕ) (i : ℕ) → length l ≤ i + 1 → ascending (drop i l) ≡ true
+ascending-end [] zero h = refl
+ascending-end [] (suc i) h = refl
+ascending-end (x ∷ []) zero h = refl
+ascending-end (x ∷ (y ∷ l)) zero h = absurd (omega arith)
+ascending-end (x ∷ l) (suc i) h = ascending-end l i (omega arith)
 
 module _ {A : Type 0} (key : A → ℕ) where
   put-below : (p q : A) (qs : List A) → key p < key q → put key p (q ∷ qs) ≡ p ∷ (q ∷ qs)

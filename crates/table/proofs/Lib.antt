@@ -2,4 +2,6 @@
 pub mod Keyed
 pub mod Places
 pub mod Columns
+pub mod Zipped
 pub mod Posting
+pub mod Ordering

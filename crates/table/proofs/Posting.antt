@@ -20,67 +20,8 @@ use Rattle.table.specs.declared.found.Found.{Found}
 use Rattle.table.specs.declared.found.Found.the-variants.{At, Absent}
 use Rattle.table.proofs.Keyed.{put64-rises}
 use Rattle.table.proofs.Places.{Stands, Lacks, stands, lacks}
-use Rattle.table.proofs.Columns.{insertAt, length-opened, take-opened, drop-opened, zip-set, zip-opened, zip-length, zip-getD}
-
--- ---- the five columns as one list
-pub zipped-set : (i : ℕ) (p : Position) (c : Cols) → zipped (setAll i p c) ≡ set (zipped c) i p
-unfolding zipped
-zipped-set i p c = simp zip-set
-
-pub zipped-open : (i m : ℕ) (p : Position) (c : Cols) → zipped (openAll i m p c) ≡ opened i m p (zipped c)
-unfolding zipped
-zipped-open i m p c = simp zip-opened
-
-abbrev z1 : Cols → List (ℤ → ℤ → ℤ → Position)
-z1 c = zip2 row (c .symbol) (c .quantity)
-
-abbrev z2 : Cols → List (ℤ → ℤ → Position)
-z2 c = zip2 give (z1 c) (c .average)
-
-abbrev z3 : Cols → List (ℤ → Position)
-z3 c = zip2 give (z2 c) (c .realized)
-
-l1 : (c : Cols) → Full c → length (z1 c) ≡ 64
-l1 c f = zip-length row 64 (c .symbol) (c .quantity) (f .symbol) (f .quantity)
-
-l2 : (c : Cols) → Full c → length (z2 c) ≡ 64
-l2 c f = zip-length give 64 (z1 c) (c .average) (l1 c f) (f .average)
-
-l3 : (c : Cols) → Full c → length (z3 c) ≡ 64
-l3 c f = zip-length give 64 (z2 c) (c .realized) (l2 c f) (f .realized)
-
-pub zipped-length : (c : Cols) → Full c → length (zipped c) ≡ 64
-unfolding zipped
-zipped-length c f = zip-length give 64 (z3 c) (c .total) (l3 c f) (f .total)
-
--- what stands at a place
-pub zipped-at : (c : Cols) (i : ℕ) → Full c → getD (zipped c) i (fresh 0) ≡ row (getD (c .symbol) i 0) (getD (c .quantity) i (pos 0)) (getD (c .average) i (pos 0)) (getD (c .realized) i (pos 0)) (getD (c .total) i (pos 0))
-unfolding zipped
-zipped-at c i f =
-    let e1 : getD (z1 c) i (row 0 (pos 0)) ≡ row (getD (c .symbol) i 0) (getD (c .quantity) i (pos 0)) = zip-getD row (c .symbol) (c .quantity) i 0 (pos 0) (f .symbol ∙ sym (f .quantity)) in
-    let e2 : getD (z2 c) i (row 0 (pos 0) (pos 0)) ≡ getD (z1 c) i (row 0 (pos 0)) (getD (c .average) i (pos 0)) = zip-getD give (z1 c) (c .average) i (row 0 (pos 0)) (pos 0) (l1 c f ∙ sym (f .average)) in
-    let e3 : getD (z3 c) i (row 0 (pos 0) (pos 0) (pos 0)) ≡ getD (z2 c) i (row 0 (pos 0) (pos 0)) (getD (c .realized) i (pos 0)) = zip-getD give (z2 c) (c .realized) i (row 0 (pos 0) (pos 0)) (pos 0) (l2 c f ∙ sym (f .realized)) in
-    zip-getD give (z3 c) (c .total) i (row 0 (pos 0) (pos 0) (pos 0)) (pos 0) (l3 c f ∙ sym (f .total))
-    ∙ ap (λ g. g (getD (c .total) i (pos 0))) (e3 ∙ ap (λ g. g (getD (c .realized) i (pos 0))) (e2 ∙ ap (λ g. g (getD (c .average) i (pos 0))) e1))
-
--- the keys of the list are the key column
-keys : (n : ℕ) (k : List ℕ) (q a r t : List ℤ) → length k ≡ n → length q ≡ n → length a ≡ n → length r ≡ n → length t ≡ n → map keyOf (zip2 give (zip2 give (zip2 give (zip2 row k q) a) r) t) ≡ k
-keys n [] q a r t hk hq ha hr ht = refl
-keys zero (x ∷ k) q a r t hk hq ha hr ht = absurd (omega arith)
-keys (suc n) (x ∷ k) [] a r t hk hq ha hr ht = absurd (omega arith)
-keys (suc n) (x ∷ k) (y ∷ q) [] r t hk hq ha hr ht = absurd (omega arith)
-keys (suc n) (x ∷ k) (y ∷ q) (z ∷ a) [] t hk hq ha hr ht = absurd (omega arith)
-keys (suc n) (x ∷ k) (y ∷ q) (z ∷ a) (u ∷ r) [] hk hq ha hr ht = absurd (omega arith)
-keys (suc n) (x ∷ k) (y ∷ q) (z ∷ a) (u ∷ r) (v ∷ t) hk hq ha hr ht = ap (λ l. x ∷ l) (keys n k q a r t (omega arith) (omega arith) (omega arith) (omega arith) (omega arith))
-
-map-take : (n : ℕ) (l : List Position) → map keyOf (take n l) ≡ take n (map keyOf l)
-map-take zero l = refl
-map-take (suc n) [] = refl
-map-take (suc n) (x ∷ l) = ap (λ t. keyOf x ∷ t) (map-take n l)
-
-pub keys-of : (n : ℕ) (c : Cols) → Full c → map keyOf (rows n c) ≡ take n (c .symbol)
-unfolding zipped
-keys-of n c f = map-take n _ ∙ ap (take n) (keys 64 (c .symbol) (c .quantity) (c .average) (c .realized) (c .total) (f .symbol) (f .quantity) (f .average) (f .realized) (f .total))
+use Rattle.table.proofs.Columns.{insertAt, length-opened, take-opened, drop-opened}
+use Rattle.table.proofs.Zipped.{zipped-set, zipped-open, zipped-length, zipped-at, keys-of}
 
 full-set : (i : ℕ) (p : Position) (c : Cols) → Full c → Full (setAll i p c)
 full-set i p c f = record { symbol = simp length-set (f .symbol); quantity = simp length-set (f .quantity); average = simp length-set (f .average); realized = simp length-set (f .realized); total = simp length-set (f .total) }

@@ -5,7 +5,7 @@ use mathlib.Core.List.{List, [], _∷_}
 use mathlib.Core.Bool.{Bool, true, false}
 use lib.ListN.{length, take, drop, set, getD, replicate}
 use lib.Dec.{eqb, leb, ltb}
-use lib.IntN.{ℤ, pos}
+use lib.IntN.{ℤ, pos, negsuc}
 use Rattle.position.specs.Rows.{row, fresh, keyOf}
 use Rattle.position.specs.declared.position.Position.{Position}
 use Rattle.table.specs.Keyed.{pick, both, orElse, seek, put64, ascending, Rising}
@@ -52,6 +52,33 @@ pub record Ordered (n : ℕ) (c : Cols) : Type 0 where
   pub full : Full c
   pub rising : Rising (take n (c .symbol))
   pub rest : drop n (zipped c) ≡ replicate (64 - n) (fresh 0)
+
+-- the same as a test
+abbrev pub isZero : ℤ → Bool
+isZero (pos zero) = true
+isZero (pos (suc n)) = false
+isZero (negsuc n) = false
+
+abbrev pub all : {A : Type 0} → (A → Bool) → List A → Bool
+all f [] = true
+all f (x ∷ l) = both (f x) (all f l)
+
+abbrev pub zeros : List ℕ → Bool
+zeros l = all (λ x. eqb x 0) l
+
+abbrev pub zerosZ : List ℤ → Bool
+zerosZ l = all isZero l
+
+unfoldable pub unused : ℕ → Cols → Bool
+unused n c =
+    both (zeros (drop n (c .symbol)))
+    (both (zerosZ (drop n (c .quantity)))
+    (both (zerosZ (drop n (c .average)))
+    (both (zerosZ (drop n (c .realized)))
+    (zerosZ (drop n (c .total))))))
+
+unfoldable pub ordered : ℕ → Cols → Bool
+ordered n c = both (leb n 64) (both (ascending (take n (c .symbol))) (unused n c))
 
 -- ---- the table as a list
 -- the position of a symbol, flat where there is none

@@ -12,7 +12,7 @@ pub enum Found {
 }
 
 // The count of a column's places in use, however many it is said to have.
-fn used(n: usize, length: usize) -> usize
+pub(crate) fn used(n: usize, length: usize) -> usize
     ensures { λ r. ⌜ r ≡ shorter n length ⌝ }
 {
     if n < length { n } else { length }

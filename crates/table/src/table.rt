@@ -1,7 +1,7 @@
 // Positions as a count and five columns of 64 places, and one position read or written in them.
 ghost use mathlib.Core.Path.{_≡_};
-ghost use Prim.Native.Nat.{_≤_, _<_};
-ghost use Rattle.table.specs.Rows.{counted, cols, emptyTable, heldAt, posted};
+ghost use Prim.Native.Nat.{_-_, _≤_, _<_};
+ghost use Rattle.table.specs.Rows.{counted, cols, emptyTable, heldAt, setAll, openAll, posted};
 use crate::column::open_number;
 use crate::column::open_symbol;
 use crate::found::Found;
@@ -41,12 +41,12 @@ impl Table {
 }
 
 // The position at the place that was found, or a flat one of the symbol.
-pub fn held(
-    symbol: &[u64; 64],
-    quantity: &[i64; 64],
-    average: &[i64; 64],
-    realized: &[i64; 64],
-    total: &[i64; 64],
+pub fn held<'a>(
+    symbol: &'a [u64; 64],
+    quantity: &'a [i64; 64],
+    average: &'a [i64; 64],
+    realized: &'a [i64; 64],
+    total: &'a [i64; 64],
     f: Found,
     s: u64,
 ) -> Position
@@ -71,6 +71,54 @@ pub fn held(
     Position::new(Symbol(s))
 }
 
+// Writes the position at place i.
+fn replace(
+    symbol: &mut [u64; 64],
+    quantity: &mut [i64; 64],
+    average: &mut [i64; 64],
+    realized: &mut [i64; 64],
+    total: &mut [i64; 64],
+    i: usize,
+    p: Position,
+)
+    requires { ⌜ i < 64 ⌝ }
+    ensures { λ r. ⌜ cols (now (symbol .exit)) (now (quantity .exit)) (now (average .exit)) (now (realized .exit)) (now (total .exit))
+        ≡ setAll i p (cols (now (symbol .entry)) (now (quantity .entry)) (now (average .entry)) (now (realized .entry)) (now (total .entry))) ⌝ }
+{
+    let s = p.symbol.0;
+    let q = p.quantity.0;
+    let a = p.avg_entry_price;
+    let g = p.realized_pnl;
+    let t = p.total_cost;
+    symbol[i] = s;
+    quantity[i] = q;
+    average[i] = a;
+    realized[i] = g;
+    total[i] = t;
+}
+
+// Inserts the position at place i of the first n, and moves those from i on one up.
+fn insert(
+    symbol: &mut [u64; 64],
+    quantity: &mut [i64; 64],
+    average: &mut [i64; 64],
+    realized: &mut [i64; 64],
+    total: &mut [i64; 64],
+    i: usize,
+    n: usize,
+    p: Position,
+)
+    requires { ⌜ (i ≤ n) × (n < 64) ⌝ }
+    ensures { λ r. ⌜ cols (now (symbol .exit)) (now (quantity .exit)) (now (average .exit)) (now (realized .exit)) (now (total .exit))
+        ≡ openAll i (n - i) p (cols (now (symbol .entry)) (now (quantity .entry)) (now (average .entry)) (now (realized .entry)) (now (total .entry))) ⌝ }
+{
+    open_symbol(symbol, i, n, p.symbol.0);
+    open_number(quantity, i, n, p.quantity.0);
+    open_number(average, i, n, p.avg_entry_price);
+    open_number(realized, i, n, p.realized_pnl);
+    open_number(total, i, n, p.total_cost);
+}
+
 // Writes the position at the place that was found for its symbol, or inserts it there; returns the count.
 // A full table has no room for another symbol and stays as it is.
 pub fn post(
@@ -86,29 +134,16 @@ pub fn post(
     ensures { λ r. ⌜ counted r (cols (now (symbol .exit)) (now (quantity .exit)) (now (average .exit)) (now (realized .exit)) (now (total .exit)))
         ≡ posted f p (counted n (cols (now (symbol .entry)) (now (quantity .entry)) (now (average .entry)) (now (realized .entry)) (now (total .entry)))) ⌝ }
 {
-    let s = p.symbol.0;
-    let q = p.quantity.0;
-    let a = p.avg_entry_price;
-    let g = p.realized_pnl;
-    let t = p.total_cost;
     match f {
         Found::At(i) => {
             if i < 64 {
-                symbol[i] = s;
-                quantity[i] = q;
-                average[i] = a;
-                realized[i] = g;
-                total[i] = t;
+                replace(symbol, quantity, average, realized, total, i, p);
             }
             n
         }
         Found::Absent(i) => {
             if n < 64 && i <= n {
-                open_symbol(symbol, i, n, s);
-                open_number(quantity, i, n, q);
-                open_number(average, i, n, a);
-                open_number(realized, i, n, g);
-                open_number(total, i, n, t);
+                insert(symbol, quantity, average, realized, total, i, n, p);
                 n + 1
             } else {
                 n

@@ -1,6 +1,6 @@
 -- `metrics::compute_metrics` meets its contract: each return goes by the tests that led there, and the figures of the pass are those of the series.
 use borrow.Author.Needs.{needs}
-use mathlib.Core.Path.{_≡_, sym, ap, _∙_}
+use mathlib.Core.Path.{sym, ap, _∙_}
 use native.Mathlib.Omega.{arith}
 use Prim.Native.Nat.{_<_}
 use lib.ListN.{length}

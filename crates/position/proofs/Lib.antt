@@ -1,0 +1,4 @@
+-- Laws of symbols, shares and positions.
+pub mod Counts
+pub mod Symbols
+pub mod Fills
