@@ -24,6 +24,9 @@ const ROWS: &[(&str, Inputs)] = &[
     ("tc_saturating_neg", [signed(i64::MIN), 0, 0]),
     ("tc_i64_to_f64", [(1 << 53) + 1, 0, 0]),
     ("tc_u64_to_f64", [u64::MAX, 0, 0]),
+    ("tc_round", [0x3fdf_ffff_ffff_ffff, 0, 0]),
+    ("tc_round", [0x4004_0000_0000_0000, 0, 0]),
+    ("tc_round_to_i64", [0xbfe0_0000_0000_0000, 0, 0]),
     ("tc_to_i64", [0x7ff8_0000_0000_0000, 0, 0]),
     ("tc_to_i64", [0x43e0_0000_0000_0000, 0, 0]),
 ];

@@ -20,4 +20,6 @@ unsafe extern "C" {
     pub safe fn tc_to_i64(x: f64) -> i64;
     pub safe fn tc_i64_to_f64(n: i64) -> f64;
     pub safe fn tc_u64_to_f64(n: u64) -> f64;
+    pub safe fn tc_round(x: f64) -> f64;
+    pub safe fn tc_round_to_i64(x: f64) -> i64;
 }
