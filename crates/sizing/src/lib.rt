@@ -2,7 +2,9 @@
 ghost use mathlib.Core.Path.{_≡_};
 ghost use Rattle.words.specs.Sums.{notional};
 ghost use Rattle.words.specs.Wide.{wide};
+ghost use Rattle.sizing.specs.Afford.{need};
 ghost use Rattle.sizing.specs.Sizing.{above, sharesFor, sized, cutTo, drift};
+use cost_model::CostModel;
 use position::Shares;
 use words::Wide;
 
@@ -55,4 +57,18 @@ pub fn drift_bps_of(value: i64, equity: i64) -> f64
     ensures { λ r. ⌜ r ≡ drift value equity ⌝ }
 {
     doubles::u64_to_f64(words::unsigned_abs(value)) / doubles::i64_to_f64(equity) * 10_000.0
+}
+
+// "A buy's need is notional plus commission, saturating."
+pub fn buy_cash_required(quantity: Shares, price: i64, costs: CostModel) -> i64
+    ensures { λ r. ⌜ r ≡ need costs (quantity .0) price ⌝ }
+{
+    if quantity.0 <= 0 {
+        return 0;
+    }
+    if price <= 0 {
+        return 0;
+    }
+    let notional = notional_of(quantity, price);
+    words::saturating_add(notional, costs.compute_cost(notional))
 }
