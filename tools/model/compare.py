@@ -1,12 +1,14 @@
 """Plays the scenarios on standard input on the model and holds its answers to those written beside them.
 
 usage: harness scenarios SEED COUNT | python3 tools/model/compare.py
+       harness spoiled SEED COUNT | python3 tools/model/compare.py
 
-The text is that of rust/scenario: a call after '>', what it gave and the account after it after '<'. Exit status 1
-where an answer differs, or where nothing was compared.
+The text is that of rust/scenario: a call after '>', what it gave and the account after it after '<'. A call with no
+answer beside it is played and its answer number counted. Exit status 1 where an answer differs, or nothing was played.
 """
 import struct
 import sys
+from collections import Counter
 
 import model
 from model import Costs
@@ -32,9 +34,18 @@ def held(symbol, p):
     return f"{symbol:016x} {p.quantity} {p.average} {p.realized} {p.total_cost}"
 
 
+def settings_line(s):
+    c = s.costs
+    costs = f"{digits(c.commission_bps)} {digits(c.slippage_bps)} {c.min_commission}"
+    limits = f"{s.quantity_step} {s.min_order_value} {s.max_order_value} {digits(s.no_trade_band_bps)}"
+    cap = "none" if s.max_trades_per_rebalance is None else s.max_trades_per_rebalance
+    return f"settings {costs} {limits} {cap} {s.max_rebalance_notional} {int(s.recording)} {int(s.cash_first)}"
+
+
 def account_lines(a):
     counters = f"{a.last_order_count} {a.last_notional} {a.trimmed_count} {a.trimmed_shortfall} {a.record_count}"
     yield f"account {a.cash} {counters} {a.equity_count} {a.return_count} {a.previous_equity}"
+    yield settings_line(a.settings)
     for symbol, p in a.held():
         yield f"position {held(symbol, p)}"
 
@@ -58,39 +69,46 @@ def call(account, line):
     words = [word for word in words if word]
     if verb == "open":
         costs = Costs(double(words[1]), double(words[2]), int(words[3]))
-        answer, account = model.opened(int(words[0]), costs)
+        answer, account = model.opened(int(words[0]), costs, int(words[4]))
         return account, [f"answer {answer}"]
     if verb == "set":
         answer, account = model.with_setting(account, **{words[0]: setting(*words)})
         return account, [f"answer {answer}"]
     if verb == "rebalance":
         context, targets, prices = (part.split() for part in " ".join(words).split("|"))
-        answer, account, records = model.rebalance(account, pairs(targets, double), pairs(prices, int), int(context[0]), context[1])
+        given = pairs(targets, double), pairs(prices, int)
+        answer, account, records = model.rebalance(account, *given, int(context[0]), context[1], int(context[2]))
         return account, [f"answer {answer}", *map(record_line, records)]
     if verb == "close":
-        answer, account, records = model.close(account, int(words[2], 16), int(words[3]), int(words[0]), words[1])
+        context = int(words[0]), words[1], int(words[2])
+        answer, account, records = model.close(account, int(words[3], 16), int(words[4]), *context)
         return account, [f"answer {answer}", *map(record_line, records)]
     if verb == "record_return":
-        answer, account, equity, gain = model.record_return(account, pairs(words, int))
-        return account, [f"answer {answer}", f"recorded {equity} {'none' if gain is None else digits(gain)}"]
-    answer, text = query(account, verb, words)
-    return account, [f"answer {answer}", text]
+        answer, account, equity, gain = model.record_return(account, pairs(words[2:], int), int(words[0]), int(words[1]))
+        return account, told(answer, lambda: f"recorded {equity} {'none' if gain is None else digits(gain)}")
+    return account, query(account, verb, words)
+
+
+def told(answer, figures):
+    """A refusal has its number alone."""
+    return [f"answer {answer}"] + ([figures()] if answer == model.DONE else [])
 
 
 def query(account, verb, words):
     if verb == "position":
         symbol = int(words[0], 16)
         answer, p = model.position(account, symbol)
-        return answer, f"found {'none' if p is None else held(symbol, p)}"
+        return told(answer, lambda: f"found {'none' if p is None else held(symbol, p)}")
     answer, found = getattr(model, verb)(account, pairs(words, int))
-    if verb == "total_equity":
-        return answer, f"equity {found}"
-    if verb == "current_weights":
-        return answer, f"weights {written(found)}"
-    if verb == "unpriced_holding":
-        return answer, f"unpriced {'none' if found is None else f'{found:016x}'}"
-    *numbers, weights = found
-    return answer, f"snapshot {' '.join(map(str, numbers))} {written(weights)}"
+    return told(answer, lambda: FIGURES[verb](found))
+
+
+FIGURES = {
+    "total_equity": lambda equity: f"equity {equity}",
+    "current_weights": lambda weights: f"weights {written(weights)}",
+    "unpriced_holding": lambda symbol: f"unpriced {'none' if symbol is None else f'{symbol:016x}'}",
+    "snapshot": lambda s: f"snapshot {' '.join(map(str, s[:4]))} {written(s[4])}",
+}
 
 
 def exchanges(lines):
@@ -113,24 +131,27 @@ def exchanges(lines):
 
 
 def main():
-    account, compared, scenarios, differences = None, 0, set(), 0
+    account, scenarios, compared, differences, answers = None, 0, 0, 0, Counter()
     for name, asked, expected in exchanges(sys.stdin):
         if asked.startswith("open "):
             account = None
-            scenarios.add(name)
+            scenarios += 1
         elif account is None:
             continue  # the rest of a scenario in which something differed
         account, lines = call(account, asked)
         lines += account_lines(account)
-        compared += 1
-        if lines != expected:
+        answers[int(lines[0].split()[1])] += 1
+        compared += len(expected) > 0
+        if expected and lines != expected:
             differences += 1
             account = None
             if differences <= 3:
                 ours, theirs = next((a, b) for a, b in zip(lines + ["-"], expected + ["-"]) if a != b)
                 print(f"DIFFERS in {name}\n  asked: {asked}\n  model: {ours}\n  given: {theirs}")
-    print(f"model: {len(scenarios)} scenarios, {compared} calls compared, {differences} differences")
-    sys.exit(differences > 0 or compared == 0)
+    given = ", ".join(f"{n} {answers[n]} times" for n in sorted(answers))
+    print(f"model: {scenarios} scenarios, {answers.total()} calls; answers {given}")
+    print(f"model: {compared} calls compared, {differences} differences")
+    sys.exit(differences > 0 or scenarios == 0)
 
 
 if __name__ == "__main__":

@@ -138,6 +138,10 @@ class Account:
                 and all(good_symbol(s) and p.sound() for s, p in self.positions.items()))
 
 
+# 'all zeros from a refused opening'; its step of 0 makes it unsound.
+ZEROS = Account(0, Settings(Costs(0.0, 0.0, 0), quantity_step=0))
+
+
 @dataclass(frozen=True)
 class Record:
     sequence: int
@@ -202,7 +206,7 @@ def opened(cash, costs, equity_places=1):
     settings = Settings(costs)
     answer = first((BAD_SETTING, lambda: cash < 0 or not settings.good()), (NO_SERIES_ROOM, lambda: equity_places < 1))
     if answer != DONE:
-        return answer, None
+        return answer, ZEROS
     return DONE, Account(cash, settings, equity_count=1, previous_equity=cash)
 
 

@@ -6,8 +6,7 @@ mod leaf;
 mod sample;
 mod table;
 
-const USAGE: &str =
-    "usage: harness leaves [SEED [COUNT]] | scenarios [SEED [COUNT]] | table | sample write FILE | sample check FILE";
+const USAGE: &str = "usage: harness leaves [SEED [COUNT]] | scenarios [SEED [COUNT]] | spoiled SEED COUNT | table | sample write FILE | sample check FILE";
 
 fn main() {
     let words: Vec<String> = std::env::args().skip(1).collect();
@@ -19,6 +18,7 @@ fn main() {
         ["scenarios"] => account::emit(20261115, 1_000),
         ["scenarios", seed] => account::emit(number(seed), 1_000),
         ["scenarios", seed, count] => account::emit(number(seed), number(count)),
+        ["spoiled", seed, count] => account::emit_spoiled(number(seed), number(count)),
         ["table"] => table::run(),
         ["sample", "write", path] => sample::write(path),
         ["sample", "check", path] => sample::check(path),

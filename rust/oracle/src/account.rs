@@ -3,7 +3,7 @@
 use crate::portfolio::{CostModel, ExecutionKind, ExecutionRecord, Portfolio, Position, probe};
 use crate::types::Symbol as Name;
 use scenario::{
-    Account, Context, Costs, Held, Kind, Opening, Outcome, Prices, Record, Reply, Setting, Step, Symbol, View,
+    Account, Context, Costs, Held, Kind, Opening, Outcome, Prices, Record, Reply, Setting, Settings, Step, Symbol, View,
 };
 
 pub struct Nanobook {
@@ -29,13 +29,13 @@ impl Account for Nanobook {
         let done = |reply| Some(Outcome { answer: 0, reply });
         match step {
             Step::Set(setting) => self.set(setting).and_then(|()| done(Reply::Nothing)),
-            Step::Rebalance { targets, prices, context } => {
+            Step::Rebalance { targets, prices, context, .. } => {
                 let targets: Vec<(Name, f64)> = targets.iter().map(|(s, w)| (name(s), *w)).collect();
                 let prices = named(prices);
                 done(self.filled(context, |account| account.rebalance_simple(&targets, &prices)))
             }
-            Step::Close { symbol, price, context } => Some(self.close(symbol, *price, context)),
-            Step::RecordReturn(prices) => done(self.record_return(prices)),
+            Step::Close { symbol, price, context, .. } => Some(self.close(symbol, *price, context)),
+            Step::RecordReturn { prices, .. } => done(self.record_return(prices)),
             Step::TotalEquity(prices) => done(Reply::Equity(self.account.total_equity(&named(prices)))),
             Step::CurrentWeights(prices) => done(Reply::Weights(weights(self.account.current_weights(&named(prices))))),
             Step::UnpricedHolding(prices) => {
@@ -50,6 +50,7 @@ impl Account for Nanobook {
         let a = &self.account;
         View {
             cash: a.cash(),
+            settings: self.settings(),
             last_order_count: a.last_rebalance_order_count() as u64,
             last_notional: a.last_rebalance_notional(),
             trimmed_count: a.trimmed_fill_count(),
@@ -64,6 +65,22 @@ impl Account for Nanobook {
 }
 
 impl Nanobook {
+    fn settings(&self) -> Settings {
+        let a = &self.account;
+        let CostModel { commission_bps, slippage_bps, min_commission } = *a.cost_model();
+        Settings {
+            costs: Costs { commission_bps, slippage_bps, min_commission },
+            quantity_step: a.quantity_step(),
+            min_order_value: a.min_order_value(),
+            max_order_value: a.max_order_value(),
+            no_trade_band_bps: a.no_trade_band_bps(),
+            max_trades: a.max_trades_per_rebalance().map(|n| n as u64),
+            max_rebalance_notional: a.max_rebalance_notional(),
+            recording: probe::is_recording(a),
+            cash_first: false,
+        }
+    }
+
     /// None for cash-first mode, which the Rust lacks.
     fn set(&mut self, setting: &Setting) -> Option<()> {
         let account = &mut self.account;

@@ -10,6 +10,9 @@ enum Temper {
     Extreme,
 }
 
+/// Places of a series buffer: more than any scenario has periods.
+const SERIES: u64 = 100;
+
 /// What stays the same through one scenario.
 struct World {
     temper: Temper,
@@ -19,7 +22,7 @@ struct World {
 pub fn scenario(random: &mut Random) -> Scenario {
     let temper = random.pick(&[Temper::Everyday, Temper::Everyday, Temper::Poor, Temper::Extreme]);
     let world = World { temper, listed: listed(random, temper) };
-    let opening = Opening { cash: money(random, temper), costs: costs(random, temper) };
+    let opening = Opening { cash: money(random, temper), costs: costs(random, temper), equity_places: SERIES };
     let mut steps = Vec::new();
     for _ in 0..random.below(6) {
         steps.push(Step::Set(setting(random, temper)));
@@ -118,10 +121,14 @@ fn step(random: &mut Random, world: &World, period: u64, steps: &mut Vec<Step>) 
     let prices = quoted(random, world);
     // A first period that rebalances leaves the later ones something to close.
     match if period == 0 && !random.one_in(5) { 0 } else { random.below(12) } {
-        0..=5 => steps.push(Step::Rebalance { targets: targets(random, world), prices: prices.clone(), context }),
+        0..=5 => {
+            let targets = targets(random, world);
+            steps.push(Step::Rebalance { targets, prices: prices.clone(), context, places: 64 + random.below(3) });
+        }
         6 | 7 => {
             let (symbol, price) = random.pick(&world.listed);
-            steps.push(Step::Close { symbol, price: moved(random, world.temper, price), context });
+            let price = moved(random, world.temper, price);
+            steps.push(Step::Close { symbol, price, context, places: 1 + random.below(3) });
         }
         8 => steps.push(Step::Set(setting(random, world.temper))),
         9 => steps.push(Step::UnpricedHolding(prices.clone())),
@@ -129,7 +136,7 @@ fn step(random: &mut Random, world: &World, period: u64, steps: &mut Vec<Step>) 
         _ => steps.push(Step::CurrentWeights(prices.clone())),
     }
     match random.below(3) {
-        0 => steps.push(Step::RecordReturn(prices)),
+        0 => steps.push(Step::RecordReturn { prices, equity_places: SERIES, return_places: SERIES }),
         1 => steps.push(Step::Snapshot(prices)),
         _ => steps.push(Step::TotalEquity(prices)),
     }

@@ -4,12 +4,14 @@
 mod covered;
 mod generate;
 mod random;
+mod spoil;
 mod text;
 
 pub use covered::Covered;
 pub use generate::scenario;
 pub use random::Random;
-pub use text::written;
+pub use spoil::spoiled;
+pub use text::{asked, written};
 
 /// One to eight bytes, padded with zeros: document 01's symbol.
 #[derive(Clone, Copy, Debug, PartialEq, Eq, PartialOrd, Ord)]
@@ -26,6 +28,22 @@ pub struct Costs {
 pub struct Opening {
     pub cash: i64,
     pub costs: Costs,
+    /// How many places the lent equity buffer has.
+    pub equity_places: u64,
+}
+
+/// All settings of an account, as its setters leave them.
+#[derive(Clone, Copy, Debug, PartialEq)]
+pub struct Settings {
+    pub costs: Costs,
+    pub quantity_step: i64,
+    pub min_order_value: i64,
+    pub max_order_value: i64,
+    pub no_trade_band_bps: f64,
+    pub max_trades: Option<u64>,
+    pub max_rebalance_notional: i64,
+    pub recording: bool,
+    pub cash_first: bool,
 }
 
 #[derive(Clone, Copy, Debug, PartialEq)]
@@ -59,9 +77,24 @@ pub type Prices = Vec<(Symbol, i64)>;
 #[derive(Clone, Debug, PartialEq)]
 pub enum Step {
     Set(Setting),
-    Rebalance { targets: Vec<(Symbol, f64)>, prices: Prices, context: Context },
-    Close { symbol: Symbol, price: i64, context: Context },
-    RecordReturn(Prices),
+    /// `places` is how many records the lent run has room for, here and in a close.
+    Rebalance {
+        targets: Vec<(Symbol, f64)>,
+        prices: Prices,
+        context: Context,
+        places: u64,
+    },
+    Close {
+        symbol: Symbol,
+        price: i64,
+        context: Context,
+        places: u64,
+    },
+    RecordReturn {
+        prices: Prices,
+        equity_places: u64,
+        return_places: u64,
+    },
     TotalEquity(Prices),
     CurrentWeights(Prices),
     UnpricedHolding(Prices),
@@ -120,10 +153,11 @@ pub struct Outcome {
     pub reply: Reply,
 }
 
-/// Everything that a call may change, settings aside.
-#[derive(Clone, Debug, PartialEq, Eq)]
+/// The whole account.
+#[derive(Clone, Debug, PartialEq)]
 pub struct View {
     pub cash: i64,
+    pub settings: Settings,
     pub last_order_count: u64,
     pub last_notional: i64,
     pub trimmed_count: u64,

@@ -1,32 +1,42 @@
 //! A scenario and its answers as lines of text: a call after '>', what it gave and the account after it after '<'.
 //! Doubles are written as their sixteen hexadecimal digits, so that nothing is lost.
 
-use crate::{Context, Held, Kind, Opening, Played, Prices, Record, Reply, Scenario, Setting, Step, Symbol, View};
+use crate::{
+    Context, Costs, Held, Kind, Opening, Played, Prices, Record, Reply, Scenario, Setting, Settings, Step, Symbol, View,
+};
 use std::fmt::{Display, Write};
 
 /// A scenario as far as it was played.
 pub fn written(scenario: &Scenario, played: &Played) -> String {
-    let mut text = opening(&scenario.opening, &played.opened);
+    let mut text = format!("> {}\n< answer 0\n{}", opening(&scenario.opening), account(&played.opened));
     for (step, (outcome, view)) in scenario.steps.iter().zip(&played.calls) {
         text += &format!("> {}\n< answer {}\n{}{}", call(step), outcome.answer, reply(&outcome.reply), account(view));
     }
     text
 }
 
-fn opening(o: &Opening, view: &View) -> String {
-    let c = &o.costs;
-    let call = format!("> open {} {} {} {}\n", o.cash, bits(c.commission_bps), bits(c.slippage_bps), c.min_commission);
-    call + "< answer 0\n" + &account(view)
+/// A scenario's calls alone.
+pub fn asked(scenario: &Scenario) -> String {
+    let calls = scenario.steps.iter().map(|step| format!("> {}\n", call(step)));
+    format!("> {}\n", opening(&scenario.opening)) + &calls.collect::<String>()
+}
+
+fn opening(o: &Opening) -> String {
+    format!("open {} {} {}", o.cash, costs(&o.costs), o.equity_places)
 }
 
 fn call(step: &Step) -> String {
     match step {
         Step::Set(s) => format!("set {}", setting(s)),
-        Step::Rebalance { targets, prices: p, context: c } => {
-            format!("rebalance {} | {} | {}", context(c), weights(targets), prices(p))
+        Step::Rebalance { targets, prices: p, context: c, places } => {
+            format!("rebalance {} {places} | {} | {}", context(c), weights(targets), prices(p))
         }
-        Step::Close { symbol, price, context: c } => format!("close {} {} {price}", context(c), name(symbol)),
-        Step::RecordReturn(p) => format!("record_return {}", prices(p)),
+        Step::Close { symbol, price, context: c, places } => {
+            format!("close {} {places} {} {price}", context(c), name(symbol))
+        }
+        Step::RecordReturn { prices: p, equity_places, return_places } => {
+            format!("record_return {equity_places} {return_places} {}", prices(p))
+        }
         Step::TotalEquity(p) => format!("total_equity {}", prices(p)),
         Step::CurrentWeights(p) => format!("current_weights {}", prices(p)),
         Step::UnpricedHolding(p) => format!("unpriced_holding {}", prices(p)),
@@ -41,8 +51,7 @@ fn setting(s: &Setting) -> String {
         Setting::MinOrderValue(n) => format!("min_order_value {n}"),
         Setting::MaxOrderValue(n) => format!("max_order_value {n}"),
         Setting::NoTradeBandBps(x) => format!("no_trade_band_bps {}", bits(*x)),
-        Setting::MaxTrades(None) => "max_trades_per_rebalance none".to_string(),
-        Setting::MaxTrades(Some(n)) => format!("max_trades_per_rebalance {n}"),
+        Setting::MaxTrades(cap) => format!("max_trades_per_rebalance {}", or_none(cap.map(|n| n.to_string()))),
         Setting::MaxRebalanceNotional(n) => format!("max_rebalance_notional {n}"),
         Setting::Recording(on) => format!("recording {}", u8::from(*on)),
         Setting::CashFirst(on) => format!("cash_first {}", u8::from(*on)),
@@ -75,10 +84,22 @@ fn account(v: &View) -> String {
     let counters = format!("{} {} {} {}", v.last_order_count, v.last_notional, v.trimmed_count, v.trimmed_shortfall);
     let series = format!("{} {} {}", v.equity_count, v.return_count, v.previous_equity);
     let mut text = format!("< account {} {counters} {} {series}\n", v.cash, v.record_count);
+    let _ = writeln!(text, "< settings {}", settings(&v.settings));
     for position in &v.positions {
         let _ = writeln!(text, "< position {}", held(position));
     }
     text
+}
+
+fn settings(s: &Settings) -> String {
+    let limits = format!("{} {} {}", s.quantity_step, s.min_order_value, s.max_order_value);
+    let caps = format!("{} {}", or_none(s.max_trades.map(|n| n.to_string())), s.max_rebalance_notional);
+    let modes = format!("{} {}", u8::from(s.recording), u8::from(s.cash_first));
+    format!("{} {limits} {} {caps} {modes}", costs(&s.costs), bits(s.no_trade_band_bps))
+}
+
+fn costs(c: &Costs) -> String {
+    format!("{} {} {}", bits(c.commission_bps), bits(c.slippage_bps), c.min_commission)
 }
 
 fn held(p: &Held) -> String {
