@@ -1,0 +1,7 @@
+-- Laws of the figures, by what they speak of.
+pub mod Answered
+pub mod Double
+pub mod EverySeries
+pub mod Gathering
+pub mod OnePass
+pub mod SumStart

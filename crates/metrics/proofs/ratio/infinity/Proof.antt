@@ -1,0 +1,17 @@
+-- `metrics::ratio::infinity` meets its contract: the pattern is no NaN's.
+use lib.Ieee.{ofBits, nanBits}
+use mathlib.Core.Path.{refl}
+use borrow.Author.Needs.{needs}
+use Rattle.metrics.proofs.ratio.infinity.Statement.{statement}
+use Rattle.metrics.proofs.ratio.infinity.Tie as tie
+
+float-from-bits-result : tie.Need-float-from-bits-result
+unfolding nanBits
+float-from-bits-result c = search needs
+
+returns : tie.Need-returns
+unfolding ofBits
+returns c = refl
+
+pub infinity-spec : {M : Type 1} → statement M
+infinity-spec = tie.close (tie.spec float-from-bits-result returns)

@@ -1,0 +1,69 @@
+-- Each column is opened at the same place by its own call.
+use mathlib.Core.Path.{_≡_}
+use mathlib.Core.List.{List}
+use Prim.Native.Nat.{ℕ}
+use lib.IntN.{ℤ}
+use mir.Syntax.{w64}
+use mir.Val.{SFits}
+use mir.Facts.{toZ-ofZ}
+use Rattle.table.specs.Rows.{cols}
+use borrow.Author.Needs.{needs}
+use Rattle.table.proofs.table.insert.Statement.{statement}
+use Rattle.table.proofs.table.insert.Tie as tie
+
+same-cols : {k k′ : List ℕ} {q q′ a a′ g g′ t t′ : List ℤ} → k ≡ k′ → q ≡ q′ → a ≡ a′ → g ≡ g′ → t ≡ t′ → cols k q a g t ≡ cols k′ q′ a′ g′ t′
+same-cols ek eq ea eg et = rw (ek, eq, ea, eg, et)
+
+-- the signed fields fit
+module _ (s : tie.Start) where
+  fit-q : SFits w64 (s .args .p .quantity .0)
+  fit-q = search needs
+
+  fit-a : SFits w64 (s .args .p .«avg_entry_price»)
+  fit-a = search needs
+
+  fit-g : SFits w64 (s .args .p .«realized_pnl»)
+  fit-g = search needs
+
+  fit-t : SFits w64 (s .args .p .«total_cost»)
+  fit-t = search needs
+
+open-symbol-requires : tie.Need-open-symbol-requires
+open-symbol-requires c κs = search needs
+
+open-number-requires : tie.Need-open-number-requires
+open-number-requires c κs = search needs
+
+open-number-requires-2 : tie.Need-open-number-requires-2
+open-number-requires-2 c κs = search needs
+
+open-number-requires-3 : tie.Need-open-number-requires-3
+open-number-requires-3 c κs = search needs
+
+open-number-requires-4 : tie.Need-open-number-requires-4
+open-number-requires-4 c κs = search needs
+
+returns : tie.Need-returns
+returns c =
+    let c3 = c .before .before .before in
+    let c2 = c3 .before .before .before in
+    let c1 = c2 .before .before .before in
+    let c0 = c1 .before .before .before in
+    let s = c0 .before .before in
+    same-cols
+    (c0 .open-symbol .ensures)
+    (simp (toZ-ofZ (fit-q s)) at (c1 .open-number .ensures))
+    (simp (toZ-ofZ (fit-a s)) at (c2 .open-number2 .ensures))
+    (simp (toZ-ofZ (fit-g s)) at (c3 .open-number3 .ensures))
+    (simp (toZ-ofZ (fit-t s)) at (c .open-number4 .ensures))
+
+pub insert-spec : {M : Type 1} → statement M
+insert-spec =
+    tie.close
+    (tie.spec
+    open-symbol-requires
+    open-number-requires
+    open-number-requires-2
+    open-number-requires-3
+    open-number-requires-4
+    returns)

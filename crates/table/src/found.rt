@@ -1,0 +1,61 @@
+// Where a key stands in a column that ascends.
+ghost use mathlib.Core.Path.{_≡_};
+ghost use Prim.Native.Nat.{_≤_};
+ghost use lib.ListN.{length, take};
+ghost use Rattle.table.specs.Keyed.{Rising};
+ghost use Rattle.table.specs.Places.{Finds, found, shorter};
+
+// The place of a key, or the place at which it would be inserted.
+pub enum Found {
+    At(usize),
+    Absent(usize),
+}
+
+// The count of a column's places in use, however many it is said to have.
+pub(crate) fn used(n: usize, length: usize) -> usize
+    ensures { λ r. ⌜ r ≡ shorter n length ⌝ }
+{
+    if n < length { n } else { length }
+}
+
+// Halves the places that are left until one is.
+fn search(keys: &[u64], n: usize, key: u64) -> Found
+    requires { ⌜ n ≤ length (now keys) ⌝ }
+    ensures { λ r. ⌜ Finds key (take n (now (keys .entry))) r ⌝ }
+{
+    let mut lo = 0usize;
+    let mut hi = n;
+    while lo < hi {
+        let mid = lo + (hi - lo) / 2;
+        let k = keys[mid];
+        if k < key {
+            lo = mid + 1;
+        } else {
+            hi = mid;
+        }
+    }
+    if lo < n {
+        let k = keys[lo];
+        if k == key {
+            return Found::At(lo);
+        }
+    }
+    Found::Absent(lo)
+}
+
+// Where the key stands among the first n, or where it would be inserted.
+// The answer is settled for keys that ascend, as the caller has checked once for all its searches: a search that
+// checked it each time would look at every key. For any keys the place is one of the first n, or the one after them.
+// The hinted place is looked at first; the answer does not depend on the hint.
+pub fn find(keys: &[u64], n: usize, key: u64, hint: usize) -> Found
+    ensures { λ r. ⌜ Finds key (take n (now (keys .entry))) r ⌝ }
+{
+    let m = used(n, keys.len());
+    if hint < m {
+        let k = keys[hint];
+        if k == key {
+            return Found::At(hint);
+        }
+    }
+    search(keys, m, key)
+}

@@ -1,0 +1,14 @@
+// The positions of an account: a table ordered by symbol, with room for 64.
+mod column;
+mod found;
+mod order;
+mod table;
+
+pub use found::Found;
+pub use found::find;
+pub use order::ascends;
+pub use order::is_ordered;
+pub use order::is_unused_zero;
+pub use table::Table;
+pub use table::held;
+pub use table::post;
