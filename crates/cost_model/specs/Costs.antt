@@ -3,7 +3,7 @@ use Prim.Native.Nat.{ℕ}
 use mathlib.Core.Bool.{Bool, true, false, cond, _&&_}
 use lib.IntN.{ℤ, pos, natAbs}
 use lib.Signed.{ltZ, leZ}
-use lib.Ieee.{Float, fin, binary64, add, mul, div, le, ofInt, toSigned}
+use lib.Ieee.{Float, fin, binary64, add, mul, div, le}
 use Rattle.doubles.specs.Doubles.{finite, toI64, ofI64, ofU64, roundAway}
 use Rattle.cost_model.specs.declared.CostModel.{CostModel}
 
@@ -25,7 +25,6 @@ free = model zero zero (pos 0)
 
 -- "Commission is round(notional × bps / 10,000), multiplied first, .."
 unfoldable pub commission : Float → ℕ → ℤ
-unfolding toSigned roundAway div mul ofInt
 commission bps n = toI64 (roundAway (div binary64 (mul binary64 (ofU64 n) bps) tenThousand))
 
 -- ".. and at least `min_commission`."
@@ -43,11 +42,9 @@ sign false = fin true 1 (pos 0)
 
 -- "1 + sign × slippage / 10,000"
 unfoldable pub slippageFactor : CostModel → Bool → Float
-unfolding add div mul
 slippageFactor m buys = add binary64 one (div binary64 (mul binary64 (sign buys) (m .«slippage_bps»)) tenThousand)
 
 unfoldable pub slipped : Float → ℤ → ℤ
-unfolding toSigned roundAway mul ofInt
 slipped factor price = toI64 (roundAway (mul binary64 (ofI64 price) factor))
 
 -- "Effective price is round(price × (1 + sign × slippage / 10,000))."
@@ -56,10 +53,8 @@ effective m buys price = slipped (slippageFactor m buys) price
 
 -- "`commission_bps` .. finite and at least 0"; a zero of either sign is
 unfoldable pub goodRate : Float → Bool
-unfolding le
 goodRate x = finite x && le zero x
 
 -- and "`slippage_bps` from 0 to 10,000", "`min_commission` .. at least 0"
 unfoldable pub goodCosts : CostModel → Bool
-unfolding le
 goodCosts m = goodRate (m .«commission_bps») && (le zero (m .«slippage_bps») && (le (m .«slippage_bps») tenThousand && leZ (pos 0) (m .«min_commission»)))

@@ -2,3 +2,4 @@
 pub mod Bits
 pub mod Search
 pub mod Sizes
+pub mod Buys

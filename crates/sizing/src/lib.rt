@@ -1,8 +1,11 @@
 // What an order may be: its notional, drift and size, its truncation to a maximum, and the largest buy that cash pays for.
 ghost use mathlib.Core.Path.{_≡_};
+ghost use mathlib.Core.Bool.{true};
+ghost use Prim.Native.Nat.{_*_, _<_, _≤_, _^_};
 ghost use Rattle.words.specs.Sums.{notional};
 ghost use Rattle.words.specs.Wide.{wide};
-ghost use Rattle.sizing.specs.Afford.{need};
+ghost use Rattle.cost_model.specs.Costs.{goodCosts};
+ghost use Rattle.sizing.specs.Afford.{need, fits, largest, affordable};
 ghost use Rattle.sizing.specs.Sizing.{above, sharesFor, sized, cutTo, drift};
 use cost_model::CostModel;
 use position::Shares;
@@ -71,4 +74,111 @@ pub fn buy_cash_required(quantity: Shares, price: i64, costs: CostModel) -> i64
     }
     let notional = notional_of(quantity, price);
     words::saturating_add(notional, costs.compute_cost(notional))
+}
+
+// A guess at the largest notional that cash pays for with its commission: by the rate or by the floor, whichever leaves less, and
+// one more or less where the rounding was against it.
+fn guessed_notional(cash: i64, costs: CostModel) -> i64 {
+    let flat = words::saturating_sub(cash, costs.min_commission);
+    let rated = doubles::to_i64(
+        doubles::i64_to_f64(cash) / (1.0 + costs.commission_bps / 10_000.0),
+    );
+    let n = if flat < rated { flat } else { rated };
+    let more = words::saturating_add(n, 1);
+    if words::saturating_add(more, costs.compute_cost(more)) <= cash {
+        return more;
+    }
+    if cash < words::saturating_add(n, costs.compute_cost(n)) {
+        return words::saturating_sub(n, 1);
+    }
+    n
+}
+
+// One more than a guess at the largest count of steps that fits. A share of a cent costs nothing, so that all but one unit of
+// the next cent is spent too; from 2^44 cents on, where that needs a second word, it is left out.
+fn guessed_over(cash: i64, price: i64, step: u64, costs: CostModel) -> u64
+    requires { ⌜ 0 < step ⌝ }
+{
+    let n = above(guessed_notional(cash, costs));
+    let shares = if n < 0x1000_0000_0000 {
+        words::div_wide(
+            Wide {
+                hi: 0,
+                lo: n * SCALE + 999_999,
+            },
+            above(price),
+        )
+    } else {
+        words::div_wide(words::mul_wide(n, SCALE), above(price))
+    };
+    std::num::wrapping_add_u64(shares.lo / step, 1)
+}
+
+// The next count to test, above lo and at most hi: the hint if it lies there, else the middle.
+fn probe(lo: u64, hi: u64, hint: u64) -> u64
+    requires { ⌜ (lo < hi) × (hi < 2 ^ 63) ⌝ }
+    ensures { λ r. ⌜ (lo < r) × (r ≤ hi) ⌝ }
+{
+    if lo < hint {
+        if hint <= hi {
+            return hint;
+        }
+    }
+    lo + (hi - lo + 1) / 2
+}
+
+// The hint after mid was tested: below the first guess its neighbour; after that none, and the interval is halved.
+fn after(mid: u64, over: u64) -> u64 {
+    if mid == over {
+        std::num::wrapping_sub_u64(mid, 1)
+    } else {
+        0
+    }
+}
+
+// The largest count of steps up to most whose need fits cash. `min_commission` makes a naive cash / price overshoot, so it is
+// searched for. Any guess is sound: a tested count lies between the ends, and one of them moves each turn.
+fn affordable_steps(most: u64, cash: i64, step: u64, price: i64, costs: CostModel) -> u64
+    requires { ⌜ (0 < step) × (most * step < 2 ^ 63) × (goodCosts costs ≡ true) ⌝ }
+    ensures { λ r. ⌜ r ≡ largest (fits costs step cash price) most ⌝ }
+{
+    let over = guessed_over(cash, price, step, costs);
+    let mut hint = over;
+    let mut lo = 0u64;
+    let mut hi = most;
+    while lo < hi {
+        let mid = probe(lo, hi, hint);
+        hint = after(mid, over);
+        if buy_cash_required(Shares((mid * step) as i64), price, costs) <= cash {
+            lo = mid;
+        } else {
+            hi = mid - 1;
+        }
+    }
+    lo
+}
+
+// "the largest step multiple, not above the request, whose need fits cash (a zero fill needs 0); at cash 0 it is nothing". Under
+// costs that no account may have the need could fall as the quantity rises, and halving would miss the largest.
+pub fn largest_affordable_buy_qty(
+    requested: Shares,
+    cash: i64,
+    step: i64,
+    price: i64,
+    costs: CostModel,
+) -> Shares
+    ensures { λ r. ⌜ r .0 ≡ affordable costs step cash (requested .0) price ⌝ }
+{
+    if cash <= 0 {
+        return Shares::ZERO;
+    }
+    if !costs.is_good() {
+        return Shares::ZERO;
+    }
+    let unit = above(step);
+    if unit == 0 {
+        return Shares::ZERO;
+    }
+    let count = affordable_steps(above(requested.0) / unit, cash, unit, price, costs);
+    Shares::from_raw((count * unit) as i64)
 }
