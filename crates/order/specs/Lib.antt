@@ -1,0 +1,2 @@
+-- What condition 3 speaks of.
+pub mod Running
