@@ -1,18 +1,18 @@
 -- Rounding from the fields: the digits and half a unit, shifted, are `roundAway` below 2 ^ 52, and from there on nothing changes. Assumes nothing.
 use mathlib.Core.Path.{_≡_, refl, sym, ap, _∙_, subst}
-use mathlib.Core.Bool.{Bool, true, false, not, _&&_, cond}
+use mathlib.Core.Bool.{Bool, _&&_}
 use Prim.Native.Nat.{ℕ, zero, suc, _+_, _-_, _*_, _/_, _%_, _^_, _≤_, _<_}
-use native.Mathlib.Nat.{le-of-eq, le-trans, lt-of-lt-of-le, lt-of-le-of-lt, not-le-of-lt, mul-one, one-mul, mul-assoc, mul-comm, mul-left-comm, add-mul, mul-add, mul-le-mul-left, mul-le-mul-right, mul-lt-mul-of-pos-right, le-of-mul-le-mul-right, mul-div-mul-right, mul-div-mul-left, mod-eq-of-lt, div-eq-of-lt, div-one, div-lt-iff-lt-mul, mul-add-div, add-zero, pow-succ'}
+use native.Mathlib.Nat.{le-of-eq, le-trans, lt-of-lt-of-le, lt-of-le-of-lt, not-le-of-lt, mul-one, one-mul, mul-assoc, mul-comm, mul-left-comm, add-mul, mul-add, mul-le-mul-left, mul-lt-mul-of-pos-right, mul-div-mul-right, mul-div-mul-left, mod-eq-of-lt, div-eq-of-lt, div-one, div-lt-iff-lt-mul, mul-add-div, add-zero, pow-succ'}
 use native.Mathlib.Omega.{arith}
 use lib.Dec.{T, ltb, leb, eqb, ltb→lt}
 use lib.Pow.{pow-pos, pow-add, pow-mono, pow-lt}
 use lib.IntN.{ℤ, pos, negsuc}
-use lib.Ieee.{Float, nan, inf, fin, Format, binary64, prec, emax, low, up, down, round, fits, toSigned}
-use lib.Ieee.Fits.{and-l, and-r, up-pos, down-pos, round-fits}
+use lib.Ieee.{Float, nan, inf, fin, binary64, emax, low, up, down, round, fits, toSigned}
+use lib.Ieee.Fits.{and-l, and-r, down-pos, round-fits}
 use lib.Ieee.Exact.{HasValue}
 use lib.Ieee.Nearest.{div-same}
 use lib.Ieee.Back.{round-whole, whole-unique}
-use Rattle.doubles.specs.Doubles.{nearWhole, roundAway}
+use Rattle.doubles.specs.Doubles.{roundAway}
 use Rattle.doubles.specs.Fields.{exponentOf, fractionOf, unitsOf, nearestOf, signedOf}
 use Rattle.doubles.proofs.Fields.{Sized, fraction-lt}
 use Rattle.doubles.proofs.Whole.{units-lt, units-ge}

@@ -1,22 +1,22 @@
 -- An integer of more than 53 digits as a double: the pattern of its leading 53, rounded to even, is what `round` gives. Assumes nothing.
 use mathlib.Core.Path.{_≡_, refl, sym, ap, _∙_, subst}
 use mathlib.Core.Bool.{Bool, true, false, not, cond}
-use Prim.Native.Nat.{ℕ, zero, suc, _+_, _-_, _*_, _/_, _%_, _^_, _≤_, _<_, compare, Ordering, Ordering·lt, Ordering·eq, Ordering·gt}
-use native.Mathlib.Nat.{le-refl, le-of-eq, le-trans, lt-of-lt-of-le, lt-of-le-of-lt, lt-of-not-le, not-le-of-lt, mul-one, one-mul, mul-assoc, mul-comm, mul-right-comm, mul-le-mul-left, mul-le-mul-right, mul-lt-mul-of-pos-right, mod-lt, mod-eq-of-lt, div-one, div-le-self, div-lt-iff-lt-mul, le-div-iff-mul-le, eq-of-mul-eq-mul-right, pow-succ'}
+use Prim.Native.Nat.{ℕ, suc, _+_, _-_, _*_, _/_, _%_, _^_, _≤_, _<_, compare, Ordering, Ordering·lt, Ordering·eq, Ordering·gt}
+use native.Mathlib.Nat.{le-of-eq, le-trans, lt-of-lt-of-le, lt-of-le-of-lt, lt-of-not-le, not-le-of-lt, mul-one, one-mul, mul-assoc, mul-comm, mul-right-comm, mul-le-mul-left, mul-le-mul-right, mul-lt-mul-of-pos-right, mod-lt, mod-eq-of-lt, div-one, div-lt-iff-lt-mul, le-div-iff-mul-le, eq-of-mul-eq-mul-right, pow-succ'}
 use native.Mathlib.Omega.{arith}
 use lib.Arith.{lt-of-le-ne}
 use lib.Bits.{bitAnd, and-mask}
 use lib.Count.{leadingZeros, leading-top}
 use lib.Dec.{T, isLe, isEq, leb, ltb, eqb, leb→le, nleb→lt, ltb→lt, nltb→le, eqb→eq, eqb-refl, not-T}
 use lib.Pow.{pow-pos, pow-add, pow-mono, pow-lt}
-use lib.IntN.{ℤ, pos, negsuc}
+use lib.IntN.{pos}
 use lib.Ieee.{Float, nan, inf, fin, binary64, up, down, size, nearest, odd, round, ofInt, isNan, nanBits, ofFields, ofBits}
 use lib.Ieee.Bits.{nanBits-is, ofBits-fits, is-false}
 use lib.Ieee.Digits.{size-lt, size-le}
 use lib.Ieee.Fits.{nearest-le, ofInt-fits}
 use lib.Ieee.Exact.{HasValue, odd-sign}
 use lib.Ieee.Nearest.{closest, closest-same, nearest-ge}
-use lib.Ieee.Order.{drop, kept}
+use lib.Ieee.Order.{drop}
 use lib.Ieee.Scale.{grid, overflow, round-val}
 use lib.Ieee.Back.{whole-unique}
 

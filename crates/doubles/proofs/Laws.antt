@@ -1,17 +1,17 @@
 -- The laws of the casts and of rounding, each under the clause that it says. Assumes nothing.
 use mathlib.Core.Path.{_≡_, refl, sym, ap, _∙_, subst}
-use mathlib.Core.Bool.{Bool, true, false, not, _&&_, _||_, cond}
+use mathlib.Core.Bool.{Bool, true, false, cond}
 use Prim.Native.Nat.{ℕ, zero, suc, _+_, _-_, _*_, _/_, _%_, _^_, _≤_, _<_, min, compare, Ordering, Ordering·lt, Ordering·eq, Ordering·gt}
-use native.Mathlib.Nat.{le-refl, le-of-eq, le-of-lt, le-trans, lt-of-lt-of-le, lt-of-le-of-lt, mul-one, zero-mul, mul-comm, mul-le-mul-right, mul-pos, mod-lt, div-one, div-lt-iff-lt-mul, le-div-iff-mul-le, div-le-of-le-mul, div-add-mod', div-mul-le-self, mul-add-div, add-zero, add-mul, suc-mul, mul-left-comm, zero-div, div-eq-of-lt}
+use native.Mathlib.Nat.{le-of-lt, mul-comm, mul-le-mul-right, mod-lt, div-lt-iff-lt-mul, le-div-iff-mul-le, div-le-of-le-mul, div-add-mod', add-zero, add-mul, suc-mul, mul-left-comm, zero-div, div-eq-of-lt}
 use native.Mathlib.Omega.{arith}
-use lib.Dec.{T, ltb, leb, eqb, ltb→lt, leb→le, le→leb, eqb→eq}
+use lib.Dec.{T, leb→le, le→leb}
 use lib.Pow.{pow-pos}
-use lib.IntN.{ℤ, pos, negsuc, negℤ, natAbs}
+use lib.IntN.{ℤ, pos, negsuc, negℤ}
 use lib.Signed.{leZ, mag}
 use mir.Syntax.{w64}
 use mir.Val.{SFits}
-use lib.Ieee.{Float, nan, inf, fin, binary64, prec, up, down, nearest, round, neg, le, lt, ofInt, toSigned, inFloat, fits}
-use lib.Ieee.Fits.{up-pos, down-pos, round-fits}
+use lib.Ieee.{Float, nan, inf, fin, binary64, up, down, nearest, round, neg, le, ofInt, toSigned, inFloat, fits}
+use lib.Ieee.Fits.{down-pos, round-fits}
 use lib.Ieee.Casts.{toSigned-in}
 use lib.Ieee.Exact.{HasValue}
 use lib.Ieee.Nearest.{closest, div-mono}
@@ -19,8 +19,8 @@ use lib.Ieee.Order.{round-mono}
 use lib.Ieee.Scale.{round-val}
 use lib.Ieee.Back.{round-whole, whole-unique, positive-back, negative-back}
 use Rattle.doubles.specs.Doubles.{finite, toI64, ofI64, ofU64, nearWhole, roundAway}
-use Rattle.doubles.proofs.Order.{SignedLe, le-fin→, values-le, bottom-le, le-top, neg-le, clear, round-clear, dark-le, neg-dark, no-product}
-use Rattle.doubles.proofs.Signs.{int-neg, round-neg}
+use Rattle.doubles.proofs.Order.{SignedLe, le-fin→, values-le, bottom-le, le-top, neg-le, clear, round-clear, dark, dark-le, neg-dark, no-product}
+use Rattle.doubles.proofs.Signs.{int-neg}
 use Rattle.doubles.proofs.Even.{whole-value, grid-is, grid-small, compared, Cmp}
 use Rattle.doubles.proofs.Away.{digits-few, near-whole, near-same, spread}
 
@@ -129,6 +129,10 @@ pub ofU64-exact : (n : ℕ) → n ≤ 2 ^ 53 → HasValue (ofU64 n) false n 1
 unfolding ofInt
 ofU64-exact n h = round-whole binary64 false n h
 
+pub ofI64-exact : (k : ℕ) → suc k ≤ 2 ^ 53 → HasValue (ofI64 (negsuc k)) true (suc k) 1
+unfolding ofInt
+ofI64-exact k h = round-whole binary64 true (suc k) h
+
 pub ofI64-back : (z : ℤ) → T (inFloat binary64 z) → SFits w64 z → toI64 (ofI64 z) ≡ z
 ofI64-back (pos n) h f = positive-back binary64 63 n h (f .sfits) .1
 ofI64-back (negsuc k) h f = negative-back binary64 63 k h (omega (arith, f .sfits)) .1
@@ -140,7 +144,7 @@ ofU64-nearest n k lo hi h =
     whole-value (round binary64 false n 1) false (closest n (2 ^ k) * 2 ^ k) (2 ^ 1074) (pow-pos 1074)
     (subst (λ (x : ℕ). HasValue (round binary64 false n 1) false x (2 ^ 1074)) (grid-is n k lo hi h) (round-val binary64 n 1 (grid-small n k lo hi h)))
 
--- 4.3.1: "the floating-point number nearest to the infinitely precise result .. if the two nearest are equally near, the one with an even least significant digit"
+-- IEEE 754-2019 4.3.1, roundTiesToEven: no double is nearer, and of two equally near ones it is the one whose last digit is even
 pub record NearestEven (n u q : ℕ) : Type 0 where
   pub not-above : 2 * (q * u) ≤ 2 * n + u
   pub not-below : 2 * n ≤ 2 * (q * u) + u
@@ -190,10 +194,13 @@ pub ofU64-clear : (n : ℕ) → T (clear (ofU64 n))
 unfolding ofInt
 ofU64-clear n = round-clear binary64 n 1
 
+pub ofI64-dark : (k : ℕ) → T (dark (ofI64 (negsuc k)))
+ofI64-dark k = subst (λ (x : Float). T (dark x)) (int-neg binary64 k) (neg-dark (ofU64 (suc k)) (ofU64-clear (suc k)))
+
 pub ofI64-mono : (a b : ℤ) → T (leZ a b) → T (le (ofI64 a) (ofI64 b))
 ofI64-mono (pos n) (pos m) h = ofU64-mono n m (leb→le n m h)
 ofI64-mono (pos n) (negsuc m) h = absurd h
-ofI64-mono (negsuc n) (pos m) h = subst (λ (x : Float). T (le x (ofU64 m))) (int-neg binary64 n) (dark-le (neg (ofU64 (suc n))) (ofU64 m) (neg-dark (ofU64 (suc n)) (ofU64-clear (suc n))) (ofU64-clear m))
+ofI64-mono (negsuc n) (pos m) h = dark-le (ofI64 (negsuc n)) (ofU64 m) (ofI64-dark n) (ofU64-clear m)
 ofI64-mono (negsuc n) (negsuc m) h =
     subst (λ (x : Float). T (le x (ofI64 (negsuc m)))) (int-neg binary64 n) (subst (λ (y : Float). T (le (neg (ofU64 (suc n))) y)) (int-neg binary64 m)
     (neg-le (ofU64 (suc m)) (ofU64 (suc n)) (ofU64-mono (suc m) (suc n) (omega (arith, leb→le m n h)))))
@@ -202,15 +209,15 @@ top-is : ofU64 (2 ^ 64) ≡ fin false 1 (pos 64)
 unfolding ofInt round
 top-is = refl
 
-finite-under : (x : Float) → T (clear x) → T (le x (fin false 1 (pos 64))) → T (finite x)
+pub finite-below : (x : Float) (t : Bool) (n : ℕ) (d : ℤ) → T (clear x) → T (le x (fin t n d)) → T (finite x)
 unfolding le
-finite-under nan p h = h
-finite-under (inf true) p h = p
-finite-under (inf false) p h = h
-finite-under (fin s m e) p h = tt
+finite-below nan t n d p h = h
+finite-below (inf true) t n d p h = p
+finite-below (inf false) t n d p h = h
+finite-below (fin s m e) t n d p h = tt
 
 pub ofU64-finite : (n : ℕ) → n < 2 ^ 64 → T (finite (ofU64 n))
-ofU64-finite n h = finite-under (ofU64 n) (ofU64-clear n) (subst (λ (y : Float). T (le (ofU64 n) y)) top-is (ofU64-mono n (2 ^ 64) (le-of-lt h)))
+ofU64-finite n h = finite-below (ofU64 n) false 1 (pos 64) (ofU64-clear n) (subst (λ (y : Float). T (le (ofU64 n) y)) top-is (ofU64-mono n (2 ^ 64) (le-of-lt h)))
 
 neg-finite : (x : Float) → T (finite x) → T (finite (neg x))
 unfolding neg
@@ -232,7 +239,7 @@ unfolding roundAway
 roundAway-value s m (pos k) t = (refl, ap (λ (n : ℕ). n * 1) (sym (near-whole (m * 2 ^ k))))
 roundAway-value s m (negsuc k) t = round-whole binary64 s (nearWhole m (negsuc k)) (near-few m (2 ^ suc k) (pow-pos (suc k)) (digits-few s m (negsuc k) t))
 
--- half a unit at most from the size n / d, and at a half the larger
+-- IEEE 754-2019 5.9, roundToIntegralTiesToAway: q is half a unit at most from the size n / d, and of two equally near ones it is the larger
 pub record NearestAway (n d q : ℕ) : Type 0 where
   pub not-above : 2 * (q * d) ≤ 2 * n + d
   pub below-half : 2 * n < 2 * (q * d) + d

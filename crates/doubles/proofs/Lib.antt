@@ -6,3 +6,4 @@ pub mod Signs
 pub mod Away
 pub mod Order
 pub mod Laws
+pub mod Chain

@@ -1,12 +1,11 @@
 -- The whole part of a double from its fields, and the cast that it gives. Assumes nothing.
-use mathlib.Core.Path.{_≡_, refl, sym, ap, _∙_, subst}
-use mathlib.Core.Bool.{Bool, true, false, not, cond}
+use mathlib.Core.Path.{_≡_, sym, ap, _∙_}
+use mathlib.Core.Bool.{Bool, true, false, cond}
 use Prim.Native.Nat.{ℕ, zero, suc, _+_, _-_, _*_, _/_, _%_, _^_, _≤_, _<_, min}
 use native.Mathlib.Nat.{le-of-eq, le-trans, lt-of-lt-of-le, mul-assoc, mul-le-mul-right, mul-lt-mul-of-pos-right, mul-div-mul-right, mul-div-cancel, div-eq-of-lt, div-lt-iff-lt-mul, le-div-iff-mul-le, le-add-right}
 use native.Mathlib.Omega.{arith}
-use lib.Dec.{T, leb}
 use lib.Pow.{pow-pos, pow-add, pow-mono}
-use lib.IntN.{ℤ, pos, negsuc, negℤ}
+use lib.IntN.{pos, negℤ}
 use lib.Ieee.{Float, nan, inf, fin, up, down, toSigned}
 use lib.Ieee.Fits.{down-pos}
 use lib.Ieee.Nearest.{div-same}

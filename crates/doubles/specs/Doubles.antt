@@ -9,8 +9,8 @@ use lib.Ieee.Scale as Scale
 abbrev pub finite : Float → Bool
 finite x = Scale.finite x
 
--- Document 01: "f64 to i64 truncates, saturates, and gives 0 for NaN." Rust Reference, Numeric cast: "rounds the float towards zero, NaN will
--- return 0, values larger than the maximum integer value, including INFINITY, will saturate to the maximum value of the integer type", and so for the minimum.
+-- Document 01: "f64 to i64 truncates, saturates, and gives 0 for NaN." Rust Reference, Numeric cast, and IEEE 754-2019 5.8 for the values in
+-- range: toward zero; beyond the range, infinities included, to the nearer end; a NaN to 0.
 abbrev pub toI64 : Float → ℤ
 toI64 x = toSigned 63 x
 

@@ -1,7 +1,6 @@
 // Casts, rounding and the test for finite of binary64, for every input, from a double's sign, exponent and fraction fields.
 ghost use mathlib.Core.Path.{_≡_};
-ghost use mathlib.Core.Bool.{Bool};
-ghost use Prim.Native.Nat.{_%_, _/_, _^_, _<_, _≤_, _+_, _*_, _-_};
+ghost use Prim.Native.Nat.{_^_, _<_, _+_};
 ghost use lib.Ieee.Nearest.{closest};
 ghost use Rattle.doubles.specs.Fields.{exponentOf, fractionOf, wholeOf, nearestOf, signedOf};
 ghost use Rattle.doubles.specs.Doubles.{finite, toI64, ofI64, ofU64, roundAway};
@@ -20,6 +19,7 @@ fn significand(bits: u64) -> u64
     (bits & 0xf_ffff_ffff_ffff) | 0x10_0000_0000_0000
 }
 
+// Whether x is neither an infinity nor a NaN. Only a NaN differs from itself; its pattern is never asked for, as it may be any.
 pub fn is_finite(x: f64) -> bool
     ensures { λ r. ⌜ r ≡ finite x ⌝ }
 {
@@ -63,6 +63,7 @@ fn signed(negative: bool, size: u64) -> i64
     i64::MAX
 }
 
+// "f64 to i64 truncates, saturates, and gives 0 for NaN."
 pub fn to_i64(x: f64) -> i64
     ensures { λ r. ⌜ r ≡ toI64 x ⌝ }
 {
@@ -90,6 +91,7 @@ fn shifted_to_even(n: u64, k: u32) -> u64
     kept + (kept & 1)
 }
 
+// "i64 to f64 rounds to nearest, ties to even, u64 likewise." Below 2^53 the cast is exact.
 pub fn u64_to_f64(n: u64) -> f64
     ensures { λ r. ⌜ r ≡ ofU64 n ⌝ }
 {
@@ -101,6 +103,7 @@ pub fn u64_to_f64(n: u64) -> f64
     f64::from_bits(((k as u64 + 1074) << 52) + shifted_to_even(n, k))
 }
 
+// The double nearest to n, with n's sign.
 pub fn i64_to_f64(n: i64) -> f64
     ensures { λ r. ⌜ r ≡ ofI64 n ⌝ }
 {
@@ -125,6 +128,7 @@ fn nearest_whole(bits: u64) -> u64
     (digits + half) >> (1075 - e)
 }
 
+// "`round` takes halves away from zero": the nearest whole number with x's sign, at a zero too.
 pub fn round(x: f64) -> f64
     ensures { λ r. ⌜ r ≡ roundAway x ⌝ }
 {
@@ -143,6 +147,7 @@ pub fn round(x: f64) -> f64
     size
 }
 
+// `to_i64` of `round`, without the double in between.
 pub fn round_to_i64(x: f64) -> i64
     ensures { λ r. ⌜ r ≡ toI64 (roundAway x) ⌝ }
 {

@@ -3,7 +3,7 @@ use mathlib.Core.Bool.{Bool, false}
 use lib.IntN.{ℤ, pos, negsuc, _*ℤ_}
 use lib.Dec.{eqb}
 use lib.Signed.{quotZ, ltZ}
-use lib.Ieee.{Float, binary64, div, ofInt}
+use lib.Ieee.{Float, binary64, div}
 use Rattle.doubles.specs.Doubles.{ofI64}
 use Rattle.words.specs.Sums.{clamp64, SCALE}
 
@@ -17,7 +17,6 @@ wholeShares n = quotZ n (pos SCALE)
 
 -- a fractional share count: both numbers as doubles, then divided
 unfoldable pub toF64 : ℤ → Float
-unfolding div ofInt
 toF64 n = div binary64 (ofI64 n) (ofI64 (pos SCALE))
 
 unfoldable pub isZero : ℤ → Bool

@@ -7,7 +7,6 @@ use native.Mathlib.Nat.{mul-comm, mul-le-mul, mul-le-mul-left, mul-le-mul-right,
 use native.Mathlib.Omega.{arith}
 use lib.IntN.{ℤ, pos, negsuc, negℤ, natAbs}
 use lib.Signed.{nonNeg, leZ}
-use lib.Dec.{leb}
 use borrow.Author.Tests.{leb-true}
 use mir.Syntax.{w64}
 use mir.Val.{SFits}

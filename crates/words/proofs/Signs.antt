@@ -1,9 +1,9 @@
 -- Products and quotients of signed numbers are those of the magnitudes, with a sign.
 use Prim.Native.Nat.{ℕ, zero, suc, _*_, _/_}
-use mathlib.Core.Path.{_≡_, refl, sym, ap, _∙_}
+use mathlib.Core.Path.{_≡_, refl, ap, _∙_}
 use mathlib.Core.Bool.{Bool, true, false, not, xor}
 use native.Mathlib.Nat.{zero-div}
-use lib.IntN.{ℤ, pos, negsuc, negℤ, natAbs, _*ℤ_, pos-*ℤ-pos, pos-*ℤ-negsuc, negsuc-*ℤ-pos, negsuc-*ℤ-negsuc}
+use lib.IntN.{ℤ, pos, negsuc, natAbs, _*ℤ_, pos-*ℤ-pos, pos-*ℤ-negsuc, negsuc-*ℤ-pos, negsuc-*ℤ-negsuc}
 use lib.Signed.{nonNeg, quotZ}
 use Rattle.words.specs.Sums.{clamp64, signed, value, priceAt, SCALE}
 

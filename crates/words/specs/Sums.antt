@@ -1,6 +1,6 @@
 -- Document 01, 'Sums', on whole numbers: what saturates, what truncates, what is clamped.
 use Prim.Native.Nat.{ℕ, _*_, _/_, _-_, _^_, min}
-use mathlib.Core.Bool.{Bool, true, false, cond}
+use mathlib.Core.Bool.{Bool, cond}
 use lib.IntN.{ℤ, pos, negsuc, negℤ, natAbs, _+ℤ_, _-ℤ_, _*ℤ_}
 use lib.Signed.{quotZ}
 

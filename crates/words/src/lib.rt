@@ -1,7 +1,7 @@
 // Sums on 64-bit words: document 01, 'Sums'. Every function is total and says by one equation what it answers.
 ghost use mathlib.Core.Path.{_≡_};
 ghost use Prim.Native.Nat.{_+_, _*_, _/_, _^_, _≤_, _<_, min};
-ghost use lib.IntN.{pos, natAbs};
+ghost use lib.IntN.{natAbs};
 ghost use lib.Signed.{nonNeg};
 ghost use mathlib.Core.Bool.{xor};
 ghost use Rattle.words.specs.Sums.{clamp64, satAdd, satSub, satNeg, satAbs, value, notional, priceAt, signed, snap, SCALE};

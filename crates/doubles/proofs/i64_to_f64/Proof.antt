@@ -1,7 +1,7 @@
 -- A negative number is the negation of its size, and so is its double; the size is the complement's, one up.
 use borrow.Author.Needs.{needs}
 use mathlib.Core.Path.{_≡_, refl, sym, ap, _∙_, subst}
-use mathlib.Core.Bool.{Bool, true, false}
+use mathlib.Core.Bool.{true, false}
 use Prim.Native.Nat.{ℕ, suc, _+_, _-_, _^_, _<_}
 use native.Mathlib.Numerals.{add-one}
 use native.Mathlib.Omega.{arith}
@@ -11,7 +11,7 @@ use lib.Signed.{leZ, nonNeg}
 use mir.Syntax.{w64}
 use mir.Val.{Fits, SFits, ofZ, toZ}
 use mir.ValLaws.{toZ-ofZ, toZ-pos}
-use lib.Ieee.{Float, binary64, neg, ofInt}
+use lib.Ieee.{binary64, neg, ofInt}
 use Rattle.doubles.proofs.Signs.{int-neg}
 use Rattle.doubles.proofs.i64_to_f64.Statement.{statement}
 use Rattle.doubles.proofs.i64_to_f64.Tie as tie

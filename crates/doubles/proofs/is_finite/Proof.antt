@@ -1,10 +1,9 @@
 -- A NaN differs from itself; of the other doubles only the infinities have an exponent field of ones.
 use borrow.Author.Needs.{needs}
-use mathlib.Core.Path.{_≡_, sym, subst, ap, _∙_}
+use mathlib.Core.Path.{sym, ap, _∙_}
 use mathlib.Core.Bool.{not}
 use Prim.Native.Nat.{ℕ}
-use lib.Dec.{T, eqb}
-use lib.Ieee.{Float, binary64, fits}
+use lib.Dec.{eqb}
 use lib.Ieee.Scale.{finite}
 use Rattle.doubles.proofs.Fields.{yes, unlike-itself, like-itself, finite-exponent}
 use Rattle.doubles.proofs.is_finite.Statement.{statement}

@@ -1,12 +1,11 @@
 -- A NaN stays; a double whose exponent field says 2 ^ 52 or more stays; any other is its size, rounded, with its sign.
 use borrow.Author.Needs.{needs}
-use mathlib.Core.Path.{_≡_, refl, sym, ap, _∙_, subst}
+use mathlib.Core.Path.{_≡_, sym, ap, _∙_, subst}
 use mathlib.Core.Bool.{Bool, true, false}
-use Prim.Native.Nat.{ℕ, _+_, _/_, _^_, _≤_, _<_}
+use Prim.Native.Nat.{ℕ, _^_, _≤_, _<_}
 use native.Mathlib.Omega.{arith}
-use lib.Dec.{T, leb, le→leb}
-use lib.IntN.{pos}
-use lib.Ieee.{Float, binary64, neg, ofInt, inFloat, toBits, round}
+use lib.Dec.{leb, le→leb}
+use lib.Ieee.{binary64, neg, ofInt, inFloat, toBits, round}
 use Rattle.doubles.specs.Doubles.{roundAway}
 use Rattle.doubles.specs.Fields.{exponentOf, fractionOf, unitsOf, nearestOf}
 use Rattle.doubles.proofs.Fields.{yes, Sized, unlike-itself, like-itself, sign-set, sign-clear, sized}

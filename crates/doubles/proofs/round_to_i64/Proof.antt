@@ -1,6 +1,6 @@
 -- The size is rounded where it is below 2 ^ 52 and is whole from there on; the cast then holds it to the range.
 use borrow.Author.Needs.{needs}
-use mathlib.Core.Path.{_≡_, sym, ap, _∙_}
+use mathlib.Core.Path.{sym, ap, _∙_}
 use Prim.Native.Nat.{_^_}
 use mir.Syntax.{w64}
 use mir.ValLaws.{toZ-ofZ}

@@ -1,6 +1,6 @@
 -- The fields of a double that is no NaN give its sign and its size; the size, cut and held to the range, is the cast.
 use borrow.Author.Needs.{needs}
-use mathlib.Core.Path.{_≡_, sym, ap, _∙_}
+use mathlib.Core.Path.{sym, ap, _∙_}
 use Prim.Native.Nat.{_^_}
 use mir.Syntax.{w64}
 use mir.ValLaws.{toZ-ofZ}

@@ -5,7 +5,7 @@ use mathlib.Core.Path.{_≡_, sym, ap, _∙_, subst}
 use native.Mathlib.Nat.{mod-lt}
 use native.Mathlib.Omega.{arith}
 use lib.Arith.{digits-div}
-use Rattle.words.specs.Wide.{valueOf, wide}
+use Rattle.words.specs.Wide.{valueOf}
 use Rattle.words.proofs.TwoWords.{words-of}
 use Rattle.words.proofs.Division.{upper-quotient, digit-lt}
 use Rattle.words.proofs.div_bits.Statement.{statement}

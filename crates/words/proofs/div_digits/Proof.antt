@@ -4,7 +4,7 @@ use Prim.Native.Nat.{ℕ, _+_, _*_, _/_, _%_, _^_, _<_}
 use mathlib.Core.Path.{_≡_, ap, _∙_}
 use native.Mathlib.Nat.{mod-lt}
 use native.Mathlib.Omega.{arith}
-use Rattle.words.specs.Wide.{valueOf, wide}
+use Rattle.words.specs.Wide.{valueOf}
 use Rattle.words.proofs.TwoWords.{words-of}
 use Rattle.words.proofs.Division.{upper-quotient, upper-rest, step-lt, digit-lt}
 use Rattle.words.proofs.div_digits.Statement.{statement}

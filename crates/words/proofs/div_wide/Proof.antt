@@ -1,10 +1,10 @@
 -- Each way gives the words of the quotient: none for a divisor of 0, one where the upper word is 0.
 use borrow.Author.Needs.{needs}
-use Prim.Native.Nat.{ℕ, _+_, _*_, _/_, _^_, _≤_, _<_}
-use mathlib.Core.Path.{_≡_, refl, sym, ap, _∙_}
+use Prim.Native.Nat.{ℕ, _+_, _*_, _/_, _^_}
+use mathlib.Core.Path.{_≡_, sym, ap, _∙_}
 use native.Mathlib.Nat.{div-zero, div-le-self}
 use native.Mathlib.Omega.{arith}
-use Rattle.words.specs.Wide.{valueOf, wide}
+use Rattle.words.specs.Wide.{valueOf}
 use Rattle.words.proofs.TwoWords.{words-of}
 use Rattle.words.proofs.div_wide.Statement.{statement}
 use Rattle.words.proofs.div_wide.Tie as tie

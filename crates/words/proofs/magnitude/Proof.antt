@@ -1,15 +1,12 @@
 -- The scaled product of the magnitudes, clamped.
 use borrow.Author.Needs.{needs}
-use mathlib.Core.Path.{_≡_, sym, ap, _∙_}
-use mathlib.Core.Bool.{Bool, false, xor}
-use Prim.Native.Nat.{ℕ, _*_, _/_}
-use lib.IntN.{ℤ, natAbs}
-use lib.Signed.{nonNeg}
-use mir.Syntax.{w64}
-use mir.Val.{toZ, ofZ}
+use mathlib.Core.Path.{_≡_, ap, _∙_}
+use mathlib.Core.Bool.{false}
+use Prim.Native.Nat.{_*_, _/_}
+use lib.IntN.{natAbs}
 use mir.Facts.{toZ-ofZ}
 use Rattle.words.specs.Sums.{clamp64, signed, notional, SCALE}
-use Rattle.words.specs.Wide.{valueOf, wide}
+use Rattle.words.specs.Wide.{valueOf}
 use Rattle.words.proofs.Ints.{clamp-back, signed-pos}
 use Rattle.words.proofs.TwoWords.{valueOf-wide}
 use Rattle.words.proofs.magnitude.Statement.{statement}

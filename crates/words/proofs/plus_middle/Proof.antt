@@ -1,9 +1,9 @@
 -- The low sum is below what was added exactly where it passed 2 ^ 64.
 use borrow.Author.Needs.{needs}
 use Prim.Native.Nat.{ℕ, _+_, _*_, _/_, _%_, _^_, _≤_, _<_}
-use mathlib.Core.Path.{_≡_, ap, _∙_}
+use mathlib.Core.Path.{_≡_}
 use native.Mathlib.Omega.{arith}
-use Rattle.words.specs.Wide.{valueOf, wide}
+use Rattle.words.specs.Wide.{valueOf}
 use Rattle.words.proofs.TwoWords.{words-of}
 use Rattle.words.proofs.plus_middle.Statement.{statement}
 use Rattle.words.proofs.plus_middle.Tie as tie

@@ -1,15 +1,15 @@
 -- The magnitude of the value in micro-units over that of the quantity, with the sign of the quotient.
 use borrow.Author.Needs.{needs}
 use mathlib.Core.Path.{_≡_, sym, ap, _∙_}
-use mathlib.Core.Bool.{Bool, false, xor}
-use Prim.Native.Nat.{ℕ, _*_, _/_}
-use lib.IntN.{ℤ, natAbs}
+use mathlib.Core.Bool.{xor}
+use Prim.Native.Nat.{_*_, _/_}
+use lib.IntN.{natAbs}
 use lib.Signed.{nonNeg}
 use mir.Syntax.{w64}
 use mir.Val.{toZ, ofZ}
 use mir.Facts.{toZ-ofZ}
-use Rattle.words.specs.Sums.{clamp64, signed, priceAt, SCALE}
-use Rattle.words.specs.Wide.{valueOf, wide}
+use Rattle.words.specs.Sums.{clamp64, signed, SCALE}
+use Rattle.words.specs.Wide.{valueOf}
 use Rattle.words.proofs.Ints.{clamp-back}
 use Rattle.words.proofs.TwoWords.{valueOf-wide}
 use Rattle.words.proofs.Signs.{priceAt-signed}

@@ -1,13 +1,13 @@
 -- Every number but the lowest has its negative among the i64.
-use Prim.Native.Nat.{ℕ, suc, _+_, _<_, _^_}
-use mathlib.Core.Path.{_≡_, refl, sym, ap, _∙_}
+use Prim.Native.Nat.{suc, _<_, _^_}
+use mathlib.Core.Path.{_≡_, sym, ap, _∙_}
 use native.Mathlib.Omega.{arith}
 use lib.IntN.{ℤ, pos, negsuc, negℤ, _-ℤ_}
 use mir.Syntax.{w64}
 use mir.Val.{SFits, toZ, ofZ}
 use mir.Facts.{toZ-ofZ}
 use Rattle.words.specs.Sums.{clamp64, satNeg}
-use Rattle.words.proofs.Ints.{P, N, P-neg, N-neg, P-sub, P-fits, N-fits, fits-of, eq-of, clamp-same}
+use Rattle.words.proofs.Ints.{P, N, P-neg, N-neg, P-sub, P-fits, fits-of, eq-of, clamp-same}
 use Rattle.words.proofs.saturating_neg.Statement.{statement}
 use Rattle.words.proofs.saturating_neg.Tie as tie
 

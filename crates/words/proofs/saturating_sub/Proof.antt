@@ -1,65 +1,15 @@
--- The room is the end and b, which fits; a compared with it says whether the sum does.
-use Prim.Native.Nat.{_+_, _<_, _^_}
+-- The room is the end and b, which fits; a compared with it says whether the difference does.
 use mathlib.Core.Path.{_≡_, sym, _∙_}
-use mathlib.Core.Bool.{true, false}
 use native.Mathlib.Omega.{arith}
-use lib.IntN.{ℤ, pos, negsuc, _+ℤ_, _-ℤ_}
-use lib.Signed.{ltZ, leZ}
+use lib.IntN.{_+ℤ_, _-ℤ_}
 use mir.Syntax.{w64}
 use mir.Val.{SFits, toZ, ofZ}
 use mir.Facts.{toZ-ofZ}
-use Rattle.words.specs.Sums.{clamp64, satSub}
-use Rattle.words.proofs.Ints.{P, N, P-add, P-sub, le-yes, le-no, P-fits, N-fits, fits-of, clamp-same}
-use Rattle.words.proofs.Room.{over, below-top, under, above-low}
+use Rattle.words.specs.Sums.{satSub}
+use Rattle.words.proofs.Ints.{P, N, P-add, P-sub, P-fits, N-fits, clamp-same}
+use Rattle.words.proofs.Room.{MAX, MIN, not-below, below, top-fits, low-fits, over, at-most, under, at-least}
 use Rattle.words.proofs.saturating_sub.Statement.{statement}
 use Rattle.words.proofs.saturating_sub.Tie as tie
-
-abbrev MAX : ℤ
-MAX = pos 9223372036854775807
-
-abbrev MIN : ℤ
-MIN = negsuc 9223372036854775807
-
-module _ (a b : ℤ) (fa : SFits w64 a) (fb : SFits w64 b) where
-  top-fits : leZ (pos 0) b ≡ false → SFits w64 (MAX +ℤ b)
-  unfolding P N
-  top-fits h =
-      let s = P-add MAX b in
-      let l = le-no (pos 0) b h in
-      let p = N-fits b fb in
-      fits-of _ (omega arith) (omega arith)
-
-  low-fits : leZ (pos 0) b ≡ true → SFits w64 (MIN +ℤ b)
-  unfolding P N
-  low-fits h =
-      let s = P-add MIN b in
-      let l = le-yes (pos 0) b h in
-      let p = P-fits b fb in
-      fits-of _ (omega arith) (omega arith)
-
-  top-room : P (MAX +ℤ b) + P (a -ℤ b) + N a ≡ N (MAX +ℤ b) + N (a -ℤ b) + P a + 9223372036854775807
-  unfolding P N
-  top-room = omega (arith, P-add MAX b, P-sub a b)
-
-  low-room : P (MIN +ℤ b) + P (a -ℤ b) + N a + 2 ^ 63 ≡ N (MIN +ℤ b) + N (a -ℤ b) + P a
-  unfolding P N
-  low-room = omega (arith, P-add MIN b, P-sub a b)
-
-  diff-fits : leZ (pos 0) b ≡ false → ltZ (MAX +ℤ b) a ≡ false → SFits w64 (a -ℤ b)
-  unfolding P N
-  diff-fits h g =
-      let l = le-no (pos 0) b h in
-      let q = P-sub a b in
-      let n = N-fits a fa in
-      fits-of _ (below-top a (a -ℤ b) (MAX +ℤ b) top-room g) (omega arith)
-
-  diff-fits-2 : leZ (pos 0) b ≡ true → ltZ a (MIN +ℤ b) ≡ false → SFits w64 (a -ℤ b)
-  unfolding P N
-  diff-fits-2 h g =
-      let l = le-yes (pos 0) b h in
-      let q = P-sub a b in
-      let n = P-fits a fa in
-      fits-of _ (omega arith) (above-low a (a -ℤ b) (MIN +ℤ b) low-room g)
 
 -- what the machine holds is the bits of a number: read back they are the number
 module _ (s : tie.Start) where
@@ -72,7 +22,7 @@ module _ (s : tie.Start) where
 add-low : tie.Need-add-low
 add-low c =
     let s = c .before in
-    rw (rb s) (low-fits (s .args .a) _ (s .fits .a) (s .fits .b) (rw (rb s) at (c .if1 .taken)))
+    rw (rb s) (low-fits (MIN +ℤ s .args .b) (N (s .args .b)) (P (s .args .b)) (P-add MIN (s .args .b)) (not-below (s .args .b) (rw (rb s) at (c .if1 .taken))) (omega (arith, P-fits (s .args .b) (s .fits .b))))
 
 module _ (c : tie.Then1) where
   rl : toZ w64 (ofZ w64 (MIN +ℤ toZ w64 (ofZ w64 (c .before .args .b)))) ≡ MIN +ℤ c .before .args .b
@@ -81,12 +31,13 @@ module _ (c : tie.Then1) where
 sub-result : tie.Need-sub-result
 sub-result c =
     let s = c .before .before in
-    simp (ra s, rb s) (diff-fits-2 (s .args .a) _ (s .fits .a) (s .fits .b) (rw (rb s) at (c .before .if1 .taken)) (rw (rl (c .before), ra s) at (c .if2 .left)))
+    simp (ra s, rb s)
+    (at-least (s .args .a) (s .args .a -ℤ s .args .b) (MIN +ℤ s .args .b) (N (s .args .b)) (P (s .args .b)) (P-sub (s .args .a) (s .args .b)) (P-add MIN (s .args .b)) (not-below (s .args .b) (rw (rb s) at (c .before .if1 .taken))) (s .fits .a) (rw (rl (c .before), ra s) at (c .if2 .left)))
 
 add-top : tie.Need-add-top
 add-top c =
     let s = c .before in
-    rw (rb s) (top-fits (s .args .a) _ (s .fits .a) (s .fits .b) (rw (rb s) at (c .if1 .left)))
+    rw (rb s) (top-fits (MAX +ℤ s .args .b) (N (s .args .b)) (P (s .args .b)) (P-add MAX (s .args .b)) (below (s .args .b) (rw (rb s) at (c .if1 .left))) (N-fits (s .args .b) (s .fits .b)))
 
 module _ (c : tie.Else1) where
   rt : toZ w64 (ofZ w64 (MAX +ℤ toZ w64 (ofZ w64 (c .before .args .b)))) ≡ MAX +ℤ c .before .args .b
@@ -95,13 +46,14 @@ module _ (c : tie.Else1) where
 sub-result-2 : tie.Need-sub-result-2
 sub-result-2 c =
     let s = c .before .before in
-    simp (ra s, rb s) (diff-fits (s .args .a) _ (s .fits .a) (s .fits .b) (rw (rb s) at (c .before .if1 .left)) (rw (rt (c .before), ra s) at (c .if3 .left)))
+    simp (ra s, rb s)
+    (at-most (s .args .a) (s .args .a -ℤ s .args .b) (MAX +ℤ s .args .b) (N (s .args .b)) (P (s .args .b)) (P-sub (s .args .a) (s .args .b)) (P-add MAX (s .args .b)) (below (s .args .b) (rw (rb s) at (c .before .if1 .left))) (s .fits .a) (rw (rt (c .before), ra s) at (c .if3 .left)))
 
 returns : tie.Need-returns
 unfolding satSub
 returns c =
     let s = c .before .before in
-    under (s .args .a) (s .args .a -ℤ s .args .b) (MIN +ℤ s .args .b) (low-room (s .args .a) (s .args .b) (s .fits .a) (s .fits .b)) (rw (rl (c .before), ra s) at (c .if2 .taken))
+    under (s .args .a) (s .args .a -ℤ s .args .b) (MIN +ℤ s .args .b) (N (s .args .b)) (P (s .args .b)) (P-sub (s .args .a) (s .args .b)) (P-add MIN (s .args .b)) (rw (rl (c .before), ra s) at (c .if2 .taken))
 
 returns-2 : tie.Need-returns-2
 unfolding satSub
@@ -114,7 +66,7 @@ returns-3 : tie.Need-returns-3
 unfolding satSub
 returns-3 c =
     let s = c .before .before in
-    over (s .args .a) (s .args .a -ℤ s .args .b) (MAX +ℤ s .args .b) (top-room (s .args .a) (s .args .b) (s .fits .a) (s .fits .b)) (rw (rt (c .before), ra s) at (c .if3 .taken))
+    over (s .args .a) (s .args .a -ℤ s .args .b) (MAX +ℤ s .args .b) (N (s .args .b)) (P (s .args .b)) (P-sub (s .args .a) (s .args .b)) (P-add MAX (s .args .b)) (rw (rt (c .before), ra s) at (c .if3 .taken))
 
 returns-4 : tie.Need-returns-4
 unfolding satSub

@@ -1,0 +1,3 @@
+-- Laws of costs.
+pub mod Constants
+pub mod Costs

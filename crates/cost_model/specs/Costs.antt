@@ -1,0 +1,60 @@
+-- Commission and slippage: document 01, 'Sums' and 'Numbers that bound an account'.
+use Prim.Native.Nat.{ℕ}
+use mathlib.Core.Bool.{Bool, true, false, cond, _&&_}
+use lib.IntN.{ℤ, pos, natAbs}
+use lib.Signed.{ltZ, leZ}
+use lib.Ieee.{Float, fin, binary64, add, mul, div, le}
+use Rattle.doubles.specs.Doubles.{finite, toI64, ofI64, ofU64, roundAway}
+use Rattle.cost_model.specs.declared.CostModel.{CostModel}
+
+abbrev pub zero : Float
+zero = fin false 0 (pos 0)
+
+abbrev pub one : Float
+one = fin false 1 (pos 0)
+
+-- 625 times 2 ^ 4
+abbrev pub tenThousand : Float
+tenThousand = fin false 625 (pos 4)
+
+abbrev pub model : Float → Float → ℤ → CostModel
+model c s m = record { «commission_bps» = c; «slippage_bps» = s; «min_commission» = m }
+
+abbrev pub free : CostModel
+free = model zero zero (pos 0)
+
+-- "Commission is round(notional × bps / 10,000), multiplied first, .."
+unfoldable pub commission : Float → ℕ → ℤ
+commission bps n = toI64 (roundAway (div binary64 (mul binary64 (ofU64 n) bps) tenThousand))
+
+-- ".. and at least `min_commission`."
+unfoldable pub atLeast : ℤ → ℤ → ℤ
+atLeast floor c = cond (ltZ c floor) floor c
+
+-- The notional counts by its magnitude.
+unfoldable pub cost : CostModel → ℤ → ℤ
+cost m n = atLeast (m .«min_commission») (commission (m .«commission_bps») (natAbs n))
+
+-- a buy's sign is 1, a sale's -1
+abbrev pub sign : Bool → Float
+sign true = one
+sign false = fin true 1 (pos 0)
+
+-- "1 + sign × slippage / 10,000"
+unfoldable pub slippageFactor : CostModel → Bool → Float
+slippageFactor m buys = add binary64 one (div binary64 (mul binary64 (sign buys) (m .«slippage_bps»)) tenThousand)
+
+unfoldable pub slipped : Float → ℤ → ℤ
+slipped factor price = toI64 (roundAway (mul binary64 (ofI64 price) factor))
+
+-- "Effective price is round(price × (1 + sign × slippage / 10,000))."
+unfoldable pub effective : CostModel → Bool → ℤ → ℤ
+effective m buys price = slipped (slippageFactor m buys) price
+
+-- "`commission_bps` .. finite and at least 0"; a zero of either sign is
+unfoldable pub goodRate : Float → Bool
+goodRate x = finite x && le zero x
+
+-- and "`slippage_bps` from 0 to 10,000", "`min_commission` .. at least 0"
+unfoldable pub goodCosts : CostModel → Bool
+goodCosts m = goodRate (m .«commission_bps») && (le zero (m .«slippage_bps») && (le (m .«slippage_bps») tenThousand && leZ (pos 0) (m .«min_commission»)))

@@ -1,0 +1,2 @@
+-- What a trade costs.
+pub mod Costs
