@@ -1,0 +1,4 @@
+-- Laws of the lists of a call, for the proofs of this crate and of its callers.
+pub mod Lists
+pub mod Prices
+pub mod Sorted

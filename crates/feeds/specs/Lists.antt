@@ -1,0 +1,42 @@
+-- Lists of targets and of prices, as parallel lists of numbers.
+use Prim.Native.Nat.{ℕ}
+use mathlib.Core.Bool.{Bool, true, false, not}
+use mathlib.Core.List.{List, [], _∷_}
+use lib.Dec.{eqb}
+use lib.IntN.{ℤ, pos}
+use lib.Signed.{leZ}
+use lib.Ieee.{Float}
+use Rattle.doubles.specs.Doubles.{finite}
+use Rattle.position.specs.Symbols.{goodSymbol}
+use Rattle.table.specs.Keyed.{pick, both}
+
+-- whether the symbol stands in the list
+unfoldable pub among : ℕ → List ℕ → Bool
+among s [] = false
+among s (k ∷ ks) = pick (eqb k s) true (among s ks)
+
+-- not "a symbol is bad"
+unfoldable pub allGood : List ℕ → Bool
+allGood [] = true
+allGood (s ∷ l) = both (goodSymbol s) (allGood l)
+
+-- not "a symbol stands twice in one list"
+unfoldable pub distinct : List ℕ → Bool
+distinct [] = true
+distinct (s ∷ l) = both (not (among s l)) (distinct l)
+
+-- not "a weight is not finite"
+unfoldable pub allFinite : List Float → Bool
+allFinite [] = true
+allFinite (w ∷ l) = both (finite w) (allFinite l)
+
+-- not "a price is below 1"
+unfoldable pub allPriced : List ℤ → Bool
+allPriced [] = true
+allPriced (p ∷ l) = both (leZ (pos 1) p) (allPriced l)
+
+-- the price that the list gives a symbol; 0 where it gives none, which no listed price is
+unfoldable pub priceOf : List ℕ → List ℤ → ℕ → ℤ
+priceOf [] ps s = pos 0
+priceOf (k ∷ ks) [] s = pos 0
+priceOf (k ∷ ks) (p ∷ ps) s = pick (eqb k s) p (priceOf ks ps s)

@@ -1,0 +1,184 @@
+// What an order may be: its notional, drift and size, its truncation to a maximum, and the largest buy that cash pays for.
+ghost use mathlib.Core.Path.{_≡_};
+ghost use mathlib.Core.Bool.{true};
+ghost use Prim.Native.Nat.{_*_, _<_, _≤_, _^_};
+ghost use Rattle.words.specs.Sums.{notional};
+ghost use Rattle.words.specs.Wide.{wide};
+ghost use Rattle.cost_model.specs.Costs.{goodCosts};
+ghost use Rattle.sizing.specs.Afford.{need, fits, largest, affordable};
+ghost use Rattle.sizing.specs.Sizing.{above, sharesFor, sized, cutTo, drift};
+use cost_model::CostModel;
+use position::Shares;
+use words::Wide;
+
+const SCALE: u64 = 1_000_000;
+
+// The part of x above zero: a price or a step of 0 or less divides nothing.
+fn above(x: i64) -> u64
+    ensures { λ r. ⌜ r ≡ above x ⌝ }
+{
+    if 0 < x { x as u64 } else { 0 }
+}
+
+// The notional of a fill, from the exact magnitudes: that of the lowest number is not saturated first.
+pub fn notional_of(quantity: Shares, price: i64) -> i64
+    ensures { λ r. ⌜ r ≡ notional (quantity .0) price ⌝ }
+{
+    words::magnitude(quantity.0, price)
+}
+
+// How many micro-shares a value is at a price, truncated and snapped to the step: two words, since a clamp before the snap
+// would leave a count that is no multiple of the step.
+fn shares_for(value: u64, price: u64, step: u64) -> Wide
+    ensures { λ r. ⌜ r ≡ wide (sharesFor value price step) ⌝ }
+{
+    words::snap_wide(words::div_wide(words::mul_wide(value, SCALE), price), step)
+}
+
+// "the gap becomes shares, truncated, snapped toward zero to the step, then clamped"
+pub fn size_qty(diff_value: i64, price: i64, step: i64) -> Shares
+    ensures { λ r. ⌜ r .0 ≡ sized «diff_value» price step ⌝ }
+{
+    let snapped = shares_for(words::unsigned_abs(diff_value), above(price), above(step));
+    Shares::from_raw(words::clamped(diff_value < 0, snapped))
+}
+
+// "the quantity keeps its sign and becomes maximum × SCALE / price, truncated and snapped to the step"
+pub fn truncate_qty_to_max_value(quantity: Shares, price: i64, step: i64, max_value: i64) -> Shares
+    ensures { λ r. ⌜ r .0 ≡ cutTo (quantity .0) price step «max_value» ⌝ }
+{
+    let snapped = shares_for(above(max_value), words::unsigned_abs(price), above(step));
+    let most = words::clamped(false, snapped);
+    if quantity.0 < 0 {
+        return Shares::from_raw(0 - most);
+    }
+    Shares::from_raw(most)
+}
+
+// "Drift is (absolute value / equity) × 10,000, divided first."
+pub fn drift_bps_of(value: i64, equity: i64) -> f64
+    ensures { λ r. ⌜ r ≡ drift value equity ⌝ }
+{
+    doubles::u64_to_f64(words::unsigned_abs(value)) / doubles::i64_to_f64(equity) * 10_000.0
+}
+
+// "A buy's need is notional plus commission, saturating."
+pub fn buy_cash_required(quantity: Shares, price: i64, costs: CostModel) -> i64
+    ensures { λ r. ⌜ r ≡ need costs (quantity .0) price ⌝ }
+{
+    if quantity.0 <= 0 {
+        return 0;
+    }
+    if price <= 0 {
+        return 0;
+    }
+    let notional = notional_of(quantity, price);
+    words::saturating_add(notional, costs.compute_cost(notional))
+}
+
+// A guess at the largest notional that cash pays for with its commission: by the rate or by the floor, whichever leaves less, and
+// one more or less where the rounding was against it.
+fn guessed_notional(cash: i64, costs: CostModel) -> i64 {
+    let flat = words::saturating_sub(cash, costs.min_commission);
+    let rated = doubles::to_i64(
+        doubles::i64_to_f64(cash) / (1.0 + costs.commission_bps / 10_000.0),
+    );
+    let n = if flat < rated { flat } else { rated };
+    let more = words::saturating_add(n, 1);
+    if words::saturating_add(more, costs.compute_cost(more)) <= cash {
+        return more;
+    }
+    if cash < words::saturating_add(n, costs.compute_cost(n)) {
+        return words::saturating_sub(n, 1);
+    }
+    n
+}
+
+// One more than a guess at the largest count of steps that fits. A share of a cent costs nothing, so that all but one unit of
+// the next cent is spent too; from 2^44 cents on, where that needs a second word, it is left out.
+fn guessed_over(cash: i64, price: i64, step: u64, costs: CostModel) -> u64
+    requires { ⌜ 0 < step ⌝ }
+{
+    let n = above(guessed_notional(cash, costs));
+    let shares = if n < 0x1000_0000_0000 {
+        words::div_wide(
+            Wide {
+                hi: 0,
+                lo: n * SCALE + 999_999,
+            },
+            above(price),
+        )
+    } else {
+        words::div_wide(words::mul_wide(n, SCALE), above(price))
+    };
+    std::num::wrapping_add_u64(shares.lo / step, 1)
+}
+
+// The next count to test, above lo and at most hi: the hint if it lies there, else the middle.
+fn probe(lo: u64, hi: u64, hint: u64) -> u64
+    requires { ⌜ (lo < hi) × (hi < 2 ^ 63) ⌝ }
+    ensures { λ r. ⌜ (lo < r) × (r ≤ hi) ⌝ }
+{
+    if lo < hint {
+        if hint <= hi {
+            return hint;
+        }
+    }
+    lo + (hi - lo + 1) / 2
+}
+
+// The hint after mid was tested: below the first guess its neighbour; after that none, and the interval is halved.
+fn after(mid: u64, over: u64) -> u64 {
+    if mid == over {
+        std::num::wrapping_sub_u64(mid, 1)
+    } else {
+        0
+    }
+}
+
+// The largest count of steps up to most whose need fits cash. `min_commission` makes a naive cash / price overshoot, so it is
+// searched for. Any guess is sound: a tested count lies between the ends, and one of them moves each turn.
+fn affordable_steps(most: u64, cash: i64, step: u64, price: i64, costs: CostModel) -> u64
+    requires { ⌜ (0 < step) × (most * step < 2 ^ 63) × (goodCosts costs ≡ true) ⌝ }
+    ensures { λ r. ⌜ r ≡ largest (fits costs step cash price) most ⌝ }
+{
+    let over = guessed_over(cash, price, step, costs);
+    let mut hint = over;
+    let mut lo = 0u64;
+    let mut hi = most;
+    while lo < hi {
+        let mid = probe(lo, hi, hint);
+        hint = after(mid, over);
+        if buy_cash_required(Shares((mid * step) as i64), price, costs) <= cash {
+            lo = mid;
+        } else {
+            hi = mid - 1;
+        }
+    }
+    lo
+}
+
+// "the largest step multiple, not above the request, whose need fits cash (a zero fill needs 0); at cash 0 it is nothing". Under
+// costs that no account may have the need could fall as the quantity rises, and halving would miss the largest.
+pub fn largest_affordable_buy_qty(
+    requested: Shares,
+    cash: i64,
+    step: i64,
+    price: i64,
+    costs: CostModel,
+) -> Shares
+    ensures { λ r. ⌜ r .0 ≡ affordable costs step cash (requested .0) price ⌝ }
+{
+    if cash <= 0 {
+        return Shares::ZERO;
+    }
+    if !costs.is_good() {
+        return Shares::ZERO;
+    }
+    let unit = above(step);
+    if unit == 0 {
+        return Shares::ZERO;
+    }
+    let count = affordable_steps(above(requested.0) / unit, cash, unit, price, costs);
+    Shares::from_raw((count * unit) as i64)
+}
