@@ -1,0 +1,3 @@
+-- Laws of accounts, for the proofs of this crate and of its callers.
+pub mod Columns
+pub mod Tables
