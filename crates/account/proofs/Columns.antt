@@ -42,7 +42,7 @@ module _ (i : ℕ) (c : Cols) (h : i < 64) where
   sound-not g (suc n) l = not-here n g (sound-not g n) l (ltb i n) refl
 
 -- ---- the places as a list
-both-unit : (b : Bool) → both b true ≡ b
+pub both-unit : (b : Bool) → both b true ≡ b
 both-unit true = refl
 both-unit false = refl
 
