@@ -1,0 +1,3 @@
+-- Laws of deals, records and runs of fills.
+pub mod Deals
+pub mod Storing
