@@ -53,6 +53,11 @@ total-perm f (keep {a} p) = ap (λ (n : ℕ). f a + n) (total-perm f p)
 total-perm f (swap {a} {b} {x}) = omega arith
 total-perm f (then p q) = total-perm f p ∙ total-perm f q
 
+pub total-same : {A : Type 0} (f g : A → ℕ) → ((a : A) → f a ≡ g a) → (x : List A) → total f x ≡ total g x
+unfolding total
+total-same f g e [] = refl
+total-same f g e (a ∷ x) = omega (arith, e a, total-same f g e x)
+
 pub all-perm : {A : Type 0} {Q : A → Type 0} {x y : List A} → Perm A x y → All A Q x → All A Q y
 all-perm done h = h
 all-perm (keep p) (and q h) = and q (all-perm p h)

@@ -71,22 +71,26 @@ RaisesFirst {O} R os = Pairs O (λ x y. T (lowers R x) → T (raises R y) → �
 abbrev pub newOf : {O Q A : Type 0} → Rule O Q A → List Q → O → ℕ
 newOf R ps o = new (seek (R .key) (R .symbol o) ps)
 
-abbrev Apart : {O Q A : Type 0} → Rule O Q A → O → O → Type 0
-Apart R x y = R .symbol x ≡ R .symbol y → ⊥
+abbrev pub Differ : {O Q A : Type 0} → Rule O Q A → O → O → Type 0
+Differ R x y = R .symbol x ≡ R .symbol y → ⊥
 
-pub record Ready {O Q A : Type 0} (R : Rule O Q A) (os : List O) (a : A) : Type 0 where
+-- what the cash asks
+pub record Funded {O Q A : Type 0} (R : Rule O Q A) (os : List O) (a : A) : Type 0 where
   pub orders : All O (R .Good) os
-  pub apart : Pairs O (λ x y. R .symbol x ≡ R .symbol y → ⊥) os
-  pub room : length (R .held a) + total (newOf R (R .held a)) os ≤ 64
   pub cash-low : leZ (pos 0) (R .cash a) ≡ true
   pub cash-top : leZ (R .cash a +ℤ pos (total (raised R) os)) (pos 9223372036854775807) ≡ true
 
+-- what the positions ask besides
+pub record Apart {O Q A : Type 0} (R : Rule O Q A) (os : List O) (a : A) : Type 0 where
+  pub differ : Pairs O (Differ R) os
+  pub room : length (R .held a) + total (newOf R (R .held a)) os ≤ 64
+
 -- ---- tests and numbers
-and-left : (a b : Bool) → (a && b) ≡ true → a ≡ true
+pub and-left : (a b : Bool) → (a && b) ≡ true → a ≡ true
 and-left true b e = refl
 and-left false b e = let z : _≡_ {A = ℕ} 0 1 = cc in absurd (omega arith)
 
-and-right : (a b : Bool) → (a && b) ≡ true → b ≡ true
+pub and-right : (a b : Bool) → (a && b) ≡ true → b ≡ true
 and-right true b e = e
 and-right false b e = let z : _≡_ {A = ℕ} 0 1 = cc in absurd (omega arith)
 
@@ -125,11 +129,11 @@ module _ {O Q A : Type 0} (R : Rule O Q A) where
   applied-key : (o : O) (ps : List Q) → R .key (R .apply o (seek (R .key) (R .symbol o) ps)) ≡ R .symbol o
   applied-key o ps = R .made-key o (seek (R .key) (R .symbol o) ps) (λ p e. seek-key (R .key) (R .symbol o) ps p e)
 
-  seek-up : (x o : O) (ps : List Q) → Apart R o x → seek (R .key) (R .symbol x) (up o ps) ≡ seek (R .key) (R .symbol x) ps
+  seek-up : (x o : O) (ps : List Q) → Differ R o x → seek (R .key) (R .symbol x) (up o ps) ≡ seek (R .key) (R .symbol x) ps
   unfolding up
   seek-up x o ps n = seek-put (R .key) (R .symbol x) (R .apply o (seek (R .key) (R .symbol o) ps)) ps (λ e. n (sym (applied-key o ps) ∙ sym e))
 
-  up-swap : (x y : O) (ps : List Q) → Apart R x y → up x (up y ps) ≡ up y (up x ps)
+  up-swap : (x y : O) (ps : List Q) → Differ R x y → up x (up y ps) ≡ up y (up x ps)
   unfolding up
   up-swap x y ps n =
       let px : Q = R .apply x (seek (R .key) (R .symbol x) ps) in
@@ -138,14 +142,14 @@ module _ {O Q A : Type 0} (R : Rule O Q A) where
       ∙ put-swap (R .key) px py ps (λ e. n (sym (applied-key x ps) ∙ e ∙ applied-key y ps))
       ∙ sym (ap (λ (q : Option Q). put (R .key) (R .apply y q) (put (R .key) px ps)) (seek-up y x ps n))
 
-  ups-perm : {x y : List O} → Perm O x y → Pairs O (Apart R) x → (ps : List Q) → ups x ps ≡ ups y ps
+  ups-perm : {x y : List O} → Perm O x y → Pairs O (Differ R) x → (ps : List Q) → ups x ps ≡ ups y ps
   unfolding ups
   ups-perm done h ps = refl
   ups-perm (keep {a} p) (and k h) ps = ups-perm p h (up a ps)
   ups-perm (swap {a} {b} {x}) (and (and n k) h) ps = ap (ups x) (up-swap b a ps (λ e. n (sym e)))
   ups-perm (then p q) h ps = ups-perm p h ps ∙ ups-perm q (pairs-perm (λ a b n e. n (sym e)) p h) ps
 
-  new-up : (o : O) (os : List O) (ps : List Q) → All O (Apart R o) os → total (newOf R (up o ps)) os ≡ total (newOf R ps) os
+  new-up : (o : O) (os : List O) (ps : List Q) → All O (Differ R o) os → total (newOf R (up o ps)) os ≡ total (newOf R ps) os
   unfolding total
   new-up o [] ps nothing = refl
   new-up o (x ∷ os) ps (and n h) = omega (arith, ap new (seek-up x o ps n), new-up o os ps h)
@@ -163,7 +167,7 @@ module _ {O Q A : Type 0} (R : Rule O Q A) where
       put-room (R .key) q ps (subst (λ (s : ℕ). length ps + new (seek (R .key) s ps) ≤ 64) (sym (applied-key o ps)) h)
 
   -- the positions that a list of orders leaves, each filled whole
-  held-after : (os : List O) (a : A) → All O (R .Good) os → Pairs O (Apart R) os → length (R .held a) + total (newOf R (R .held a)) os ≤ 64
+  held-after : (os : List O) (a : A) → All O (R .Good) os → Pairs O (Differ R) os → length (R .held a) + total (newOf R (R .held a)) os ≤ 64
       → allWhole R os a ≡ true → R .held (after R os a) ≡ ups os (R .held a)
   unfolding after allWhole ups total
   held-after [] a nothing nothing r w = refl
@@ -245,14 +249,18 @@ module _ {O Q A : Type 0} (R : Rule O Q A) where
   raises-first [] nothing = nothing
   raises-first (o ∷ os) (and h hs) = and (all-map (λ x k s t. not-both (change R x) (k s) t) h) (raises-first os hs)
 
-  -- what is ready in one running order is ready in all
-  pub ready-perm : (a : A) {x y : List O} → Perm O x y → Ready R x a → Ready R y a
-  ready-perm a p r = record {
+  -- what holds of one running order holds of all
+  pub funded-perm : (a : A) {x y : List O} → Perm O x y → Funded R x a → Funded R y a
+  funded-perm a p r = record {
     orders = all-perm p (r .orders);
-    apart = pairs-perm (λ x y n e. n (sym e)) p (r .apart);
-    room = subst (λ (n : ℕ). length (R .held a) + n ≤ 64) (total-perm (newOf R (R .held a)) p) (r .room);
     cash-low = r .cash-low;
     cash-top = subst (λ (n : ℕ). leZ (R .cash a +ℤ pos n) (pos 9223372036854775807) ≡ true) (total-perm (raised R) p) (r .cash-top);
+  }
+
+  pub apart-perm : (a : A) {x y : List O} → Perm O x y → Apart R x a → Apart R y a
+  apart-perm a p r = record {
+    differ = pairs-perm (λ x y n e. n (sym e)) p (r .differ);
+    room = subst (λ (n : ℕ). length (R .held a) + n ≤ 64) (total-perm (newOf R (R .held a)) p) (r .room);
   }
 
   record Opening (z : ℤ) (os : List O) : Type 0 where
@@ -260,7 +268,7 @@ module _ {O Q A : Type 0} (R : Rule O Q A) where
     is : z ≡ pos amount
     top : amount + total (raised R) os < 2 ^ 63
 
-  opening : (os : List O) (a : A) → Ready R os a → Opening (R .cash a) os
+  opening : (os : List O) (a : A) → Funded R os a → Opening (R .cash a) os
   unfolding P N
   opening os a r =
       let z = R .cash a in
@@ -272,45 +280,51 @@ module _ {O Q A : Type 0} (R : Rule O Q A) where
         top = omega (arith, le-yes (z +ℤ pos s) (pos 9223372036854775807) (r .cash-top), P-add z (pos s));
       }
 
-  left-of : (os : List O) (a : A) → (r : Ready R os a) → allWhole R os a ≡ true → Left (R .cash (after R os a)) (opening os a r .amount) os
-  left-of os a r w = let b = opening os a r in cash-after os a (b .amount) (r .orders) (b .is) (b .top) w
-
   one-cash : (z : ℤ) (m n : ℕ) → z ≡ pos m → z ≡ pos n → m ≡ n
   one-cash z m n e f = cc
 
-  -- If some running order lets each order fill whole, so does every running order with no order that lowers cash ahead of one that raises it.
-  pub raises-first-fills : (os : List O) (a : A) → Ready R os a → (w : List O) → Perm O os w → allWhole R w a ≡ true
-      → (v : List O) → Perm O os v → RaisesFirst R v → allWhole R v a ≡ true
-  raises-first-fills os a r w p f v q s =
-      let ready-w : Ready R w a = ready-perm a p r in
-      let ready-v : Ready R v a = ready-perm a q r in
-      let b = opening v a ready-v in
-      let d = opening w a ready-w in
-      let l = left-of w a ready-w f in
-      let m : total takes v ≤ b .amount + total (raised R) v =
-      omega (arith, l .sum, one-cash (R .cash a) (b .amount) (d .amount) (b .is) (d .is), total-perm takes p, total-perm takes q, total-perm (raised R) p, total-perm (raised R) q) in
-      whole-first v a (b .amount) (ready-v .orders) (b .is) (b .top) m s
+  module _ (os : List O) (a : A) (r : Funded R os a) where
+    -- what is left in any running order in which each fills whole, by the sums of the list itself
+    left-of : (w : List O) → Perm O os w → allWhole R w a ≡ true → Left (R .cash (after R w a)) (opening os a r .amount) os
+    left-of w p f =
+        let ready : Funded R w a = funded-perm a p r in
+        let b = opening os a r in
+        let d = opening w a ready in
+        let l = cash-after w a (d .amount) (ready .orders) (d .is) (d .top) f in
+        record { left = l .left; is = l .is; sum = omega (arith, l .sum, one-cash (R .cash a) (b .amount) (d .amount) (b .is) (d .is), total-perm takes p, total-perm (raised R) p) }
 
-  -- The same, of every running order that puts the orders not lowering cash ahead of those lowering it.
-  pub lowers-last-fills : (os : List O) (a : A) → Ready R os a → (w : List O) → Perm O os w → allWhole R w a ≡ true
-      → (v : List O) → Perm O os v → LowersLast R v → allWhole R v a ≡ true
-  lowers-last-fills os a r w p f v q s = raises-first-fills os a r w p f v q (raises-first v s)
+    -- If some running order lets each order fill whole, so does every running order with no order that lowers cash ahead of one that raises it.
+    pub raises-first-fills : (w : List O) → Perm O os w → allWhole R w a ≡ true → (v : List O) → Perm O os v → RaisesFirst R v → allWhole R v a ≡ true
+    raises-first-fills w p f v q s =
+        let ready : Funded R v a = funded-perm a q r in
+        let b = opening os a r in
+        let d = opening v a ready in
+        let l = left-of w p f in
+        let m : total takes v ≤ d .amount + total (raised R) v =
+        omega (arith, l .sum, one-cash (R .cash a) (b .amount) (d .amount) (b .is) (d .is), total-perm takes q, total-perm (raised R) q) in
+        whole-first v a (d .amount) (ready .orders) (d .is) (d .top) m s
 
-  -- All running orders in which each order fills whole leave the same cash and the same positions.
-  pub same-left : (os : List O) (a : A) → Ready R os a → (v w : List O) → Perm O os v → Perm O os w → allWhole R v a ≡ true → allWhole R w a ≡ true
-      → (R .cash (after R v a) ≡ R .cash (after R w a)) × (R .held (after R v a) ≡ R .held (after R w a))
-  same-left os a r v w p q f g =
-      let ready-v : Ready R v a = ready-perm a p r in
-      let ready-w : Ready R w a = ready-perm a q r in
-      let b = opening v a ready-v in
-      let d = opening w a ready-w in
-      let k = left-of v a ready-v f in
-      let l = left-of w a ready-w g in
-      let e : k .left ≡ l .left =
-      omega (arith, k .sum, l .sum, one-cash (R .cash a) (b .amount) (d .amount) (b .is) (d .is), total-perm takes p, total-perm takes q, total-perm (raised R) p, total-perm (raised R) q) in
-      let x : R .held (after R v a) ≡ ups v (R .held a) = held-after v a (ready-v .orders) (ready-v .apart) (ready-v .room) f in
-      let y : R .held (after R w a) ≡ ups w (R .held a) = held-after w a (ready-w .orders) (ready-w .apart) (ready-w .room) g in
-      (k .is ∙ ap pos e ∙ sym (l .is), x ∙ sym (ups-perm p (r .apart) (R .held a)) ∙ ups-perm q (r .apart) (R .held a) ∙ sym y)
+    -- The same, of every running order that puts the orders not lowering cash ahead of those lowering it.
+    pub lowers-last-fills : (w : List O) → Perm O os w → allWhole R w a ≡ true → (v : List O) → Perm O os v → LowersLast R v → allWhole R v a ≡ true
+    lowers-last-fills w p f v q s = raises-first-fills w p f v q (raises-first v s)
+
+    -- All running orders in which each order fills whole leave the same cash,
+    pub same-cash : (v w : List O) → Perm O os v → Perm O os w → allWhole R v a ≡ true → allWhole R w a ≡ true → R .cash (after R v a) ≡ R .cash (after R w a)
+    same-cash v w p q f g =
+        let k = left-of v p f in
+        let l = left-of w q g in
+        let e : k .left ≡ l .left = omega (arith, k .sum, l .sum) in
+        k .is ∙ ap pos e ∙ sym (l .is)
+
+    -- the positions that any such order leaves are those that the list itself makes
+    held-of : Apart R os a → (w : List O) → Perm O os w → allWhole R w a ≡ true → R .held (after R w a) ≡ ups os (R .held a)
+    held-of h w p f =
+        let there : Apart R w a = apart-perm a p h in
+        held-after w a (all-perm p (r .orders)) (there .differ) (there .room) f ∙ sym (ups-perm p (h .differ) (R .held a))
+
+    -- and the same positions.
+    pub same-held : Apart R os a → (v w : List O) → Perm O os v → Perm O os w → allWhole R v a ≡ true → allWhole R w a ≡ true → R .held (after R v a) ≡ R .held (after R w a)
+    same-held h v w p q f g = held-of h v p f ∙ sym (held-of h w q g)
 
   -- There is always such an order: those not lowering cash first, then the others, both as they stood.
   pub parted-last : (os : List O) → LowersLast R (parted (lowers R) os)
