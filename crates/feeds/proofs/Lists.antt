@@ -10,10 +10,10 @@ use lib.IntN.{ℤ, pos, negsuc}
 use lib.Signed.{leZ, ltZ}
 use lib.ListN.{length, take, drop, getD, length-drop, drop-of-length-le}
 use lib.Seq.{drop-cons, take-all}
-use borrow.Author.Tests.{lt-ltb, le-ltb, le-leb, eq-eqb, ne-eqb}
+use borrow.Author.Tests.{lt-ltb, le-ltb, le-leb, eq-eqb, ne-eqb, not-true}
 use Rattle.feeds.specs.Lists.{among, distinct}
 use Rattle.table.specs.Keyed.{pick, both, ascending, Over, Rising}
-use Rattle.table.proofs.Keyed.{ascending-rises}
+use Rattle.table.proofs.Keyed.{ascending-rises, both-true}
 
 -- what a function of a list sees from place i on
 module _ {A B : Type 0} (f : List A → B) (l : List A) (i : ℕ) where
@@ -105,3 +105,61 @@ module _ (l : List ℕ) (i : ℕ) (h : i < length l) {b : Bool} (e : b ≡ among
   pub twice-on : b ≡ false → distinct (drop i l) ≡ distinct (drop (i + 1) l)
   unfolding distinct
   twice-on q = from-place distinct l i 0 h ∙ simp (again ∙ q)
+
+-- ---- what follows for places
+pub among-own : (s : ℕ) (l : List ℕ) → among s (s ∷ l) ≡ true
+unfolding among
+among-own s l = simp (eq-eqb s s refl)
+
+pub among-other : (s k : ℕ) (l : List ℕ) → (k ≡ s → ⊥) → among s (k ∷ l) ≡ among s l
+unfolding among
+among-other s k l n = simp (ne-eqb k s n)
+
+-- what stands in the rest stands in the list
+pub among-more : (s k : ℕ) (l : List ℕ) → among s l ≡ true → among s (k ∷ l) ≡ true
+unfolding among
+among-more s k l e = go (eqb k s)
+  where
+    go : (b : Bool) → pick b true (among s l) ≡ true
+    go true = refl
+    go false = e
+
+pub place-among : (l : List ℕ) (i : ℕ) → i < length l → among (getD l i 0) l ≡ true
+place-among [] i h = absurd (omega arith)
+place-among (x ∷ l) zero h = among-own x l
+place-among (x ∷ l) (suc i) h = among-more (getD l i 0) x l (place-among l i (omega arith))
+
+-- a symbol that the list lacks stands at no place of it
+pub lacking-apart : (s : ℕ) (l : List ℕ) (i : ℕ) → among s l ≡ false → i < length l → getD l i 0 ≡ s → ⊥
+lacking-apart s l i e h q =
+    let t : among s l ≡ true = rw q at (place-among l i h) in
+    let z : _≡_ {A = ℕ} 0 1 = cc in
+    omega arith
+
+module _ (s : ℕ) (l : List ℕ) (e : distinct (s ∷ l) ≡ true) where
+  halves : (not (among s l) ≡ true) × (distinct l ≡ true)
+  unfolding distinct
+  halves = both-true (not (among s l)) (distinct l) e
+
+  pub distinct-first : among s l ≡ false
+  distinct-first = not-true (among s l) (halves .0)
+
+  pub distinct-rest : distinct l ≡ true
+  distinct-rest = halves .1
+
+pub distinct-from : (l : List ℕ) (i : ℕ) → distinct l ≡ true → distinct (drop i l) ≡ true
+distinct-from l zero e = e
+distinct-from [] (suc i) e = e
+distinct-from (x ∷ l) (suc i) e = distinct-from l i (distinct-rest x l e)
+
+-- no symbol stands again after its place
+pub distinct-later : (l : List ℕ) (i : ℕ) → distinct l ≡ true → i < length l → among (getD l i 0) (drop (i + 1) l) ≡ false
+distinct-later l i e h =
+    let q : drop i l ≡ getD l i 0 ∷ drop (i + 1) l = rw (add-one, drop-cons l i 0) in
+    distinct-first _ _ (rw q at (distinct-from l i e))
+
+pub distinct-apart : (l : List ℕ) (i j : ℕ) → distinct l ≡ true → i < j → j < length l → getD l i 0 ≡ getD l j 0 → ⊥
+distinct-apart [] i j e h g q = absurd (omega arith)
+distinct-apart (x ∷ l) i zero e h g q = absurd (omega arith)
+distinct-apart (x ∷ l) zero (suc j) e h g q = lacking-apart x l j (distinct-first x l e) (omega arith) (sym q)
+distinct-apart (x ∷ l) (suc i) (suc j) e h g q = distinct-apart l i j (distinct-rest x l e) (omega arith) (omega arith) q

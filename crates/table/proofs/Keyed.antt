@@ -9,7 +9,7 @@ use lib.Dec.{eqb, leb, ltb}
 use lib.ListN.{length, getD, drop}
 use lib.Seq.{drop-cons}
 use borrow.Author.Tests.{ltb-true, ltb-false, eqb-true, eqb-false, leb-true, leb-false, le-leb, lt-leb, lt-ltb, le-ltb, eq-eqb, ne-eqb}
-use Rattle.table.specs.Keyed.{pick, both, there, new, seek, put, put64, over, ascending, Over, Rising}
+use Rattle.table.specs.Keyed.{pick, both, all, there, new, seek, put, put64, over, ascending, Over, Rising}
 
 data Three (a b : ℕ) : Type 0 where
   below : a < b → Three a b
@@ -250,3 +250,47 @@ module _ {A : Type 0} (key : A → ℕ) where
 
   pub put64-rises : (p : A) (l : List A) → Rising (map key l) → Rising (map key (put64 key p l))
   put64-rises p l r = pick-rises (there (seek key (key p) l)) (ltb (length l) 64) l (put key p l) r (put-rises p l r)
+
+  -- an insertion keeps the bound
+  pub put64-fits : (p : A) (l : List A) → length l ≤ 64 → length (put64 key p l) ≤ 64
+  put64-fits p l h = go (seek key (key p) l) (ltb (length l) 64) refl (put-length p l)
+    where
+      go : (o : Option A) (b : Bool) → ltb (length l) 64 ≡ b → length (put key p l) ≡ length l + new o → length (pick (there o) (put key p l) (pick b (put key p l) l)) ≤ 64
+      go (some q) b e k = omega (arith, k)
+      go none true e k = omega (arith, k, ltb-true (length l) 64 e)
+      go none false e k = h
+
+  -- what holds of every element, and of the one inserted, holds of every element after
+  module _ (f : A → Bool) where
+    pub all-put : (p : A) (l : List A) → f p ≡ true → all f l ≡ true → all f (put key p l) ≡ true
+    all-put p [] h e = simp h
+    all-put p (q ∷ qs) h e = go (leb (key p) (key q)) (eqb (key q) (key p)) (all-put p qs h)
+      where
+        here : f q ≡ true
+        here = both-true (f q) (all f qs) e .0
+
+        rest : all f qs ≡ true
+        rest = both-true (f q) (all f qs) e .1
+
+        go : (b c : Bool) → (all f qs ≡ true → all f (put key p qs) ≡ true) → all f (pick b (pick c (p ∷ qs) (p ∷ (q ∷ qs))) (q ∷ put key p qs)) ≡ true
+        go true true ih = simp (h, rest)
+        go true false ih = simp (h, here, rest)
+        go false c ih = simp (here, ih rest)
+
+    pub all-put64 : (p : A) (l : List A) → f p ≡ true → all f l ≡ true → all f (put64 key p l) ≡ true
+    all-put64 p l h e = go (there (seek key (key p) l)) (ltb (length l) 64)
+      where
+        go : (b c : Bool) → all f (pick b (put key p l) (pick c (put key p l) l)) ≡ true
+        go true c = all-put p l h e
+        go false true = all-put p l h e
+        go false false = e
+
+    -- and of what a search finds
+    pub all-seek : (s : ℕ) (l : List A) (p : A) → all f l ≡ true → seek key s l ≡ some p → f p ≡ true
+    all-seek s [] p e k = let z : _≡_ {A = ℕ} 0 1 = cc in absurd (omega arith)
+    all-seek s (q ∷ qs) p e k = go (leb s (key q)) (eqb (key q) s) (all-seek s qs p) k
+      where
+        go : (b c : Bool) → (all f qs ≡ true → seek key s qs ≡ some p → f p ≡ true) → pick b (pick c (some q) none) (seek key s qs) ≡ some p → f p ≡ true
+        go true true ih g = let z : q ≡ p = cc in rw z at (both-true (f q) (all f qs) e .0)
+        go true false ih g = let z : _≡_ {A = ℕ} 0 1 = cc in absurd (omega arith)
+        go false c ih g = ih (both-true (f q) (all f qs) e .1) g

@@ -14,8 +14,8 @@ use mir.Val.{SFits, ofZ}
 use borrow.Author.Tests.{eqb-true, leb-true, le-leb, ne-eqb}
 use Rattle.position.specs.Rows.{row, fresh, keyOf}
 use Rattle.position.specs.declared.position.Position.{Position}
-use Rattle.table.specs.Keyed.{both, ascending}
-use Rattle.table.specs.Rows.{Cols, zipped, rowAt, Full, Ordered, all, isZero, zeros, zerosZ, unused, ordered}
+use Rattle.table.specs.Keyed.{both, all, ascending}
+use Rattle.table.specs.Rows.{Cols, zipped, rowAt, Full, Ordered, isZero, zeros, zerosZ, unused, ordered}
 use Rattle.table.proofs.Keyed.{both-true, ascending-rises, rising-ascends}
 use Rattle.table.proofs.Zipped.{zipped-length, zipped-at}
 

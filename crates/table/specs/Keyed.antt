@@ -14,6 +14,11 @@ pick false a b = b
 abbrev pub both : Bool → Bool → Bool
 both a b = pick a b false
 
+-- the test of every element
+abbrev pub all : {A : Type 0} → (A → Bool) → List A → Bool
+all f [] = true
+all f (x ∷ l) = both (f x) (all f l)
+
 abbrev pub there : {A : Type 0} → Option A → Bool
 there none = false
 there (some a) = true

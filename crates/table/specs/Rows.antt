@@ -8,7 +8,7 @@ use lib.Dec.{eqb, leb, ltb}
 use lib.IntN.{ℤ, pos, negsuc}
 use Rattle.position.specs.Rows.{row, fresh, keyOf}
 use Rattle.position.specs.declared.position.Position.{Position}
-use Rattle.table.specs.Keyed.{pick, both, orElse, seek, put64, ascending, Rising}
+use Rattle.table.specs.Keyed.{pick, both, all, orElse, seek, put64, ascending, Rising}
 use Rattle.table.specs.declared.table.Table.{Table}
 use Rattle.table.specs.declared.found.Found.{Found}
 use Rattle.table.specs.declared.found.Found.the-variants.{At, Absent}
@@ -58,10 +58,6 @@ abbrev pub isZero : ℤ → Bool
 isZero (pos zero) = true
 isZero (pos (suc n)) = false
 isZero (negsuc n) = false
-
-abbrev pub all : {A : Type 0} → (A → Bool) → List A → Bool
-all f [] = true
-all f (x ∷ l) = both (f x) (all f l)
 
 abbrev pub zeros : List ℕ → Bool
 zeros l = all (λ x. eqb x 0) l

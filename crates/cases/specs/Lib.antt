@@ -1,0 +1,3 @@
+-- Document 01, 'Checked cases'.
+pub mod Rows
+pub mod Table

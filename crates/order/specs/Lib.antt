@@ -1,0 +1,4 @@
+-- What condition 3 speaks of.
+pub mod Running
+pub mod Statement
+pub mod Examples

@@ -1,0 +1,2 @@
+-- What the C interface says that the crates behind it do not.
+pub mod Halves

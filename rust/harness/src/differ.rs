@@ -1,0 +1,109 @@
+//! A differential run over the leaves: the same inputs to the port, to Rust's own arithmetic and to nanobook.
+
+use crate::leaf::{self, Class, Inputs, Kind, Leaf};
+use scenario::Random;
+
+/// What one leaf's run found.
+struct Tally {
+    tried: u64,
+    with_nanobook: u64,
+    differences: u64,
+    met: Vec<u64>,
+}
+
+/// Runs every leaf on `count` inputs and prints what was covered. True where nothing differs and every class was met.
+pub fn run(seed: u64, count: u64) -> bool {
+    let nanobook = oracle::leaves();
+    println!("leaves: seed {seed}, {count} inputs a leaf, edge values among them");
+    if nanobook.is_none() {
+        println!("leaves: SKIPPED the comparison with nanobook's own functions: its source is not at hand");
+    }
+    let mut tallies = Vec::new();
+    for (k, leaf) in leaf::all().enumerate() {
+        let mut random = Random::new(seed.wrapping_add(k as u64));
+        let tally = compare(leaf, nanobook.as_ref(), &mut random, count);
+        print(leaf, &tally);
+        tallies.push(tally);
+    }
+    let total = |of: fn(&Tally) -> u64| tallies.iter().map(of).sum::<u64>();
+    let unmet = tallies.iter().flat_map(|t| &t.met).filter(|n| **n == 0).count();
+    println!(
+        "leaves: {} leaves, {} inputs, {} of them beside nanobook too, {} differences, {unmet} classes not met",
+        tallies.len(),
+        total(|t| t.tried),
+        total(|t| t.with_nanobook),
+        total(|t| t.differences),
+    );
+    total(|t| t.differences) == 0 && unmet == 0
+}
+
+fn compare(leaf: &Leaf, nanobook: Option<&oracle::Leaves>, random: &mut Random, count: u64) -> Tally {
+    let mut tally = Tally { tried: 0, with_nanobook: 0, differences: 0, met: vec![0; leaf.classes.len()] };
+    for _ in 0..count {
+        let inputs = inputs(leaf, random);
+        let answer = (leaf.port)(&inputs);
+        tally.tried += 1;
+        for (met, (_, class)) in tally.met.iter_mut().zip(leaf.classes) {
+            *met += u64::from(class(&inputs, answer));
+        }
+        expect(leaf, &inputs, answer, (leaf.rust)(&inputs), "Rust", &mut tally);
+        if let (Some(own), Some(nanobook)) = (leaf.nanobook, nanobook) {
+            tally.with_nanobook += 1;
+            expect(leaf, &inputs, answer, own(nanobook, &inputs), "nanobook", &mut tally);
+        }
+    }
+    tally
+}
+
+fn expect(leaf: &Leaf, inputs: &Inputs, answer: u64, expected: u64, whose: &str, tally: &mut Tally) {
+    if same(leaf.gives, answer, expected) {
+        return;
+    }
+    tally.differences += 1;
+    if tally.differences <= 3 {
+        println!(
+            "DIFFERS: {} gives {}, {whose} {}",
+            call(leaf, inputs),
+            shown(leaf.gives, answer),
+            shown(leaf.gives, expected)
+        );
+    }
+}
+
+/// Bit for bit, the sign of a zero included; all NaNs are one.
+pub fn same(kind: Kind, a: u64, b: u64) -> bool {
+    a == b || (kind == Kind::F64 && f64::from_bits(a).is_nan() && f64::from_bits(b).is_nan())
+}
+
+pub fn inputs(leaf: &Leaf, random: &mut Random) -> Inputs {
+    let mut inputs = [0; 3];
+    for (word, kind) in inputs.iter_mut().zip(leaf.takes) {
+        *word = match kind {
+            Kind::U64 => random.u64(),
+            Kind::I64 => random.i64() as u64,
+            Kind::F64 => random.f64().to_bits(),
+            Kind::Bool => random.below(2),
+        };
+    }
+    inputs
+}
+
+pub fn call(leaf: &Leaf, inputs: &Inputs) -> String {
+    let words: Vec<String> = leaf.takes.iter().zip(inputs).map(|(kind, word)| shown(*kind, *word)).collect();
+    format!("{}({})", leaf.name, words.join(", "))
+}
+
+pub fn shown(kind: Kind, word: u64) -> String {
+    match kind {
+        Kind::U64 => word.to_string(),
+        Kind::I64 => (word as i64).to_string(),
+        Kind::F64 => format!("{:e}", f64::from_bits(word)),
+        Kind::Bool => (word != 0).to_string(),
+    }
+}
+
+fn print(leaf: &Leaf, tally: &Tally) {
+    let met: Vec<String> =
+        leaf.classes.iter().zip(&tally.met).map(|((name, _), met): (&Class, &u64)| format!("{name} {met}")).collect();
+    println!("  {:<20} {} differences in {}; {}", leaf.name, tally.differences, tally.tried, met.join(", "));
+}

@@ -1,0 +1,149 @@
+//! Products and quotients in two words, and the values made of them.
+
+use super::Kind::{I64, U64};
+use super::{CLAMPED, Class, Inputs, Leaf};
+use threshcoil_sys as port;
+
+const WORDS: &[Class] = &[("zero", |_, r| r == 0), ("not zero", |_, r| r != 0), ("top bit", |_, r| r >> 63 == 1)];
+
+const QUOTIENT: &[Class] = &[
+    ("divisor 0", |i, _| i[2] == 0),
+    ("one word", |i, _| i[0] == 0 && i[2] != 0),
+    ("divisor below 2^32", |i, _| i[0] != 0 && i[2] >> 32 == 0),
+    ("divisor from 2^32", |i, _| i[0] != 0 && i[2] >> 32 != 0),
+    ("quotient of two words", |i, _| i[2] != 0 && i[0] >= i[2]),
+];
+
+fn wide(i: &Inputs) -> u128 {
+    u128::from(i[0]) << 64 | u128::from(i[1])
+}
+
+fn quotient(i: &Inputs) -> u128 {
+    wide(i).checked_div(u128::from(i[2])).unwrap_or(0)
+}
+
+fn snapped(i: &Inputs) -> u128 {
+    quotient(i) * u128::from(i[2])
+}
+
+fn product(i: &Inputs) -> u128 {
+    u128::from(i[0]) * u128::from(i[1])
+}
+
+fn clamped(n: i128) -> u64 {
+    n.clamp(i64::MIN as i128, i64::MAX as i128) as i64 as u64
+}
+
+fn value(i: &Inputs) -> u64 {
+    clamped(i128::from(i[0] as i64) * i128::from(i[1] as i64) / 1_000_000)
+}
+
+fn magnitude(i: &Inputs) -> u64 {
+    let [quantity, price] = [i[0], i[1]].map(|n| u128::from((n as i64).unsigned_abs()));
+    (quantity * price / 1_000_000).min(i64::MAX as u128) as u64
+}
+
+fn price_at(i: &Inputs) -> u64 {
+    match i[1] as i64 {
+        0 => 0,
+        quantity => clamped(i128::from(i[0] as i64) * 1_000_000 / i128::from(quantity)),
+    }
+}
+
+pub const LEAVES: &[Leaf] = &[
+    Leaf {
+        name: "tc_mul_high",
+        number: 11,
+        takes: &[U64, U64],
+        gives: U64,
+        port: |i| port::tc_mul_high(i[0], i[1]),
+        rust: |i| (product(i) >> 64) as u64,
+        nanobook: None,
+        classes: WORDS,
+    },
+    Leaf {
+        name: "tc_mul_low",
+        number: 12,
+        takes: &[U64, U64],
+        gives: U64,
+        port: |i| port::tc_mul_low(i[0], i[1]),
+        rust: |i| product(i) as u64,
+        nanobook: None,
+        classes: WORDS,
+    },
+    Leaf {
+        name: "tc_div_high",
+        number: 13,
+        takes: &[U64, U64, U64],
+        gives: U64,
+        port: |i| port::tc_div_high(i[0], i[1], i[2]),
+        rust: |i| (quotient(i) >> 64) as u64,
+        nanobook: None,
+        classes: QUOTIENT,
+    },
+    Leaf {
+        name: "tc_div_low",
+        number: 14,
+        takes: &[U64, U64, U64],
+        gives: U64,
+        port: |i| port::tc_div_low(i[0], i[1], i[2]),
+        rust: |i| quotient(i) as u64,
+        nanobook: None,
+        classes: QUOTIENT,
+    },
+    Leaf {
+        name: "tc_snap_high",
+        number: 15,
+        takes: &[U64, U64, U64],
+        gives: U64,
+        port: |i| port::tc_snap_high(i[0], i[1], i[2]),
+        rust: |i| (snapped(i) >> 64) as u64,
+        nanobook: None,
+        classes: QUOTIENT,
+    },
+    Leaf {
+        name: "tc_snap_low",
+        number: 16,
+        takes: &[U64, U64, U64],
+        gives: U64,
+        port: |i| port::tc_snap_low(i[0], i[1], i[2]),
+        rust: |i| snapped(i) as u64,
+        nanobook: None,
+        classes: QUOTIENT,
+    },
+    Leaf {
+        name: "tc_value",
+        number: 17,
+        takes: &[I64, I64],
+        gives: I64,
+        port: |i| port::tc_value(i[0] as i64, i[1] as i64) as u64,
+        rust: value,
+        nanobook: Some(|n, i| (n.notional_cents)(i[0] as i64, i[1] as i64) as u64),
+        classes: CLAMPED,
+    },
+    Leaf {
+        name: "tc_magnitude",
+        number: 18,
+        takes: &[I64, I64],
+        gives: I64,
+        port: |i| port::tc_magnitude(i[0] as i64, i[1] as i64) as u64,
+        rust: magnitude,
+        nanobook: Some(|n, i| (n.notional_of)(i[0] as i64, i[1] as i64) as u64),
+        classes: &[
+            ("zero", |_, r| r == 0),
+            ("above zero", |_, r| (r as i64) > 0),
+            ("top", |_, r| r as i64 == i64::MAX),
+            ("of -2^63", |i, _| i[0] as i64 == i64::MIN),
+        ],
+    },
+    Leaf {
+        name: "tc_price_at",
+        number: 19,
+        takes: &[I64, I64],
+        gives: I64,
+        port: |i| port::tc_price_at(i[0] as i64, i[1] as i64) as u64,
+        rust: price_at,
+        nanobook: Some(|n, i| (n.avg_price)(i[0] as i64, i[1] as i64) as u64),
+        classes: CLAMPED,
+    },
+];

@@ -1,0 +1,137 @@
+"""Document 01's checked cases, a to l, and its refusals, on the model. Exit status 1 where one fails."""
+import sys
+from dataclasses import replace
+
+import model
+from model import Account, Costs, Order, Position, Settings
+
+FREE = Costs(0.0, 0.0, 0)
+FLOOR = Costs(0.0, 0.0, 100)
+TEN_BPS = Costs(10.0, 0.0, 100)
+WHOLE = model.SCALE
+
+
+def symbol(name):
+    return int.from_bytes(name.encode().ljust(8, b"\0"), "big")
+
+
+A, B = symbol("A"), symbol("B")
+
+
+def account(cash, costs=FREE, positions=None, **settings):
+    return Account(cash, Settings(costs, **settings), positions or {}, equity_count=1, previous_equity=cash)
+
+
+def fill(a, quantity, price, name=A):
+    return model.filled(a, Order(name, quantity, price, 0.0), 0, "rebalance")[0]
+
+
+def fills(*steps):
+    p = Position()
+    for quantity, price in steps:
+        p = model.after_fill(p, quantity * WHOLE, price)
+    return p.quantity, p.average, p.realized, p.total_cost
+
+
+def case_d():
+    a = fill(account(100_000, TEN_BPS), 100 * WHOLE, 1_000)
+    return a.positions[A].quantity, a.trimmed_shortfall, a.cash
+
+
+def case_e():
+    a = fill(account(50, FLOOR), WHOLE, 10)
+    return a.positions, a.trimmed_count, a.trimmed_shortfall
+
+
+def case_f():
+    a = fill(account(0, quantity_step=1), 2_000_000, 1)
+    return a.positions, model.need(FREE, 999_999, 1)
+
+
+def case_g():
+    held = {A: Position(WHOLE, 20, 0, 20)}
+    return [fill(account(cash, FLOOR, held), -WHOLE, 20).cash for cash in (5, 80)]
+
+
+def case_k(gap):
+    a = account(20_000, no_trade_band_bps=2_500.0, quantity_step=1)
+    return len(model.plan(a, [(A, gap / 20_000)], {A: 1}, 20_000))
+
+
+def case_l(cash_first):
+    a = account(50, positions={B: Position(WHOLE, 80, 0, 80)}, cash_first=cash_first)
+    orders = [Order(A, WHOLE, 100, 0.0), Order(B, -WHOLE, 80, 0.0)]
+    for order in model.running_order(a.settings, orders):
+        a = model.filled(a, order, 0, "rebalance")[0]
+    return a.cash, a.trimmed_count
+
+
+CASES = [
+    ("a", [model.value(1, 999_999), model.value(1, 1_000_000), model.value(-1, 999_999)], [0, 1, 0]),
+    ("b", [TEN_BPS.commission(1_000_000), TEN_BPS.commission(10_000)], [1_000, 100]),
+    ("c", [Costs(1_000.0, 0.0, 0).commission(n) for n in (5, 4)], [1, 0]),
+    ("d", case_d(), (99 * WHOLE, 1_000, 900)),
+    ("e", case_e(), ({}, 1, 10)),
+    ("f", case_f(), ({}, 0)),
+    ("g", case_g(), [5, 0]),
+    ("h", [model.sized(*gap) for gap in ((1_999, 1_000, WHOLE), (-1_999, 1_000, WHOLE), (1_999, 1_000, 1_000))],
+     [1_000_000, -1_000_000, 1_999_000]),
+    ("i, bought", fills((10, 100), (10, 201))[1::2], (150, 3_010)),
+    ("i, sold 5", fills((10, 100), (10, 201), (-5, 160))[2:], (50, 2_260)),
+    ("i, sold 20", fills((10, 100), (10, 201), (-5, 160), (-20, 140)), (-5 * WHOLE, 140, -100, -700)),
+    ("j", fills((-10, 100), (4, 90))[1:], (233, 40, -1_400)),
+    ("k", [case_k(5_000), case_k(5_001)], [0, 1]),
+    ("l", [case_l(True), case_l(False)[1]], [(30, 0), 1]),
+    ("-2^63 covered", model.after_fill(Position(-(2**63), 0, 0, 0), model.clamp(2**63), 1).quantity, -1),
+]
+
+
+def refusals():
+    """Every number, and the first of several in the paper's order."""
+    good, many = account(1_000), account(1_000, positions={symbol(f"S{k}"): Position() for k in range(64)})
+    recording = replace(many, settings=replace(many.settings, recording=True))
+    unsound = account(-1)
+    call = lambda a, targets, prices, places=64: model.rebalance(a, targets, prices, 0, "rebalance", places)[0]
+    nan, bad = float("nan"), symbol(" ")
+    yield "opening below 0", model.opened(-1, FREE)[0], 1
+    yield "opening with a slippage over 10,000", model.opened(1, Costs(0.0, 10_000.5, 0))[0], 1
+    yield "opening with no place", model.opened(1, FREE, 0)[0], 10
+    yield "a step of 0", model.with_setting(good, quantity_step=0)[0], 1
+    yield "a trade cap of 0", model.with_setting(good, max_trades_per_rebalance=0)[0], 0
+    yield "unsound before a bad setting", model.with_setting(unsound, quantity_step=0)[0], 11
+    yield "unsound before all", call(unsound, [(bad, nan)] * 65, [(A, 0)]), 11
+    yield "a long list before a bad symbol", call(good, [(bad, nan)] * 65, [(A, 0)]), 6
+    yield "many prices", call(good, [], [(symbol(f"S{k}"), 1) for k in range(129)]), 6
+    yield "a bad symbol before a pair", call(good, [(bad, nan)] * 2, [(A, 0)]), 2
+    yield "a pair before a weight", call(good, [(A, nan)] * 2, [(A, 0)]), 3
+    yield "one symbol in both lists", call(good, [(A, 0.5)], [(A, 1)]), 0
+    yield "a weight before a price", call(good, [(A, nan)], [(A, 0)]), 5
+    yield "a price before the places", call(recording, [(A, 0.5)], [(A, 0)], 63), 4
+    yield "63 places before the room", call(recording, [(A, 0.5)], [(A, 1)], 63), 8
+    yield "65 symbols", call(recording, [(A, 0.5)], [(A, 1)]), 7
+    yield "64 symbols", call(recording, [(symbol("S0"), 0.5)], [(A, 1)]), 0
+    yield "63 places while nothing is recorded", call(many, [], [], 63), 0
+    yield "a close with no place", model.close(recording, symbol("S0"), 1, 0, "stop_exit", 0)[0], 8
+    yield "a close of a flat position", model.close(recording, symbol("S0"), 1, 0, "stop_exit")[0], 9
+    yield "a close of an absent one", model.close(good, A, 1, 0, "stop_exit")[0], 9
+    yield "a close at 0", model.close(good, A, 0, 0, "stop_exit")[0], 4
+    yield "a full equity buffer", model.record_return(good, [], 1, 9)[0], 10
+    yield "a full return buffer, no return due", model.record_return(account(0), [], 9, 0)[0], 10
+    yield "a fill at -1", model.apply_fill(Position(), 1, -1)[0], 4
+    yield "a fill at 0", model.apply_fill(Position(), 1, 0)[0], 0
+    yield "a fill of an unsound position", model.apply_fill(Position(0, 1, 0, 0), 1, -1)[0], 11
+
+
+def main():
+    failures = 0
+    rows = CASES + list(refusals())
+    for name, found, expected in rows:
+        if found != expected:
+            failures += 1
+            print(f"FAILS: {name}: {found}, and document 01 says {expected}")
+    print(f"model: {len(rows)} cases of document 01, {failures} failures")
+    sys.exit(failures > 0)
+
+
+if __name__ == "__main__":
+    main()

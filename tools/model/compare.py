@@ -1,0 +1,158 @@
+"""Plays the scenarios on standard input on the model and holds its answers to those written beside them.
+
+usage: harness scenarios SEED COUNT | python3 tools/model/compare.py
+       harness spoiled SEED COUNT | python3 tools/model/compare.py
+
+The text is that of rust/scenario: a call after '>', what it gave and the account after it after '<'. A call with no
+answer beside it is played and its answer number counted. Exit status 1 where an answer differs, or nothing was played.
+"""
+import struct
+import sys
+from collections import Counter
+
+import model
+from model import Costs
+
+
+def double(word):
+    return struct.unpack(">d", bytes.fromhex(word))[0]
+
+
+def digits(x):
+    return "7ff8000000000000" if x != x else struct.pack(">d", x).hex()
+
+
+def pairs(words, number):
+    return [(int(s, 16), number(n)) for s, n in (word.split("=") for word in words)]
+
+
+def written(entries):
+    return " ".join(f"{s:016x}={digits(w)}" for s, w in entries)
+
+
+def held(symbol, p):
+    return f"{symbol:016x} {p.quantity} {p.average} {p.realized} {p.total_cost}"
+
+
+def settings_line(s):
+    c = s.costs
+    costs = f"{digits(c.commission_bps)} {digits(c.slippage_bps)} {c.min_commission}"
+    limits = f"{s.quantity_step} {s.min_order_value} {s.max_order_value} {digits(s.no_trade_band_bps)}"
+    cap = "none" if s.max_trades_per_rebalance is None else s.max_trades_per_rebalance
+    return f"settings {costs} {limits} {cap} {s.max_rebalance_notional} {int(s.recording)} {int(s.cash_first)}"
+
+
+def account_lines(a):
+    counters = f"{a.last_order_count} {a.last_notional} {a.trimmed_count} {a.trimmed_shortfall} {a.record_count}"
+    yield f"account {a.cash} {counters} {a.equity_count} {a.return_count} {a.previous_equity}"
+    yield settings_line(a.settings)
+    for symbol, p in a.held():
+        yield f"position {held(symbol, p)}"
+
+
+def record_line(r):
+    figures = f"{r.quantity} {r.price} {r.reference_price} {r.notional} {r.reference_notional}"
+    return f"record {r.sequence} {r.period} {r.kind} {r.symbol:016x} {figures} {r.cost} {r.cash_delta} {r.cash_after}"
+
+
+def setting(name, word):
+    if name == "no_trade_band_bps":
+        return double(word)
+    if name == "max_trades_per_rebalance" and word == "none":
+        return None
+    return bool(int(word)) if name in ("recording", "cash_first") else int(word)
+
+
+def call(account, line):
+    """The account after the call on a line, and the lines that it answers."""
+    verb, *words = line.split(" ")
+    words = [word for word in words if word]
+    if verb == "open":
+        costs = Costs(double(words[1]), double(words[2]), int(words[3]))
+        answer, account = model.opened(int(words[0]), costs, int(words[4]))
+        return account, [f"answer {answer}"]
+    if verb == "set":
+        answer, account = model.with_setting(account, **{words[0]: setting(*words)})
+        return account, [f"answer {answer}"]
+    if verb == "rebalance":
+        context, targets, prices = (part.split() for part in " ".join(words).split("|"))
+        given = pairs(targets, double), pairs(prices, int)
+        answer, account, records = model.rebalance(account, *given, int(context[0]), context[1], int(context[2]))
+        return account, [f"answer {answer}", *map(record_line, records)]
+    if verb == "close":
+        context = int(words[0]), words[1], int(words[2])
+        answer, account, records = model.close(account, int(words[3], 16), int(words[4]), *context)
+        return account, [f"answer {answer}", *map(record_line, records)]
+    if verb == "record_return":
+        answer, account, equity, gain = model.record_return(account, pairs(words[2:], int), int(words[0]), int(words[1]))
+        return account, told(answer, lambda: f"recorded {equity} {'none' if gain is None else digits(gain)}")
+    return account, query(account, verb, words)
+
+
+def told(answer, figures):
+    """A refusal has its number alone."""
+    return [f"answer {answer}"] + ([figures()] if answer == model.DONE else [])
+
+
+def query(account, verb, words):
+    if verb == "position":
+        symbol = int(words[0], 16)
+        answer, p = model.position(account, symbol)
+        return told(answer, lambda: f"found {'none' if p is None else held(symbol, p)}")
+    answer, found = getattr(model, verb)(account, pairs(words, int))
+    return told(answer, lambda: FIGURES[verb](found))
+
+
+FIGURES = {
+    "total_equity": lambda equity: f"equity {equity}",
+    "current_weights": lambda weights: f"weights {written(weights)}",
+    "unpriced_holding": lambda symbol: f"unpriced {'none' if symbol is None else f'{symbol:016x}'}",
+    "snapshot": lambda s: f"snapshot {' '.join(map(str, s[:4]))} {written(s[4])}",
+}
+
+
+def exchanges(lines):
+    """Each call with its answers, and the scenario that it stands in."""
+    name, asked, answers = "", None, []
+    for line in lines:
+        mark, text = line[0], line[2:].rstrip("\n")
+        if mark == "<":
+            answers.append(text)
+            continue
+        if asked is not None:
+            yield name, asked, answers
+            asked, answers = None, []
+        if mark == ">":
+            asked = text
+        else:
+            name = text
+    if asked is not None:
+        yield name, asked, answers
+
+
+def main():
+    account, scenarios, compared, differences, answers = None, 0, 0, 0, Counter()
+    for name, asked, expected in exchanges(sys.stdin):
+        if asked.startswith("open "):
+            account = None
+            scenarios += 1
+        elif account is None:
+            continue  # the rest of a scenario in which something differed
+        account, lines = call(account, asked)
+        lines += account_lines(account)
+        answers[int(lines[0].split()[1])] += 1
+        compared += len(expected) > 0
+        if expected and lines != expected:
+            differences += 1
+            account = None
+            if differences <= 3:
+                ours, theirs = next((a, b) for a, b in zip(lines + ["-"], expected + ["-"]) if a != b)
+                print(f"DIFFERS in {name}\n  asked: {asked}\n  model: {ours}\n  given: {theirs}")
+    given = ", ".join(f"{n} {answers[n]} times" for n in sorted(answers))
+    print(f"model: {scenarios} scenarios, {answers.total()} calls; answers {given}")
+    print(f"model: {compared} calls compared, {differences} differences")
+    sys.exit(differences > 0 or scenarios == 0)
+
+
+if __name__ == "__main__":
+    main()
