@@ -1,0 +1,2 @@
+-- Laws of lent places.
+pub mod Places
