@@ -76,11 +76,11 @@ module _ (t : Terms) (o : Order) (s : State) where
   fill-is-deal = by-tests (isZero (o .quantity .0)) (buys o) (leZ (need (t .costs) (o .quantity .0) (paid t o)) (s .cash)) (leZ (pos 0) (satSub (s .cash) (cashTaken t (o .quantity .0) (paid t o)))) refl
 
   -- a deal of nothing, and of something
-  none-after : (d : Deal) → isZero (d .quantity .0) ≡ true → afterDeal t o d s ≡ countedBy d s
+  pub none-after : (d : Deal) → isZero (d .quantity .0) ≡ true → afterDeal t o d s ≡ countedBy d s
   unfolding afterDeal
   none-after d z = simp z
 
-  some-after : (d : Deal) → isZero (d .quantity .0) ≡ false → afterDeal t o d s ≡ settledBy t o d (countedBy d s)
+  pub some-after : (d : Deal) → isZero (d .quantity .0) ≡ false → afterDeal t o d s ≡ settledBy t o d (countedBy d s)
   unfolding afterDeal
   some-after d z = simp z
 
