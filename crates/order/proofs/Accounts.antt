@@ -1,11 +1,10 @@
 -- Condition 3 on one sound account: what the code's test for soundness gives is all that is asked of the account.
-use Prim.Native.Nat.{ℕ, _+_, _≤_}
+use Prim.Native.Nat.{ℕ}
 use mathlib.Core.Bool.{Bool, true}
 use mathlib.Core.List.{List}
 use mathlib.Core.Path.{_≡_, sym, ap, _∙_, subst}
 use lib.ListN.{length}
 use lib.IntN.{ℤ, pos, _+ℤ_}
-use lib.Signed.{leZ}
 use Rattle.position.specs.declared.position.Position.{Position}
 use Rattle.cost_model.specs.declared.CostModel.{CostModel}
 use Rattle.cost_model.specs.Costs.{goodCosts}
@@ -20,12 +19,12 @@ use Rattle.fills.specs.declared.order.Order.{Order}
 use Rattle.fills.specs.declared.order.Terms.{Terms}
 use Rattle.fills.specs.Orders.{State}
 use Rattle.fills.specs.Fill.{fillAll}
-use Rattle.order.specs.Running.{Perm, total}
+use Rattle.order.specs.Running.{Perm, total, Room, NotBelow0, InRange}
 use Rattle.order.specs.Statement.{cashRaised, placesAsked, Batch, AllWhole, OrderIsFree}
 use Rattle.order.specs.OnAccount.{Begins, OrdersOn, SameAccount}
 use Rattle.order.proofs.OrderTheorem.{condition-3}
 
-sound-scalars : (a : Account) → soundAccount a ≡ true → (leZ (pos 0) (a .cash) ≡ true) × (goodSettings (a .settings) ≡ true)
+sound-scalars : (a : Account) → soundAccount a ≡ true → NotBelow0 (a .cash) × (goodSettings (a .settings) ≡ true)
 unfolding soundAccount soundScalars
 sound-scalars a e = both-true _ _ (both-true _ (soundTable (a .positions)) e .0)
 
@@ -41,11 +40,11 @@ module _ (a : Account) (t : Terms) (os : List Order) (s : State) (g : OrdersOn a
         funded = record {
           costs = subst (λ (m : CostModel). goodCosts m ≡ true) (sym (b .costs)) (good-costs a (k .1));
           orders = g .orders;
-          cash-low = subst (λ (z : ℤ). leZ (pos 0) z ≡ true) (sym (b .cash)) (k .0);
-          cash-top = subst (λ (z : ℤ). leZ (z +ℤ pos (total (cashRaised t) os)) (pos 9223372036854775807) ≡ true) (sym (b .cash)) (g .cash-top);
+          cash-low = subst NotBelow0 (sym (b .cash)) (k .0);
+          cash-top = subst (λ (z : ℤ). InRange (z +ℤ pos (total (cashRaised t) os))) (sym (b .cash)) (g .cash-top);
         };
         different = g .different;
-        room = subst (λ (ps : List Position). length ps + total (placesAsked ps) os ≤ 64) (sym (b .held)) (g .room);
+        room = subst (λ (ps : List Position). Room (length ps) (total (placesAsked ps) os)) (sym (b .held)) (g .room);
       }
 
   -- both halves

@@ -6,7 +6,6 @@ use mathlib.Core.Path.{_≡_, refl, sym, subst}
 use native.Mathlib.Omega.{arith}
 use lib.Dec.{lit≤}
 use lib.IntN.{ℤ, pos, _+ℤ_}
-use lib.Signed.{leZ}
 use lib.Ieee.{add, mul, div, le, ofInt, toSigned}
 use Rattle.words.specs.Sums.{clamp64, satAdd, satSub, satAbs, value, notional, priceAt}
 use Rattle.doubles.specs.Doubles.{roundAway}
@@ -18,7 +17,7 @@ use Rattle.sizing.specs.Afford.{need, fits, largest, affordable}
 use Rattle.fills.specs.declared.order.Terms.{Terms}
 use Rattle.fills.specs.Orders.{paid}
 use Rattle.fills.specs.Fill.{cashTaken, fillsWhole, made, counted, settled, trimmedFill, fill, fillAll}
-use Rattle.order.specs.Running.{swap, total, nothing, and, parted}
+use Rattle.order.specs.Running.{swap, total, nothing, and, parted, NotBelow0, InRange}
 use Rattle.order.specs.Statement.{cashChange, cashRaised, lowersCash, Batch, allWhole, AllWhole, SameLeft}
 use Rattle.order.specs.Examples.{floorOf, opened, allComeOut, saleFirst, buyFirst, smallSale, runs, sameSymbol, oneRoom}
 use Rattle.order.proofs.Perms.{perm-refl}
@@ -57,14 +56,14 @@ evaluated = record {
 two-not-one : _≡_ {A = ℕ} 2 1 → ⊥
 two-not-one e = omega arith
 
-batch : (c : ℤ) → leZ (pos 0) c ≡ true → leZ (c +ℤ pos 80) (pos 9223372036854775807) ≡ true → Batch free saleFirst (opened c)
+batch : (c : ℤ) → NotBelow0 c → InRange (c +ℤ pos 80) → Batch free saleFirst (opened c)
 unfolding isZero total
 batch c low top = record {
   funded = record {
     costs = evaluated .good;
     orders = and (record { quantity = refl; price = refl }) (and (record { quantity = refl; price = refl }) nothing);
     cash-low = low;
-    cash-top = subst (λ (n : ℕ). leZ (c +ℤ pos n) (pos 9223372036854775807) ≡ true) (sym (evaluated .raised)) top;
+    cash-top = subst (λ (n : ℕ). InRange (c +ℤ pos n)) (sym (evaluated .raised)) top;
   };
   different = and (and two-not-one nothing) (and nothing nothing);
   room = lit≤ tt;

@@ -1,18 +1,16 @@
 -- Condition 3 on one sound account, as the code tests it.
-use Prim.Native.Nat.{ℕ, _+_, _≤_}
 use mathlib.Core.List.{List}
 use mathlib.Core.Bool.{true}
 use mathlib.Core.Path.{_≡_}
 use lib.ListN.{length}
-use lib.IntN.{ℤ, pos, _+ℤ_}
-use lib.Signed.{leZ}
+use lib.IntN.{pos, _+ℤ_}
 use Rattle.account.specs.declared.account.Account.{Account}
 use Rattle.account.specs.Account.{soundAccount, heldIn, tableOf}
 use Rattle.fills.specs.declared.order.Order.{Order}
 use Rattle.fills.specs.declared.order.Terms.{Terms}
 use Rattle.fills.specs.Orders.{State}
-use Rattle.order.specs.Running.{total, All, Pairs}
-use Rattle.order.specs.Statement.{cashRaised, Tradable, Different, placesAsked}
+use Rattle.order.specs.Running.{total, All, Pairs, Different, Room, InRange}
+use Rattle.order.specs.Statement.{cashRaised, Tradable, symbolOf, placesAsked}
 
 -- fills that begin at the account: its costs, its cash, its positions
 pub record Begins (a : Account) (t : Terms) (s : State) : Type 0 where
@@ -24,9 +22,9 @@ pub record Begins (a : Account) (t : Terms) (s : State) : Type 0 where
 pub record OrdersOn (a : Account) (t : Terms) (os : List Order) : Type 0 where
   pub sound : soundAccount a ≡ true
   pub orders : All Order Tradable os
-  pub different : Pairs Order Different os
-  pub room : length (heldIn (a .positions)) + total (placesAsked (heldIn (a .positions))) os ≤ 64
-  pub cash-top : leZ (a .cash +ℤ pos (total (cashRaised t) os)) (pos 9223372036854775807) ≡ true
+  pub different : Pairs Order (Different symbolOf) os
+  pub room : Room (length (heldIn (a .positions))) (total (placesAsked (heldIn (a .positions))) os)
+  pub cash-top : InRange (a .cash +ℤ pos (total (cashRaised t) os))
 
 -- "equal cash and equal positions": the whole table, unused places included
 pub record SameAccount (x y : State) : Type 0 where
