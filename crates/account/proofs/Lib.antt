@@ -1,0 +1,5 @@
+-- Laws of accounts, for the proofs of this crate and of its callers.
+pub mod Columns
+pub mod Tables
+pub mod Holdings
+pub mod Changes

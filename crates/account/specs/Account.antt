@@ -1,0 +1,75 @@
+-- When an account is sound, and the account as scalars and a list of positions.
+use Prim.Native.Nat.{ℕ, zero, suc, _-_}
+use mathlib.Core.Bool.{Bool, true}
+use mathlib.Core.List.{List, [], _∷_, _++_, map}
+use lib.ListN.{length, replicate}
+use lib.IntN.{ℤ, pos}
+use Rattle.position.specs.declared.position.Position.{Position}
+use Rattle.position.specs.Rows.{keyOf, held, avg, realized, total}
+use Rattle.position.specs.Fills.{sound}
+use Rattle.table.specs.declared.table.Table.{Table}
+use Rattle.table.specs.Keyed.{both, all}
+use Rattle.table.specs.Rows.{Cols, columnsOf, rows, rowAt, ordered}
+use Rattle.account.specs.declared.settings.Settings.{Settings}
+use Rattle.account.specs.declared.account.Account.{Account}
+use Rattle.account.specs.declared.account.Series.{Series}
+use Rattle.account.specs.Settings.{atLeast, goodSettings}
+
+abbrev pub allSound : List Position → Bool
+allSound ps = all sound ps
+
+-- each of the positions at the first n places is sound
+unfoldable pub soundPlaces : ℕ → Cols → Bool
+soundPlaces zero c = true
+soundPlaces (suc n) c = both (soundPlaces n c) (sound (rowAt n c))
+
+-- "positions with good symbols, strictly ascending, unused places zero"
+unfoldable pub soundColumns : ℕ → Cols → Bool
+soundColumns n c = both (ordered n c) (soundPlaces n c)
+
+-- the positions of a table, in symbol order
+abbrev pub heldIn : Table → List Position
+heldIn t = rows (t .count) (columnsOf t)
+
+abbrev pub soundTable : Table → Bool
+soundTable t = soundColumns (t .count) (columnsOf t)
+
+-- "good settings, cash at least 0"
+unfoldable pub soundScalars : ℤ → Settings → Bool
+soundScalars cash s = both (atLeast 0 cash) (goodSettings s)
+
+-- "A sound account has good settings, cash at least 0, positions [..]"
+unfoldable pub soundAccount : Account → Bool
+soundAccount a = both (soundScalars (a .cash) (a .settings)) (soundTable (a .positions))
+
+-- ---- the table of a count and five columns, and the one that holds a list of positions
+abbrev pub tableFrom : ℕ → Cols → Table
+tableFrom n c = record {
+  count = n;
+  symbol = c .symbol;
+  quantity = c .quantity;
+  «avg_entry_price» = c .average;
+  «realized_pnl» = c .realized;
+  «total_cost» = c .total;
+}
+
+-- a column with "unused places zero"
+abbrev pub padded : {A : Type 0} → A → List A → List A
+padded z l = l ++ replicate (64 - length l) z
+
+unfoldable pub tableOf : List Position → Table
+tableOf ps = record {
+  count = length ps;
+  symbol = padded 0 (map keyOf ps);
+  quantity = padded (pos 0) (map held ps);
+  «avg_entry_price» = padded (pos 0) (map avg ps);
+  «realized_pnl» = padded (pos 0) (map realized ps);
+  «total_cost» = padded (pos 0) (map total ps);
+}
+
+-- ---- one field changed
+abbrev pub withSettings : Settings → Account → Account
+withSettings s a = record { cash = a .cash; settings = s; counters = a .counters; series = a .series; positions = a .positions }
+
+abbrev pub withSeries : Series → Account → Account
+withSeries s a = record { cash = a .cash; settings = a .settings; counters = a .counters; series = s; positions = a .positions }

@@ -1,0 +1,74 @@
+-- Document 01, 'Numbers that bound an account': the settings.
+use Prim.Native.Nat.{ℕ}
+use mathlib.Core.Bool.{Bool, true, false}
+use lib.IntN.{ℤ, pos}
+use lib.Signed.{leZ}
+use lib.Ieee.{Float, fin}
+use Rattle.table.specs.Keyed.{both}
+use Rattle.cost_model.specs.declared.CostModel.{CostModel}
+use Rattle.cost_model.specs.Costs.{goodRate, goodCosts}
+use Rattle.account.specs.declared.settings.Settings.{Settings}
+use Rattle.account.specs.declared.settings.TradeCap.{TradeCap}
+use Rattle.account.specs.declared.settings.TradeCap.the-variants.{Absent, AtMost}
+
+-- "at least 0"
+abbrev pub atLeast : ℕ → ℤ → Bool
+atLeast n z = leZ (pos n) z
+
+-- "finite and at least 0"
+abbrev pub goodBand : Float → Bool
+goodBand x = goodRate x
+
+-- "opening cash, `min_commission`, `min_order_value`, `max_order_value` and `max_rebalance_notional` at least 0; `quantity_step` at least 1;
+-- `commission_bps` and `no_trade_band_bps` finite and at least 0; `slippage_bps` from 0 to 10,000; the trade cap absent or any count"
+unfoldable pub goodSettings : Settings → Bool
+goodSettings s =
+    both (goodCosts (s .«cost_model»))
+    (both (atLeast 1 (s .«quantity_step»))
+    (both (atLeast 0 (s .«min_order_value»))
+    (both (atLeast 0 (s .«max_order_value»))
+    (both (goodBand (s .«no_trade_band_bps»))
+    (atLeast 0 (s .«max_rebalance_notional»))))))
+
+-- ---- settings from their nine values, in the order of the struct
+abbrev pub settings : CostModel → ℤ → ℤ → ℤ → Float → TradeCap → ℤ → Bool → Bool → Settings
+settings m k low high band cap top recording first = record {
+  «cost_model» = m;
+  «quantity_step» = k;
+  «min_order_value» = low;
+  «max_order_value» = high;
+  «no_trade_band_bps» = band;
+  «max_trades_per_rebalance» = cap;
+  «max_rebalance_notional» = top;
+  recording = recording;
+  «cash_first» = first;
+}
+
+-- what an account opens with: no limits, no cap, no recording, orders as planned
+abbrev pub openingSettings : CostModel → ℤ → Settings
+openingSettings m step = settings m step (pos 0) (pos 0) (fin false 0 (pos 0)) Absent (pos 0) false false
+
+-- ---- one setting changed
+abbrev pub withStep : ℤ → Settings → Settings
+withStep k s = settings (s .«cost_model») k (s .«min_order_value») (s .«max_order_value») (s .«no_trade_band_bps») (s .«max_trades_per_rebalance») (s .«max_rebalance_notional») (s .recording) (s .«cash_first»)
+
+abbrev pub withMinOrder : ℤ → Settings → Settings
+withMinOrder v s = settings (s .«cost_model») (s .«quantity_step») v (s .«max_order_value») (s .«no_trade_band_bps») (s .«max_trades_per_rebalance») (s .«max_rebalance_notional») (s .recording) (s .«cash_first»)
+
+abbrev pub withMaxOrder : ℤ → Settings → Settings
+withMaxOrder v s = settings (s .«cost_model») (s .«quantity_step») (s .«min_order_value») v (s .«no_trade_band_bps») (s .«max_trades_per_rebalance») (s .«max_rebalance_notional») (s .recording) (s .«cash_first»)
+
+abbrev pub withBand : Float → Settings → Settings
+withBand x s = settings (s .«cost_model») (s .«quantity_step») (s .«min_order_value») (s .«max_order_value») x (s .«max_trades_per_rebalance») (s .«max_rebalance_notional») (s .recording) (s .«cash_first»)
+
+abbrev pub withTradeCap : TradeCap → Settings → Settings
+withTradeCap cap s = settings (s .«cost_model») (s .«quantity_step») (s .«min_order_value») (s .«max_order_value») (s .«no_trade_band_bps») cap (s .«max_rebalance_notional») (s .recording) (s .«cash_first»)
+
+abbrev pub withMaxNotional : ℤ → Settings → Settings
+withMaxNotional v s = settings (s .«cost_model») (s .«quantity_step») (s .«min_order_value») (s .«max_order_value») (s .«no_trade_band_bps») (s .«max_trades_per_rebalance») v (s .recording) (s .«cash_first»)
+
+abbrev pub withRecording : Bool → Settings → Settings
+withRecording on s = settings (s .«cost_model») (s .«quantity_step») (s .«min_order_value») (s .«max_order_value») (s .«no_trade_band_bps») (s .«max_trades_per_rebalance») (s .«max_rebalance_notional») on (s .«cash_first»)
+
+abbrev pub withCashFirst : Bool → Settings → Settings
+withCashFirst on s = settings (s .«cost_model») (s .«quantity_step») (s .«min_order_value») (s .«max_order_value») (s .«no_trade_band_bps») (s .«max_trades_per_rebalance») (s .«max_rebalance_notional») (s .recording) on

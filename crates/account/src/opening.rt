@@ -1,0 +1,104 @@
+// Opening an account.
+ghost use mathlib.Core.Path.{_≡_};
+ghost use lib.IntN.{pos};
+ghost use Rattle.words.specs.Sums.{SCALE};
+ghost use Rattle.account.specs.Settings.{openingSettings};
+ghost use Rattle.account.specs.Calls.{answered, emptyAccount, zeroAccount, opened, opening};
+use crate::account::Account;
+use crate::account::Counters;
+use crate::account::Series;
+use crate::change::Changed;
+use crate::settings::Settings;
+use crate::settings::TradeCap;
+use crate::soundness::sound_scalars;
+use answer::Answer;
+use cost_model::CostModel;
+use position::Shares;
+use table::Table;
+
+// No limits, no cap, no recording, orders as planned.
+fn opening_settings(cost_model: CostModel, quantity_step: i64) -> Settings
+    ensures { λ r. ⌜ r ≡ openingSettings «cost_model» «quantity_step» ⌝ }
+{
+    Settings {
+        cost_model,
+        quantity_step,
+        min_order_value: 0,
+        max_order_value: 0,
+        no_trade_band_bps: 0.0,
+        max_trades_per_rebalance: TradeCap::Absent,
+        max_rebalance_notional: 0,
+        recording: false,
+        cash_first: false,
+    }
+}
+
+// Nothing held, nothing counted.
+fn empty_account(cash: i64, settings: Settings, series: Series) -> Account
+    ensures { λ r. ⌜ r ≡ emptyAccount cash settings series ⌝ }
+{
+    let counters = Counters {
+        last_rebalance_order_count: 0,
+        last_rebalance_notional: 0,
+        trimmed_fill_count: 0,
+        trimmed_shortfall_cents: 0,
+        record_count: 0,
+    };
+    let positions = Table::empty();
+    Account {
+        cash,
+        settings,
+        counters,
+        series,
+        positions,
+    }
+}
+
+// "all zeros from a refused opening"
+fn refused(answer: Answer) -> Changed
+    ensures { λ r. ⌜ r ≡ answered answer zeroAccount ⌝ }
+{
+    let series = Series {
+        equity_count: 0,
+        return_count: 0,
+        prev_equity: 0,
+    };
+    let account = empty_account(0, opening_settings(CostModel::zero(), 0), series);
+    Changed { answer, account }
+}
+
+// An account that trades whole shares.
+pub fn open(initial_cash: i64, cost_model: CostModel, equity: &mut [i64]) -> Changed
+    ensures { λ r. ⌜ opened r (now (equity .exit)) ≡ opening «initial_cash» «cost_model» (pos SCALE) (now (equity .entry)) ⌝ }
+{
+    with_quantity_step(initial_cash, cost_model, Shares::SCALE, equity)
+}
+
+// "Opening writes the cash as the first equity", and lends the equity buffer only.
+pub fn with_quantity_step(
+    initial_cash: i64,
+    cost_model: CostModel,
+    quantity_step: i64,
+    equity: &mut [i64],
+) -> Changed
+    ensures { λ r. ⌜ opened r (now (equity .exit)) ≡ opening «initial_cash» «cost_model» «quantity_step» (now (equity .entry)) ⌝ }
+{
+    let settings = opening_settings(cost_model, quantity_step);
+    if !sound_scalars(initial_cash, settings) {
+        return refused(Answer::BadSetting);
+    }
+    if equity.len() == 0 {
+        return refused(Answer::BufferFull);
+    }
+    equity[0] = initial_cash;
+    let series = Series {
+        equity_count: 1,
+        return_count: 0,
+        prev_equity: initial_cash,
+    };
+    let account = empty_account(initial_cash, settings, series);
+    Changed {
+        answer: Answer::Done,
+        account,
+    }
+}

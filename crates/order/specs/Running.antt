@@ -1,0 +1,35 @@
+-- Running orders: a list, the same members in another order, and what is said of all members.
+use Prim.Native.Nat.{ℕ, _+_}
+use mathlib.Core.List.{List, [], _∷_, _++_}
+use mathlib.Core.Bool.{Bool, not, cond}
+
+-- "running orders": the same members, each as often; what exchanging neighbours, again and again, makes of a list
+pub data Perm (A : Type 0) : List A → List A → Type 0 where
+  done : Perm A [] []
+  keep : {a : A} {x y : List A} → Perm A x y → Perm A (a ∷ x) (a ∷ y)
+  swap : {a b : A} {x : List A} → Perm A (a ∷ (b ∷ x)) (b ∷ (a ∷ x))
+  then : {x y z : List A} → Perm A x y → Perm A y z → Perm A x z
+
+-- the sum of a figure over the members
+unfoldable pub total : {A : Type 0} → (A → ℕ) → List A → ℕ
+total f [] = 0
+total f (a ∷ x) = f a + total f x
+
+-- each member has the property
+pub data All (A : Type 0) (Q : A → Type 0) : List A → Type 0 where
+  nothing : All A Q []
+  and : {a : A} {x : List A} → Q a → All A Q x → All A Q (a ∷ x)
+
+-- each member is so related to every later one
+pub data Pairs (A : Type 0) (R : A → A → Type 0) : List A → Type 0 where
+  nothing : Pairs A R []
+  and : {a : A} {x : List A} → All A (R a) x → Pairs A R x → Pairs A R (a ∷ x)
+
+-- the members that pass a test, as they stand
+abbrev pub only : {A : Type 0} → (A → Bool) → List A → List A
+only t [] = []
+only t (a ∷ x) = cond (t a) (a ∷ only t x) (only t x)
+
+-- those that fail the test, then those that pass it
+abbrev pub parted : {A : Type 0} → (A → Bool) → List A → List A
+parted t x = only (λ a. not (t a)) x ++ only t x
