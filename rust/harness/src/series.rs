@@ -159,23 +159,26 @@ fn loops(returns: &[f64]) -> Figures {
     (rates, [returns.len() as u64, winning as u64, losing as u64])
 }
 
-/// Nanoseconds a call, the best of several turns that go back and forth between the two.
+/// Nanoseconds a call, the best of several turns that go back and forth between the two. Each call takes another series
+/// than the one before, so that no branch of either is learnt by heart.
 pub fn bench(seed: u64) -> bool {
-    const TURNS: usize = 7;
-    println!("figures: nanoseconds a call, best of {TURNS} turns");
-    for length in [16usize, 252, 4_096] {
-        let mut random = Random::new(seed);
-        let series: Vec<f64> = (0..length).map(|_| member(&mut random, 0)).collect();
+    const TURNS: usize = 15;
+    const SERIES: usize = 64;
+    println!("figures: nanoseconds a call, best of {TURNS} turns over {SERIES} series of each length");
+    let mut random = Random::new(seed);
+    for length in [16, 252, 4_096] {
+        let mut one = || (0..length).map(|_| member(&mut random, 0)).collect::<Vec<f64>>();
+        let series: Vec<Vec<f64>> = (0..SERIES).map(|_| one()).collect();
         let calls = 4_000_000 / length;
-        let timed = |call: &dyn Fn()| {
+        let timed = |call: &dyn Fn(&[f64])| {
             let start = Instant::now();
-            (0..calls).for_each(|_| call());
+            (0..calls).for_each(|k| call(black_box(&series[k % SERIES])));
             start.elapsed().as_secs_f64() / calls as f64 * 1e9
         };
         let (mut rust, mut port) = (f64::MAX, f64::MAX);
         for _ in 0..TURNS {
-            rust = rust.min(timed(&|| _ = black_box(loops(black_box(&series)))));
-            port = port.min(timed(&|| _ = black_box(ours(black_box(&series)))));
+            rust = rust.min(timed(&|returns| _ = black_box(loops(returns))));
+            port = port.min(timed(&|returns| _ = black_box(ours(returns))));
         }
         println!("  {length:>5} returns: Rust's loops {rust:.0}, port {port:.0}, ratio {:.2}", port / rust);
     }
