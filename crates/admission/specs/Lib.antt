@@ -2,3 +2,5 @@
 pub mod Admission
 pub mod Running
 pub mod Columns
+pub mod Offers
+pub mod Runs
