@@ -1,0 +1,48 @@
+-- A deal by its tests.
+use mathlib.Core.Path.{_≡_, refl, sym, ap, _∙_}
+use mathlib.Core.Bool.{Bool, true, false}
+use lib.IntN.{ℤ, pos}
+use lib.Signed.{ltZ, leZ}
+use Rattle.position.proofs.Counts.{lt-not-ge, not-lt-ge}
+use Rattle.words.specs.Sums.{satAdd, satSub}
+use Rattle.fills.specs.declared.deal.Deal.{Deal}
+use Rattle.fills.specs.declared.order.Terms.{Terms}
+use Rattle.fills.specs.Fill.{cashTaken}
+use Rattle.fills.specs.declared.order.Book.{Book}
+use Rattle.fills.specs.Orders.{nextCount}
+use Rattle.fills.specs.Deal.{dealt, noDeal, sold}
+use Rattle.fills.specs.Runs.{countedIn}
+
+module _ (t : Terms) (q p cash : ℤ) (d : Deal) (e : d ≡ dealt t q p cash false (pos 0)) where
+  left : d .«cash_after» ≡ satSub cash (cashTaken t q p)
+  unfolding dealt
+  left = ap (λ x. x .«cash_after») e
+
+  pub sold-skips : ltZ (d .«cash_after») (pos 0) ≡ true → sold t q p cash ≡ noDeal p cash false (pos 0)
+  unfolding sold
+  sold-skips h =
+      let n : leZ (pos 0) (satSub cash (cashTaken t q p)) ≡ false = ap (leZ (pos 0)) (sym left) ∙ lt-not-ge (d .«cash_after») (pos 0) h in
+      simp n
+
+  pub sold-fills : ltZ (d .«cash_after») (pos 0) ≡ false → sold t q p cash ≡ d
+  unfolding sold
+  sold-fills h =
+      let n : leZ (pos 0) (satSub cash (cashTaken t q p)) ≡ true = ap (leZ (pos 0)) (sym left) ∙ not-lt-ge (d .«cash_after») (pos 0) h in
+      simp (n, e)
+
+module _ (d : Deal) (b : Book) where
+  pub not-counted : d .trimmed ≡ false → countedIn d b ≡ b
+  unfolding countedIn
+  not-counted h = simp h
+
+  pub counted-once : d .trimmed ≡ true → countedIn d b ≡ record {
+    cash = b .cash;
+    count = b .count;
+    trimmed = nextCount (b .trimmed);
+    shortfall = satAdd (b .shortfall) (d .lost);
+    sequence = b .sequence;
+    written = b .written;
+    hint = b .hint;
+  }
+  unfolding countedIn
+  counted-once h = simp h

@@ -1,0 +1,6 @@
+-- What filling an order means: document 01, 'Filling'.
+pub mod Orders
+pub mod Records
+pub mod Fill
+pub mod Deal
+pub mod Runs

@@ -1,0 +1,31 @@
+-- What a fill is made of: the order, the terms of the call, and what a run of fills changes.
+use Prim.Native.Nat.{ℕ, _+_, _^_, _-_, min}
+use mathlib.Core.Bool.{Bool}
+use mathlib.Core.List.{List}
+use lib.IntN.{ℤ, pos}
+use lib.Signed.{ltZ}
+use Rattle.position.specs.declared.position.Position.{Position}
+use Rattle.cost_model.specs.Costs.{effective}
+use Rattle.fills.specs.declared.order.Order.{Order}
+use Rattle.fills.specs.declared.order.Terms.{Terms}
+use Rattle.fills.specs.declared.record.ExecutionRecord.{ExecutionRecord}
+
+-- what fills change: cash, the positions in symbol order, the two trim counters, the running record count, and the records made
+pub record State : Type 0 where
+  pub cash : ℤ
+  pub held : List Position
+  pub trimmed : ℕ
+  pub shortfall : ℤ
+  pub sequence : ℕ
+  pub records : List ExecutionRecord
+
+abbrev pub buys : Order → Bool
+buys o = ltZ (pos 0) (o .quantity .0)
+
+-- "filling ones the effective price"
+unfoldable pub paid : Terms → Order → ℤ
+paid t o = effective (t .costs) (buys o) (o .price)
+
+-- a count of u64, "saturating at the top"
+abbrev pub nextCount : ℕ → ℕ
+nextCount n = min (n + 1) (2 ^ 64 - 1)

@@ -1,0 +1,8 @@
+-- Laws of running orders, and condition 3.
+pub mod Perms
+pub mod Rule
+pub mod Fills
+pub mod OrderTheorem
+pub mod Accounts
+pub mod Cases
+pub mod Counters

@@ -1,0 +1,1 @@
+// When the order in which orders run matters: definitions and laws only.
