@@ -1,5 +1,5 @@
 -- What an order takes from cash: one comparison for buys and sells alike, and cash that never falls below 0.
-use Prim.Native.Nat.{ℕ, _+_, _-_, _<_, _^_, min}
+use Prim.Native.Nat.{_+_, _-_, _<_, _^_, min}
 use mathlib.Core.Bool.{Bool, true, false}
 use mathlib.Core.Logic.{_⊎_, inl, inr}
 use mathlib.Core.Path.{_≡_, refl, sym, ap, _∙_}
@@ -13,7 +13,7 @@ use Rattle.words.proofs.Ints.{P, N, one-sided, P-sub, P-clamp, N-clamp, satSub-
 use Rattle.words.proofs.Laws.{notional-is-value}
 use Rattle.position.specs.Shares.{isZero}
 use Rattle.position.proofs.Fills.{short-parts}
-use Rattle.cost_model.specs.Costs.{cost, effective, goodCosts}
+use Rattle.cost_model.specs.Costs.{cost, goodCosts}
 use Rattle.cost_model.proofs.Costs.{buy-price-at-least-1}
 use Rattle.sizing.specs.Afford.{need, affordable}
 use Rattle.sizing.proofs.Buys.{affordable-nonneg, affordable-fits}

@@ -1,19 +1,22 @@
 -- Where the records of a run stand: in the first places, in the order filled, with the rest as found.
-use Prim.Native.Nat.{ℕ, suc, _+_, _*_, _/_, _≤_, _<_, min}
+use Prim.Native.Nat.{ℕ, suc, _+_, _*_, _/_, _≤_, _<_}
 use mathlib.Core.Bool.{Bool, true, false}
 use mathlib.Core.List.{List, [], _∷_, _++_}
-use mathlib.Core.Path.{_≡_, refl, sym, ap, _∙_}
+use mathlib.Core.Path.{_≡_, refl, ap, _∙_}
 use native.Mathlib.Omega.{arith}
-use lib.IntN.{ℤ, pos}
+use lib.IntN.{ℤ}
 use lib.ListN.{length, drop, set, length-append}
 use lib.Seq.{sets, sets-eq, length-sets}
 use Rattle.table.specs.Keyed.{pick}
+use Rattle.table.specs.Rows.{Cols}
+use Rattle.fills.specs.declared.order.Book.{Book}
 use Rattle.fills.specs.declared.order.Order.{Order}
 use Rattle.fills.specs.declared.order.Terms.{Terms}
 use Rattle.fills.specs.declared.record.ExecutionRecord.{ExecutionRecord}
 use Rattle.fills.specs.Orders.{State}
-use Rattle.fills.specs.Records.{wordsOf, intsOf, allWords, allInts, fronted, Buffers, buffers, stored, storedAll}
+use Rattle.fills.specs.Records.{wordsOf, intsOf, allWords, allInts, fronted, Buffers, buffers, storedAll}
 use Rattle.fills.specs.Fill.{counted, settled, fill, fillAll}
+use Rattle.fills.specs.Runs.{state, Runs}
 use Rattle.fills.proofs.Cash.{by-outcome}
 use Rattle.fills.proofs.Storing.{with-room}
 
@@ -91,3 +94,21 @@ unrecorded t [] s e = refl
 unrecorded t (o ∷ os) s e =
     let none = by-outcome (λ x. x .records ≡ s .records) t o s refl (λ _ _. simp e) (λ _ _. refl) (λ _ _. simp e) in
     unrecorded t os (fill t o s) e ∙ none
+
+-- ---- a run: with a place for each order the records stand in the first places; without recording the slices stay as they are
+module _ (t : Terms) (os : List Order) (b : Book) (c : Cols) (l : Buffers) (r : Book) (d : Cols) (k : Buffers) (h : Runs t os b c l r d k) where
+  abbrev records-made : List ExecutionRecord
+  records-made = fillAll t os (state b c []) .records
+
+  pub run-fronts : l .written ≡ 0 → length os * 4 ≤ length (l .words) → length os * 8 ≤ length (l .ints)
+      → k ≡ buffers (fronted (allWords records-made) (l .words)) (fronted (allInts records-made) (l .ints)) (length records-made)
+  run-fronts z u v =
+      let n : length records-made ≤ length os = omega (arith, fills-records t os (state b c [])) in
+      let e : l ≡ buffers (l .words) (l .ints) 0 = ap (buffers (l .words) (l .ints)) z in
+      let x : length records-made * 4 ≤ length (l .words) = omega arith in
+      let y : length records-made * 8 ≤ length (l .ints) = omega arith in
+      h .kept ∙ ap (storedAll records-made) e ∙ stored-fronts records-made (l .words) (l .ints) x y
+
+  pub unrecorded-run : t .recording ≡ false → k ≡ l
+  unfolding storedAll
+  unrecorded-run e = h .kept ∙ ap (λ x. storedAll x l) (unrecorded t os (state b c []) e)

@@ -3,8 +3,7 @@ use Prim.Native.Nat.{ℕ, _≤_}
 use mathlib.Core.Bool.{Bool, true, false}
 use mathlib.Core.List.{List, [], _∷_, map}
 use mathlib.Core.Option.{Option, none, some}
-use mathlib.Core.Path.{_≡_, refl, sym, ap, _∙_, subst}
-use native.Mathlib.Omega.{arith}
+use mathlib.Core.Path.{_≡_, refl, ap, _∙_}
 use lib.Dec.{ltb}
 use lib.IntN.{ℤ, pos}
 use lib.ListN.{length}
@@ -15,9 +14,9 @@ use Rattle.position.specs.declared.position.Position.{Position}
 use Rattle.position.specs.Rows.{fresh, keyOf}
 use Rattle.position.specs.Shares.{isZero}
 use Rattle.position.specs.Symbols.{goodSymbol}
-use Rattle.position.specs.Fills.{sound, applied}
+use Rattle.position.specs.Fills.{sound}
 use Rattle.position.proofs.Fills.{applied-keeps-symbol, applied-keeps-sound, fresh-sound}
-use Rattle.cost_model.specs.Costs.{effective, goodCosts}
+use Rattle.cost_model.specs.Costs.{goodCosts}
 use Rattle.cost_model.proofs.Costs.{effective-nonneg}
 use Rattle.table.specs.Keyed.{pick, there, orElse, seek, put, put64, all, Rising}
 use Rattle.table.proofs.Keyed.{seek-key, seek-put, put64-rises, put64-fits, all-put64, all-seek}
