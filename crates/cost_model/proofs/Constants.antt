@@ -2,7 +2,7 @@
 use mathlib.Core.Path.{_≡_, refl}
 use lib.Ieee.{binary64, ofBits, neg}
 use Rattle.cost_model.specs.Costs.{zero, one, tenThousand, sign}
-use mathlib.Core.Bool.{true, false}
+use mathlib.Core.Bool.{false}
 
 pub zero-is : ofBits binary64 0 ≡ zero
 unfolding ofBits

@@ -1,22 +1,22 @@
 -- What callers need of costs: at least the floor, never falling as the notional rises, and the bounds of an effective price.
-use Prim.Native.Nat.{ℕ, zero, suc, _+_, _≤_, _<_, _^_}
-use mathlib.Core.Path.{_≡_, refl, sym, ap, _∙_}
+use Prim.Native.Nat.{ℕ, zero, _≤_, _<_, _^_}
+use mathlib.Core.Path.{_≡_, refl}
 use mathlib.Core.Bool.{Bool, true, false, cond, _&&_}
 use native.Mathlib.Omega.{arith}
 use lib.IntN.{ℤ, pos, negsuc, natAbs}
 use lib.Signed.{ltZ, leZ}
-use lib.Dec.{T, leb, ltb}
-use lib.Ieee.{Float, nan, inf, fin, binary64, add, mul, div, le, ofInt, toSigned}
+use lib.Dec.{T}
+use lib.Ieee.{Float, nan, inf, fin, le}
 use borrow.Author.Tests.{leb-true}
 use mir.Syntax.{w64}
 use mir.Val.{SFits}
-use Rattle.doubles.specs.Doubles.{finite, toI64, ofI64, ofU64, roundAway}
+use Rattle.doubles.specs.Doubles.{finite}
 use Rattle.doubles.proofs.Laws.{toI64-fits}
-use Rattle.doubles.proofs.Chain.{cost-not-negative, buy-price-above-zero, sell-price-not-negative}
+use Rattle.doubles.proofs.Chain.{buy-price-above-zero, sell-price-not-negative}
 use Rattle.doubles.proofs.Chain as Chain
 use Rattle.words.proofs.Ints.{P, N, natAbs-parts, P-fits, N-fits, le-yes, lt-yes, lt-no, le-is}
 use Rattle.cost_model.specs.Costs as Costs
-use Rattle.cost_model.specs.Costs.{tenThousand, free, commission, atLeast, cost, slippageFactor, slipped, effective, goodRate, goodCosts}
+use Rattle.cost_model.specs.Costs.{tenThousand, commission, atLeast, cost, slippageFactor, slipped, effective, goodRate, goodCosts}
 use Rattle.cost_model.specs.declared.CostModel.{CostModel}
 
 -- ---- tests

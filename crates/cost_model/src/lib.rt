@@ -44,7 +44,7 @@ impl CostModel {
         0 <= self.min_commission
     }
 
-    // Commission for a trade of the given notional (cents), whatever the rate: for a NaN the floor, and saturated.
+    // Commission for a trade of the given notional (cents), for every notional and every rate: a NaN counts 0, and what is too large saturates.
     pub fn compute_cost(self, notional: i64) -> i64
         ensures { λ r. ⌜ r ≡ cost self notional ⌝ }
     {

@@ -1,5 +1,5 @@
 -- Laws of the price that a list gives: it is that of the place found, 0 where the symbol is not listed, else at least 1.
-use Prim.Native.Nat.{ℕ, zero, suc, _+_, _-_, _≤_, _<_}
+use Prim.Native.Nat.{ℕ, suc, _+_, _≤_, _<_}
 use mathlib.Core.Path.{_≡_, refl, sym, ap, _∙_}
 use mathlib.Core.List.{List, [], _∷_}
 use mathlib.Core.Bool.{Bool, true, false, not}
@@ -11,15 +11,14 @@ use lib.ListN.{length, take, getD, List·getD-eq-default}
 use lib.Seq.{take-all}
 use mir.Syntax.{w64}
 use mir.Val.{SFits}
-use borrow.Author.Tests.{leb-true, leb-false, eqb-true, eqb-false, ne-eqb}
-use Rattle.table.specs.Keyed.{pick, both, Over, Rising}
+use borrow.Author.Tests.{leb-true, leb-false, eqb-true, eqb-false}
+use Rattle.table.specs.Keyed.{pick, Rising}
 use Rattle.table.specs.Places.{foundFrom, found, Finds}
 use Rattle.table.specs.declared.found.Found.{Found}
 use Rattle.table.specs.declared.found.Found.the-variants.{At, Absent}
 use Rattle.table.proofs.Keyed.{both-true}
 use Rattle.feeds.specs.Lists.{among, allPriced, priceOf}
 use Rattle.feeds.specs.Quotes.{quoted}
-use Rattle.feeds.specs.declared.price.Quote.{Quote}
 use Rattle.feeds.proofs.Lists.{below-first, below-not-among}
 
 -- ---- what a symbol is priced at

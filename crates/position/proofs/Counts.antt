@@ -1,17 +1,17 @@
 -- Laws of share counts.
-use Prim.Native.Nat.{ℕ, zero, suc, _+_, _-_, _*_, _/_, _≤_, _<_, _^_}
-use mathlib.Core.Path.{_≡_, refl, sym, ap, _∙_}
-use mathlib.Core.Bool.{Bool, true, false}
+use Prim.Native.Nat.{ℕ, zero, suc, _-_, _*_, _/_, _^_}
+use mathlib.Core.Path.{_≡_, refl, sym, ap}
+use mathlib.Core.Bool.{true, false}
 use native.Mathlib.Omega.{arith}
 use native.Mathlib.Nat.{div-le-self}
 use lib.IntN.{ℤ, pos, negsuc, _*ℤ_, negℤ}
-use lib.Signed.{ltZ, leZ, quotZ}
+use lib.Signed.{ltZ, leZ}
 use lib.Dec.{eqb}
-use borrow.Author.Tests.{eqb-true, eqb-false, eq-eqb, ne-eqb}
+use borrow.Author.Tests.{eqb-true, ne-eqb}
 use mir.Syntax.{w64}
 use mir.Val.{SFits, ofZ}
-use Rattle.words.specs.Sums.{clamp64, SCALE}
-use Rattle.words.proofs.Ints.{P, N, P-neg, N-neg, P-fits, N-fits, fits-of, lt-yes, lt-no, le-is, gt-is, clamp-top, clamp-low, clamp-same}
+use Rattle.words.specs.Sums.{SCALE}
+use Rattle.words.proofs.Ints.{P, N, P-neg, N-neg, fits-of, lt-yes, lt-no, le-is, gt-is, clamp-top, clamp-low, clamp-same}
 use Rattle.position.specs.Shares.{fromWhole, wholeShares, isZero}
 
 -- ---- zero

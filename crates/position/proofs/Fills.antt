@@ -1,23 +1,24 @@
 -- What every fill keeps: the symbol, the range of each number, and soundness, saturation included.
-use Prim.Native.Nat.{ℕ, zero, suc, _+_, _*_, _≤_, _<_, _^_, min}
+use Prim.Native.Nat.{ℕ, _+_, _<_}
 use mathlib.Core.Path.{_≡_, refl, sym, ap, _∙_}
-use mathlib.Core.Bool.{Bool, true, false, not, cond, _&&_}
+use mathlib.Core.Bool.{Bool, true, false, cond, _&&_}
 use mathlib.Core.Logic.{_⊎_, inl, inr}
 use native.Mathlib.Omega.{arith}
 use lib.IntN.{ℤ, pos, negsuc, _+ℤ_, _-ℤ_, natAbs}
 use lib.Signed.{ltZ, leZ}
-use lib.Dec.{eqb, ltb}
 use borrow.Author.Tests.{eqb-false, ltb-true, ltb-false, lt-ltb, ne-eqb, not-true}
 use mir.Syntax.{w64}
 use mir.Val.{SFits}
-use Rattle.words.specs.Sums.{clamp64, satAdd, satSub, satAbs, value, priceAt, SCALE}
-use Rattle.words.proofs.Ints.{P, N, one-sided, natAbs-parts, P-pos, N-pos, P-add, P-sub, le-yes, lt-yes, lt-no, le-is, P-clamp, N-clamp, satAdd-fits, satSub-fits, satAdd-clamp, satSub-clamp, satAbs-fits, satAdd-mono, satSub-mono, satSub-exact, fits-of, P-fits}
+use Rattle.words.specs.Sums.{clamp64, satAdd, satSub, satAbs, value, priceAt}
+use Rattle.words.proofs.Ints.{P, N, one-sided, natAbs-parts, P-add, P-sub, le-yes, lt-yes, lt-no, le-is, P-clamp, N-clamp, satAdd-fits, satSub-fits, satAdd-clamp, satSub-clamp, satAdd-mono, satSub-mono, satSub-exact, fits-of, P-fits, ge-is}
 use Rattle.words.proofs.Laws.{value-fits, value-nonneg, value-nonpos, value-mono-quantity, priceAt-fits, price-long-nonneg, price-short-nonneg, average-long, average-short}
-use Rattle.position.specs.Rows.{row, fresh, keyOf, held, avg, realized, total}
+use Rattle.position.specs.Rows.{fresh, keyOf, held, avg, realized, total}
 use Rattle.position.specs.Shares.{isZero, isPositive}
 use Rattle.position.specs.Symbols.{goodSymbol}
-use Rattle.position.specs.Fills.{soundNumbers, sound, sameSide, entered, averaged, grown, closedBy, gain, realizedBy, closedCost, closed, partlyClosed, reduced, applied}
+use Rattle.position.specs.Fills.{soundNumbers, sound, sameSide, entered, averaged, grown, closedBy, gain, realizedBy, closedCost, closed, partlyClosed, reduced, applied, applyFill}
 use Rattle.position.specs.declared.position.Position.{Position}
+use Rattle.position.specs.declared.position.Filled.{Filled}
+use Rattle.answer.specs.declared.Answer.the-variants.{Done, BadPrice, Unsound}
 use Rattle.position.proofs.Symbols.{and-left, and-right}
 
 -- ---- the branches
@@ -308,3 +309,24 @@ plain-difference a b fa fb ha hb =
 pub gain-is-plain : (p : Position) (price : ℤ) → SFits w64 (avg p) → SFits w64 price → leZ (pos 0) (avg p) ≡ true → leZ (pos 0) price ≡ true → gain p price ≡ cond (isPositive (held p)) (price -ℤ avg p) (avg p -ℤ price)
 unfolding gain
 gain-is-plain p price fa fp ha hp = rw (plain-difference price (avg p) fp fa hp ha, plain-difference (avg p) price fa fp ha hp)
+
+-- ---- `apply_fill` by itself returns a sound position for a sound one, and a refused one as given
+pub apply-fill-sound : (p : Position) (q price : ℤ) → sound p ≡ true → sound (applyFill p q price .position) ≡ true
+unfolding applyFill
+apply-fill-sound p q price s = rw s (go (ltZ price (pos 0)) refl)
+  where
+    go : (t : Bool) → ltZ price (pos 0) ≡ t → sound ((cond {A = Filled} t (record { answer = BadPrice; position = p }) (record { answer = Done; position = applied p q price })) .position) ≡ true
+    go true e = s
+    go false e = applied-keeps-sound p q price s (le-is (pos 0) price (omega (arith, lt-no price (pos 0) e)))
+
+pub apply-fill-unsound : (p : Position) (q price : ℤ) → sound p ≡ false → applyFill p q price ≡ record { answer = Unsound; position = p }
+unfolding applyFill
+apply-fill-unsound p q price s = rw s
+
+pub apply-fill-bad-price : (p : Position) (q price : ℤ) → sound p ≡ true → ltZ price (pos 0) ≡ true → applyFill p q price ≡ record { answer = BadPrice; position = p }
+unfolding applyFill
+apply-fill-bad-price p q price s h = rw (s, h)
+
+pub apply-fill-done : (p : Position) (q price : ℤ) → sound p ≡ true → leZ (pos 0) price ≡ true → applyFill p q price ≡ record { answer = Done; position = applied p q price }
+unfolding applyFill
+apply-fill-done p q price s h = rw (s, ge-is price (pos 0) (omega (arith, le-yes (pos 0) price h)))

@@ -1,16 +1,15 @@
 -- A symbol's number and its bytes: the order of numbers is the order of bytes, and the bytes give the number back.
-use Prim.Native.Nat.{ℕ, zero, suc, _+_, _-_, _*_, _/_, _%_, _^_, _≤_, _<_}
+use Prim.Native.Nat.{ℕ, zero, suc, _+_, _*_, _/_, _%_, _^_, _<_}
 use mathlib.Core.Path.{_≡_, refl, sym, ap, _∙_}
-use mathlib.Core.Bool.{Bool, true, false, not, cond, _&&_}
-use mathlib.Core.List.{List, [], _∷_}
+use mathlib.Core.Bool.{Bool, true, false, cond, _&&_}
+use mathlib.Core.List.{List, _∷_}
 use native.Mathlib.Omega.{arith}
-use native.Mathlib.Nat.{mul-div-cancel, mul-mod-left, add-zero, mul-assoc, pow-suc, zero-mul, mul-one, pow-zero}
+use native.Mathlib.Nat.{mul-div-cancel, mul-mod-left, add-zero, add-mul, mul-assoc, pow-suc, zero-mul, mul-one, pow-zero}
 use lib.Arith.{mod-mul}
 use lib.Pow.{pow-add}
-use lib.Dec.{leb, ltb, eqb}
-use lib.ListN.{getD}
+use lib.Dec.{ltb, eqb}
 use borrow.Author.Tests.{ltb-true, ltb-false, eqb-true, eqb-false, lt-ltb, le-ltb}
-use Rattle.position.specs.Symbols.{bytesFrom, bytesOf, leading, ofBytes, goodByte, zeros, padded, goodSymbol, before}
+use Rattle.position.specs.Symbols.{bytesFrom, bytesOf, leading, ofBytes, goodByte, zeros, padded, before}
 
 -- n is m with i bytes of zeros after it
 pub record Spaced (i n : ℕ) : Type 0 where
@@ -22,12 +21,15 @@ power-pos : (i : ℕ) → 0 < 256 ^ i
 power-pos zero = omega arith
 power-pos (suc i) = omega (arith, power-pos i, pow-suc 256 i)
 
+seven-bytes : (k i : ℕ) → suc k + i ≡ 8 → 2 ^ 56 ≡ 256 ^ k * 256 ^ i
+seven-bytes k i e =
+    let seven : k + i ≡ 7 = omega arith in
+    sym (ap (λ (x : ℕ). 256 ^ x) seven) ∙ pow-add 256 k i
+
 pub next-spaced : (k i n : ℕ) → suc k + i ≡ 8 → Spaced i n → Spaced (suc i) (n % 2 ^ 56 * 256)
 next-spaced k i n e s =
     let m = s .high in
-    let seven : k + i ≡ 7 = omega arith in
-    let split : 2 ^ 56 ≡ 256 ^ k * 256 ^ i = sym (ap (λ (x : ℕ). 256 ^ x) seven) ∙ pow-add 256 k i in
-    let cut : n % 2 ^ 56 ≡ n / 256 ^ i % 256 ^ k * 256 ^ i + n % 256 ^ i = ap (λ (x : ℕ). n % x) split ∙ mod-mul n (power-pos k) (power-pos i) in
+    let cut : n % 2 ^ 56 ≡ n / 256 ^ i % 256 ^ k * 256 ^ i + n % 256 ^ i = ap (λ (x : ℕ). n % x) (seven-bytes k i e) ∙ mod-mul n (power-pos k) (power-pos i) in
     let quot : n / 256 ^ i ≡ m = ap (λ (x : ℕ). x / 256 ^ i) (s .is) ∙ mul-div-cancel m (power-pos i) in
     let none : n % 256 ^ i ≡ 0 = ap (λ (x : ℕ). x % 256 ^ i) (s .is) ∙ mul-mod-left m (256 ^ i) in
     let low : n % 2 ^ 56 ≡ m % 256 ^ k * 256 ^ i = cut ∙ rw (quot, none, add-zero) in
@@ -139,15 +141,21 @@ pub number-order-is-byte-order : (a b : ℕ) → a < 2 ^ 64 → b < 2 ^ 64 → b
 number-order-is-byte-order a b ha hb = before-from 8 0 a b refl (all-spaced a ha) (all-spaced b hb)
 
 -- ---- there and back
+leading-first : (b : ℕ) (bs : List ℕ) (k : ℕ) → leading (b ∷ bs) (suc k) ≡ b * 256 ^ k + leading bs k
+unfolding leading
+leading-first b bs zero = omega arith
+leading-first b bs (suc k) = omega (arith, leading-first b bs k, mul-assoc b (256 ^ k) 256, ap (λ (x : ℕ). b * x) (pow-suc 256 k))
+
+number-from : (k i n : ℕ) → k + i ≡ 8 → Spaced i n → leading (bytesFrom k n) k * 256 ^ i ≡ n
+unfolding bytesFrom leading
+number-from zero i n e s = zero-mul (256 ^ i) ∙ sym (past-the-end i n e s)
+number-from (suc k) i n e s =
+    let up = n % 2 ^ 56 * 256 in
+    let low = leading (bytesFrom k up) k in
+    let whole : low * 256 ^ i * 256 ≡ up =
+    mul-assoc low (256 ^ i) 256 ∙ ap (λ (x : ℕ). low * x) (sym (pow-suc 256 i)) ∙ number-from k (suc i) up (omega arith) (next-spaced k i n e s) in
+    let first : n / 2 ^ 56 * 256 ^ k * 256 ^ i ≡ n / 2 ^ 56 * 2 ^ 56 = mul-assoc (n / 2 ^ 56) (256 ^ k) (256 ^ i) ∙ ap (λ (x : ℕ). n / 2 ^ 56 * x) (sym (seven-bytes k i e)) in
+    ap (λ (x : ℕ). x * 256 ^ i) (leading-first (n / 2 ^ 56) (bytesFrom k up) k) ∙ add-mul (n / 2 ^ 56 * 256 ^ k) low (256 ^ i) ∙ omega (arith, whole, first)
+
 pub bytes-give-the-number : (n : ℕ) → n < 2 ^ 64 → ofBytes (bytesOf n) ≡ n
-unfolding leading bytesFrom
-bytes-give-the-number n h =
-    let s1 = next-spaced 7 0 n refl (all-spaced n h) in
-    let s2 = next-spaced 6 1 _ refl s1 in
-    let s3 = next-spaced 5 2 _ refl s2 in
-    let s4 = next-spaced 4 3 _ refl s3 in
-    let s5 = next-spaced 3 4 _ refl s4 in
-    let s6 = next-spaced 2 5 _ refl s5 in
-    let s7 = next-spaced 1 6 _ refl s6 in
-    let s8 = next-spaced 0 7 _ refl s7 in
-    omega (arith, past-the-end 8 _ refl s8)
+bytes-give-the-number n h = sym (mul-one (ofBytes (bytesOf n))) ∙ number-from 8 0 n refl (all-spaced n h)

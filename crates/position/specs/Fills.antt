@@ -3,7 +3,6 @@ use mathlib.Core.Bool.{Bool, not, cond, _&&_}
 use Prim.Native.Nat.{ℕ}
 use lib.IntN.{ℤ, pos}
 use lib.Signed.{ltZ, leZ}
-use Rattle.answer.specs.declared.Answer.{Answer}
 use Rattle.answer.specs.declared.Answer.the-variants.{Done, BadPrice, Unsound}
 use Rattle.words.specs.Sums.{satAdd, satSub, satAbs, value, priceAt}
 use Rattle.position.specs.Rows.{row, keyOf, held, avg, realized, total}

@@ -1,15 +1,15 @@
 -- What sizing and truncation give: step multiples that fit, keep their sign, and are worth no more than was asked.
-use Prim.Native.Nat.{ℕ, zero, suc, _+_, _-_, _*_, _/_, _≤_, _<_, _^_, min}
-use mathlib.Core.Path.{_≡_, refl, sym, ap, _∙_}
-use mathlib.Core.Bool.{Bool, true, false, cond}
+use Prim.Native.Nat.{ℕ, zero, _-_, _*_, _/_, _≤_, _<_, _^_, min}
+use mathlib.Core.Path.{_≡_, refl, ap, _∙_}
+use mathlib.Core.Bool.{Bool, true, false}
 use native.Mathlib.Omega.{arith}
 use native.Mathlib.Nat.{lt-of-le-of-lt, div-mul-le-self, mul-le-mul-right}
-use lib.IntN.{ℤ, pos, negsuc, negℤ, natAbs}
+use lib.IntN.{ℤ, pos, negsuc, natAbs}
 use lib.Signed.{ltZ, leZ}
 use mir.Syntax.{w64}
 use mir.Val.{SFits}
-use Rattle.words.specs.Sums.{SCALE, clamp64, signed, snap, notional}
-use Rattle.words.proofs.Ints.{P, N, P-pos, N-pos, natAbs-parts, P-signed, N-signed, signed-pos, N-zero, P-clamp, N-clamp, clamp-fits, clamp-same, fits-of, le-is}
+use Rattle.words.specs.Sums.{SCALE, signed, snap, notional}
+use Rattle.words.proofs.Ints.{P, N, N-pos, natAbs-parts, P-signed, N-signed, signed-pos, N-zero, P-clamp, N-clamp, clamp-fits, clamp-same, fits-of, le-is}
 use Rattle.words.proofs.Laws.{P-notional, N-notional, snap-le}
 use Rattle.sizing.specs.Sizing.{above, sharesFor, sized, cutTo}
 

@@ -2,10 +2,10 @@
 use Prim.Native.Nat.{ℕ, _*_, _/_, _-_, _^_, min}
 use lib.IntN.{ℤ, pos, negsuc, natAbs}
 use lib.Signed.{ltZ}
-use lib.Ieee.{Float, fin, binary64, mul, div}
-use mathlib.Core.Bool.{false}
+use lib.Ieee.{Float, binary64, mul, div}
 use Rattle.words.specs.Sums.{SCALE, clamp64, signed, snap}
 use Rattle.doubles.specs.Doubles.{ofI64, ofU64}
+use Rattle.cost_model.specs.Costs.{tenThousand}
 
 -- the part of a number above zero
 unfoldable pub above : ℤ → ℕ
@@ -27,4 +27,4 @@ cutTo quantity price step max =
 
 -- "Drift is (absolute value / equity) × 10,000, divided first."
 unfoldable pub drift : ℤ → ℤ → Float
-drift value equity = mul binary64 (div binary64 (ofU64 (natAbs value)) (ofI64 equity)) (fin false 625 (pos 4))
+drift value equity = mul binary64 (div binary64 (ofU64 (natAbs value)) (ofI64 equity)) tenThousand

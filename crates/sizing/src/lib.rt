@@ -27,8 +27,7 @@ pub fn notional_of(quantity: Shares, price: i64) -> i64
     words::magnitude(quantity.0, price)
 }
 
-// How many micro-shares a value is at a price, truncated and snapped to the step: two words, since a clamp before the snap
-// would leave a count that is no multiple of the step.
+// How many micro-shares a value is at a price, truncated and snapped to the step. It has two words: the snap comes before any clamp.
 fn shares_for(value: u64, price: u64, step: u64) -> Wide
     ensures { λ r. ⌜ r ≡ wide (sharesFor value price step) ⌝ }
 {
@@ -94,8 +93,8 @@ fn guessed_notional(cash: i64, costs: CostModel) -> i64 {
     n
 }
 
-// One more than a guess at the largest count of steps that fits. A share of a cent costs nothing, so that all but one unit of
-// the next cent is spent too; from 2^44 cents on, where that needs a second word, it is left out.
+// One more than a guess at the largest count of steps that fits. Values are truncated, so what is worth a unit less than the next
+// cent is bought too; from 2^44 cents on, where that sum could need a second word, it is left out.
 fn guessed_over(cash: i64, price: i64, step: u64, costs: CostModel) -> u64
     requires { ⌜ 0 < step ⌝ }
 {

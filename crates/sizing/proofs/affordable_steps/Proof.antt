@@ -1,22 +1,22 @@
 -- The answer stays between the ends: the lower one fits or is 0, and the largest that fits up to the upper one is the largest up to the whole.
-use Prim.Native.Nat.{ℕ, zero, suc, _+_, _-_, _*_, _≤_, _<_, _^_}
+use Prim.Native.Nat.{ℕ, _-_, _*_, _≤_, _<_, _^_}
 use mathlib.Core.Path.{_≡_, refl, sym, ap, _∙_}
-use mathlib.Core.Bool.{Bool, true, false}
-use mathlib.Core.Logic.{_⊎_, inl, inr, ⊎-elim}
+use mathlib.Core.Bool.{Bool, true}
+use mathlib.Core.Logic.{_⊎_, inl, inr}
 use native.Mathlib.Omega.{arith}
 use native.Mathlib.Nat.{mul-le-mul-left, mul-le-mul-right, mul-one}
 use borrow.Author.Needs.{needs}
-use lib.IntN.{ℤ, pos}
-use lib.Signed.{ltZ, leZ}
+use lib.IntN.{pos}
 use mir.Syntax.{w64}
 use mir.Val.{toZ, ofZ}
-use Rattle.sizing.specs.Afford.{need, fits, largest}
+use Rattle.sizing.specs.Afford.{fits, largest}
 use Rattle.sizing.proofs.Bits.{read-back}
 use Rattle.sizing.proofs.Search.{end-moves, largest-at}
 use Rattle.sizing.proofs.Buys.{fits-falls}
 use Rattle.sizing.proofs.affordable_steps.Statement.{statement}
 use Rattle.sizing.proofs.affordable_steps.Tie as tie
 
+-- what holds of the ends at each turn
 record Between (passes : ℕ → Bool) (most lo hi : ℕ) : Type 0 where
   ends : lo ≤ hi
   within : hi ≤ most
@@ -96,14 +96,16 @@ loop-again-2 c =
     let n = c .before .buy-cash-required in
     let d = c .before .before in
     let m = d .before .probe .result in
-    let a = c .before .before .before .before .before .before .before .args in
+    let s = c .before .before .before .before .before .before .before in
+    let a = s .args in
     let p = fits (a .costs) (a .step) (toZ w64 (ofZ w64 (a .cash))) (toZ w64 (ofZ w64 (a .price))) in
+    let falls = fits-falls (a .costs) (s .pre .2) (a .step) (toZ w64 (ofZ w64 (a .cash))) (toZ w64 (ofZ w64 (a .price))) in
     record {
       ends = omega arith;
       within = omega arith;
       low = i .low;
       high =
-          end-moves (p) (fits-falls (a .costs) (c .before .before .before .before .before .before .before .pre .2) (a .step) _ _) _ m (omega arith) (omega arith)
+          end-moves p falls _ m (omega arith) (omega arith)
           (rw (read-back (n .result) (n .ok), n .ensures, read-back (pos _) (steps-small d)) at (c .if1 .left))
           ∙ i .high;
     }

@@ -1,9 +1,6 @@
 -- Nothing is needed for nothing or at no price; else notional and commission are what the calls give.
 use mathlib.Core.Path.{_≡_}
-use mathlib.Core.Bool.{true, false}
 use borrow.Author.Needs.{needs}
-use lib.IntN.{ℤ, pos}
-use lib.Signed.{ltZ, leZ}
 use mir.Syntax.{w64}
 use mir.Val.{toZ, ofZ}
 use Rattle.sizing.specs.Afford.{need}

@@ -1,19 +1,19 @@
 -- The request in whole steps bounds the search, and so many steps are no more than the request.
-use Prim.Native.Nat.{ℕ, _*_, _/_, _≤_, _<_, _^_}
-use mathlib.Core.Path.{_≡_, refl, sym, ap, _∙_}
+use Prim.Native.Nat.{_*_, _/_, _≤_, _<_, _^_}
+use mathlib.Core.Path.{_≡_, sym, _∙_}
 use mathlib.Core.Bool.{true, false}
 use native.Mathlib.Omega.{arith}
 use native.Mathlib.Nat.{mul-le-mul-right, div-mul-le-self, mul-zero}
 use borrow.Author.Needs.{needs}
 use borrow.Author.Tests.{not-true, not-false}
-use lib.IntN.{ℤ, pos}
+use lib.IntN.{pos}
 use lib.Signed.{leZ}
 use mir.Syntax.{w64}
 use mir.ValLaws.{toZ-pos}
 use Rattle.words.proofs.Ints.{P-fits}
 use Rattle.cost_model.specs.Costs.{goodCosts}
 use Rattle.sizing.specs.Sizing.{above}
-use Rattle.sizing.specs.Afford.{fits, largest, affordable}
+use Rattle.sizing.specs.Afford.{fits, affordable}
 use Rattle.sizing.proofs.Bits.{read-back}
 use Rattle.sizing.proofs.Search.{largest-up-to}
 use Rattle.sizing.proofs.Sizes.{above-is-P}

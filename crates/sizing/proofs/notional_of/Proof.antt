@@ -1,6 +1,5 @@
 -- The quantity and the price are handed on as they are.
 use borrow.Author.Needs.{needs}
-use mathlib.Core.Path.{_≡_}
 use Rattle.sizing.proofs.Bits.{read-back}
 use Rattle.sizing.proofs.notional_of.Statement.{statement}
 use Rattle.sizing.proofs.notional_of.Tie as tie

@@ -1,10 +1,10 @@
 -- What is clamped is not below zero, so it has a negative.
 use borrow.Author.Needs.{needs}
 use Prim.Native.Nat.{ℕ, _-_, _^_, min}
-use mathlib.Core.Path.{_≡_, refl, sym, _∙_}
+use mathlib.Core.Path.{_≡_, refl}
 use mathlib.Core.Bool.{true, false}
 use native.Mathlib.Omega.{arith}
-use lib.IntN.{ℤ, pos, negℤ, natAbs, _-ℤ_, +ℤ-idl}
+use lib.IntN.{pos, negℤ, natAbs, _-ℤ_, +ℤ-idl}
 use mir.Syntax.{w64}
 use mir.Val.{toZ, ofZ, SFits}
 use Rattle.words.specs.Sums.{clamp64, signed}

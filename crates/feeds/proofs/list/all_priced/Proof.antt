@@ -1,13 +1,12 @@
 -- The prices passed are at least 1, so those that are left decide.
 use Prim.Native.Nat.{_≤_, _-_}
 use mathlib.Core.Path.{_≡_, refl, sym, ap, _∙_}
-use mathlib.Core.Bool.{Bool, true, false, not}
+use mathlib.Core.Bool.{not}
 use native.Mathlib.Omega.{arith}
 use borrow.Author.Needs.{needs}
-use borrow.Author.Tests.{not-true, not-false}
 use lib.ListN.{length, drop, getD}
-use lib.IntN.{ℤ, pos}
-use lib.Signed.{leZ, ltZ}
+use lib.IntN.{pos}
+use lib.Signed.{leZ}
 use mir.Facts.{toZ-ofZ}
 use mir.Val.{SFits}
 use mir.Syntax.{w64}

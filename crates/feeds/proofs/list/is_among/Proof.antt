@@ -1,10 +1,8 @@
 -- The symbols passed are others, so those that are left decide.
 use Prim.Native.Nat.{_≤_, _-_}
 use mathlib.Core.Path.{_≡_, refl, sym, _∙_}
-use mathlib.Core.Bool.{Bool, true, false, not}
 use native.Mathlib.Omega.{arith}
 use borrow.Author.Needs.{needs}
-use borrow.Author.Tests.{not-true, not-false}
 use lib.ListN.{length, drop}
 use Rattle.feeds.specs.Lists.{among}
 use Rattle.feeds.proofs.Lists.{from-end, among-at, among-on}

@@ -1,10 +1,8 @@
 -- The symbols up to the one before place i ascend, so those from it on decide.
 use Prim.Native.Nat.{_≤_, _+_, _-_}
 use mathlib.Core.Path.{_≡_, refl, sym, _∙_}
-use mathlib.Core.Bool.{Bool, true, false, not}
 use native.Mathlib.Omega.{arith}
 use borrow.Author.Needs.{needs}
-use borrow.Author.Tests.{not-true, not-false}
 use lib.ListN.{length, drop}
 use Rattle.table.specs.Keyed.{ascending}
 use Rattle.feeds.proofs.Lists.{ascends-on, ascends-not, ascends-end}

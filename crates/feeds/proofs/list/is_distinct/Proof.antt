@@ -1,11 +1,10 @@
 -- A list that ascends has no symbol twice. Otherwise: no symbol passed stands again after its place, so those that are left decide.
-use Prim.Native.Nat.{_≤_, _+_, _-_}
-use mathlib.Core.Path.{_≡_, refl, sym, ap, _∙_}
-use mathlib.Core.Bool.{Bool, true, false, not}
+use Prim.Native.Nat.{_≤_, _-_}
+use mathlib.Core.Path.{_≡_, refl, sym, _∙_}
 use native.Mathlib.Omega.{arith}
 use borrow.Author.Needs.{needs}
-use lib.ListN.{length, drop, getD}
-use Rattle.feeds.specs.Lists.{among, distinct}
+use lib.ListN.{length, drop}
+use Rattle.feeds.specs.Lists.{distinct}
 use Rattle.feeds.proofs.Lists.{from-end, twice-at, twice-on, ascending-distinct}
 use Rattle.feeds.proofs.list.is_distinct.Statement.{statement}
 use Rattle.feeds.proofs.list.is_distinct.Tie as tie

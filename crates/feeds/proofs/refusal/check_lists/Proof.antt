@@ -1,13 +1,13 @@
 -- Each test passed on the way gives the same test of the definition; where one fails, the definition stops at the same refusal.
-use mathlib.Core.Path.{_≡_, refl, sym, ap, _∙_}
-use mathlib.Core.Bool.{Bool, true, false, not}
+use mathlib.Core.Path.{_≡_, sym, _∙_}
+use mathlib.Core.Bool.{true, false}
 use mathlib.Core.Logic.{⊎-elim}
 use borrow.Author.Needs.{needs}
 use borrow.Author.Tests.{not-true, not-false, le-leb, lt-leb}
 use lib.Dec.{eqb, leb}
 use lib.ListN.{length}
 use Rattle.table.specs.Keyed.{both}
-use Rattle.feeds.specs.Lists.{allGood, distinct, allFinite, allPriced}
+use Rattle.feeds.specs.Lists.{allGood, distinct}
 use Rattle.feeds.specs.Checks.{shortEnough, listsAnswer}
 use Rattle.feeds.proofs.refusal.check_lists.Statement.{statement}
 use Rattle.feeds.proofs.refusal.check_lists.Tie as tie

@@ -1,5 +1,4 @@
 -- The average is the price that the total gives.
-use mathlib.Core.Path.{_∙_, sym, ap}
 use mir.Syntax.{w64}
 use mir.Val.{SFits}
 use mir.Facts.{toZ-ofZ}

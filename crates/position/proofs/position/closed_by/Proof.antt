@@ -1,5 +1,5 @@
 -- The smaller of two magnitudes.
-use mathlib.Core.Path.{_∙_, sym, ap}
+use mathlib.Core.Path.{ap}
 use mir.Syntax.{w64}
 use mir.Val.{SFits}
 use mir.Facts.{toZ-ofZ}

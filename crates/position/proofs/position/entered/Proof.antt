@@ -1,5 +1,4 @@
 -- The total is the value at the price.
-use mathlib.Core.Path.{_∙_, sym, ap}
 use mir.Syntax.{w64}
 use mir.Val.{SFits}
 use mir.Facts.{toZ-ofZ}

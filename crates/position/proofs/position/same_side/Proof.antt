@@ -1,8 +1,5 @@
 -- By the first one's side.
 use mathlib.Core.Path.{_∙_, sym, ap}
-use mir.Syntax.{w64}
-use mir.Val.{SFits}
-use mir.Facts.{toZ-ofZ}
 use mathlib.Core.Bool.{not}
 use borrow.Author.Needs.{needs}
 use Rattle.position.specs.Fills.{sameSide}

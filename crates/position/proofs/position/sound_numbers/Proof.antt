@@ -1,12 +1,11 @@
 -- By the side that is held.
-use mathlib.Core.Path.{_∙_, sym, ap}
+use mathlib.Core.Path.{_∙_, sym}
 use lib.IntN.{pos}
 use mir.Syntax.{w64}
 use mir.Val.{SFits}
 use mir.Facts.{toZ-ofZ}
 use borrow.Author.Tests.{eq-eqb, ne-eqb}
 use borrow.Author.Needs.{needs}
-use Rattle.position.specs.Shares.{isZero}
 use Rattle.position.specs.Fills.{soundNumbers}
 use Rattle.position.proofs.Counts.{zero-bits, lt-not-ge, not-lt-ge}
 use Rattle.position.proofs.position.sound_numbers.Statement.{statement}

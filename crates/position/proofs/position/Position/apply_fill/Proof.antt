@@ -1,8 +1,6 @@
 -- By the two refusals.
 use mathlib.Core.Bool.{not}
 use mathlib.Core.Path.{_∙_, sym, ap}
-use mir.Syntax.{w64}
-use mir.Val.{SFits}
 use mir.Facts.{toZ-ofZ}
 use borrow.Author.Needs.{needs}
 use Rattle.position.specs.Fills.{applyFill}

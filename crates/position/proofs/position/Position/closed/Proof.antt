@@ -1,9 +1,5 @@
 -- Only the realized profit is left.
-use mathlib.Core.Path.{_∙_, sym, ap}
-use mir.Syntax.{w64}
-use mir.Val.{SFits}
 use mir.Facts.{toZ-ofZ}
-use borrow.Author.Needs.{needs}
 use Rattle.position.specs.Fills.{closed}
 use Rattle.position.proofs.position.Position.closed.Statement.{statement}
 use Rattle.position.proofs.position.Position.closed.Tie as tie

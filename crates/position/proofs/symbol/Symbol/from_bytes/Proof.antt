@@ -1,13 +1,13 @@
 -- After i turns the number is that of the first i bytes.
-use Prim.Native.Nat.{ℕ, suc, _+_, _-_, _*_, _^_, _≤_, _<_}
-use mathlib.Core.Path.{_≡_, refl, sym, ap, _∙_}
+use Prim.Native.Nat.{ℕ, _+_, _-_, _*_, _^_, _≤_, _<_}
+use mathlib.Core.Path.{_≡_, ap, _∙_}
 use native.Mathlib.Omega.{arith}
 use native.Mathlib.Numerals.{add-one}
 use borrow.Author.Needs.{needs}
 use native.Mathlib.Nat.{pow-le-pow-right, pow-suc}
 use lib.ListN.{getD}
 use Rattle.position.specs.Rows.{symbol}
-use Rattle.position.specs.Symbols.{leading, ofBytes}
+use Rattle.position.specs.Symbols.{leading}
 use Rattle.position.proofs.symbol.Symbol.from_bytes.Statement.{statement}
 use Rattle.position.proofs.symbol.Symbol.from_bytes.Tie as tie
 use Rattle.position.proofs.symbol.Symbol.from_bytes.Reads as reads

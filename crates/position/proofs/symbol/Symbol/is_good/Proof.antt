@@ -1,12 +1,11 @@
 -- At each turn the bytes still to be read are padded exactly when the symbol is good; the places already left are zeros, so a rest of 0 is padding alone.
-use Prim.Native.Nat.{ℕ, suc, _+_, _-_, _*_, _/_, _%_, _^_, _≤_, _<_}
+use Prim.Native.Nat.{ℕ, suc, _+_, _-_}
 use mathlib.Core.Path.{_≡_, refl, sym, ap, _∙_}
-use mathlib.Core.Bool.{true, false, not, _&&_}
 use native.Mathlib.Omega.{arith}
 use native.Mathlib.Numerals.{add-one}
 use borrow.Author.Needs.{needs}
 use borrow.Author.Tests.{not-true, not-false}
-use Rattle.position.specs.Symbols.{bytesFrom, bytesOf, zeros, padded, goodSymbol}
+use Rattle.position.specs.Symbols.{bytesFrom, zeros, padded, goodSymbol}
 use Rattle.position.proofs.Symbols.{Spaced, next-spaced, all-spaced, some-bytes, zero-zeros, zero-padded, bad-byte, good-byte}
 use Rattle.position.proofs.symbol.Symbol.is_good.Statement.{statement}
 use Rattle.position.proofs.symbol.Symbol.is_good.Tie as tie

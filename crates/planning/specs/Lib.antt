@@ -1,0 +1,3 @@
+-- What a rebalance wants, before any cap: document 01, 'Planning'.
+pub mod Equity
+pub mod Plan

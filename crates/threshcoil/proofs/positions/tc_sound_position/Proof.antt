@@ -1,0 +1,14 @@
+-- What `is_sound` ensures, each signed number read back from its bits.
+use mathlib.Core.Path.{_∙_}
+use mir.Facts.{toZ-ofZ}
+use Rattle.threshcoil.proofs.positions.tc_sound_position.Statement.{statement}
+use Rattle.threshcoil.proofs.positions.tc_sound_position.Tie as tie
+
+is-sound-requires : tie.Need-is-sound-requires
+is-sound-requires c κs = tt
+
+returns : tie.Need-returns
+returns c = c .is-sound .ensures ∙ simp (toZ-ofZ (c .before .fits .quantity), toZ-ofZ (c .before .fits .average), toZ-ofZ (c .before .fits .realized), toZ-ofZ (c .before .fits .total))
+
+pub tc-sound-position-spec : {M : Type 1} → statement M
+tc-sound-position-spec = tie.close (tie.spec is-sound-requires returns)
