@@ -1,6 +1,6 @@
 -- Condition 3 on one sound account: what the code's test for soundness gives is all that is asked of the account.
 use Prim.Native.Nat.{ℕ}
-use mathlib.Core.Bool.{Bool, true}
+use mathlib.Core.Bool.{true}
 use mathlib.Core.List.{List}
 use mathlib.Core.Path.{_≡_, sym, ap, _∙_, subst}
 use lib.ListN.{length}
@@ -13,7 +13,7 @@ use Rattle.table.specs.Rows.{Cols, rows, Ordered}
 use Rattle.table.proofs.Keyed.{both-true}
 use Rattle.account.specs.declared.account.Account.{Account}
 use Rattle.account.specs.Settings.{goodSettings}
-use Rattle.account.specs.Account.{soundScalars, soundTable, soundAccount, heldIn, tableFrom, tableOf}
+use Rattle.account.specs.Account.{soundScalars, soundTable, soundAccount, tableFrom, tableOf}
 use Rattle.account.proofs.Tables.{ordered-table}
 use Rattle.fills.specs.declared.order.Order.{Order}
 use Rattle.fills.specs.declared.order.Terms.{Terms}

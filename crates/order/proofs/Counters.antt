@@ -1,9 +1,8 @@
 -- What else is left the same: where each order fills whole nothing is trimmed, and as many fills are counted in any running order.
 use Prim.Native.Nat.{ℕ, zero, suc}
-use mathlib.Core.Bool.{Bool, true, _&&_}
+use mathlib.Core.Bool.{true}
 use mathlib.Core.List.{List, [], _∷_}
 use mathlib.Core.Path.{_≡_, refl, sym, ap, _∙_}
-use lib.IntN.{ℤ}
 use lib.ListN.{length}
 use Rattle.cost_model.specs.Costs.{goodCosts}
 use Rattle.table.specs.Keyed.{pick}

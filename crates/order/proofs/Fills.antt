@@ -1,7 +1,7 @@
 -- The code's fills keep the laws that condition 3 rests on: whether an order fills whole is one comparison, of the cash that it takes with the cash there is,
 -- for buys and sells alike; and what it takes and makes does not depend on the orders before it.
-use Prim.Native.Nat.{ℕ, _+_, _-_, _<_, _^_, min}
-use mathlib.Core.Bool.{Bool, true, false, cond, _||_}
+use Prim.Native.Nat.{_+_, _-_, _<_, _^_, min}
+use mathlib.Core.Bool.{Bool, true, false}
 use mathlib.Core.Logic.{_⊎_, inl, inr}
 use mathlib.Core.Option.{Option, none, some}
 use mathlib.Core.Path.{_≡_, refl, sym, ap, _∙_}
@@ -9,19 +9,17 @@ use native.Mathlib.Omega.{arith}
 use lib.Dec.{T}
 use lib.IntN.{ℤ, pos, negℤ, _-ℤ_}
 use lib.Signed.{ltZ, leZ}
-use Rattle.words.specs.Sums.{satAdd, satSub, value, notional}
+use Rattle.words.specs.Sums.{satAdd, satSub, notional}
 use Rattle.words.proofs.Ints.{P, N, one-sided, P-neg, N-neg, P-sub, P-clamp, N-clamp, satSub-clamp, le-yes, le-no, le-is, gt-is, lt-yes, lt-is, lt-le}
 use Rattle.words.proofs.Laws.{notional-is-value}
 use Rattle.position.specs.declared.position.Position.{Position}
 use Rattle.position.specs.Rows.{fresh, keyOf}
-use Rattle.position.specs.Shares.{isZero}
-use Rattle.position.specs.Fills.{applied}
 use Rattle.position.proofs.Fills.{applied-keeps-symbol}
-use Rattle.cost_model.specs.Costs.{cost, effective, goodCosts}
+use Rattle.cost_model.specs.Costs.{cost, goodCosts}
 use Rattle.cost_model.proofs.Costs.{buy-price-at-least-1}
 use Rattle.sizing.specs.Afford.{need}
 use Rattle.sizing.proofs.Buys.{need-nonneg}
-use Rattle.table.specs.Keyed.{pick, orElse, seek, put64}
+use Rattle.table.specs.Keyed.{pick}
 use Rattle.fills.specs.declared.order.Order.{Order}
 use Rattle.fills.specs.declared.order.Terms.{Terms}
 use Rattle.fills.specs.Orders.{State, buys, paid}

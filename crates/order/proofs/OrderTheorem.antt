@@ -1,7 +1,7 @@
 -- Condition 3.
 use Prim.Native.Nat.{ℕ}
 use mathlib.Core.List.{List, [], _∷_, _++_}
-use mathlib.Core.Bool.{Bool, true, false, _&&_}
+use mathlib.Core.Bool.{Bool, _&&_}
 use mathlib.Core.Path.{_≡_, refl, sym, ap, _∙_, subst}
 use lib.Dec.{T}
 use lib.IntN.{ℤ, pos, _+ℤ_}
@@ -11,8 +11,8 @@ use Rattle.fills.specs.declared.order.Order.{Order}
 use Rattle.fills.specs.declared.order.Terms.{Terms}
 use Rattle.fills.specs.Orders.{State, buys}
 use Rattle.fills.specs.Fill.{fillsWhole, fill, fillAll}
-use Rattle.order.specs.Running.{Perm, total, All, parted, InRange}
-use Rattle.order.specs.Statement.{cashChange, lowersCash, cashRaised, Tradable, Funded, Batch, allWhole, AllWhole, LowersLast, SameLeft, OrderIsFree}
+use Rattle.order.specs.Running.{Perm, All, parted, InRange}
+use Rattle.order.specs.Statement.{cashChange, lowersCash, cashRaised, Funded, Batch, allWhole, AllWhole, LowersLast, OrderIsFree}
 use Rattle.order.proofs.Perms.{total-same, perm-parted, all-perm, all-both, all-right}
 use Rattle.order.proofs.Rule as Rule
 use Rattle.order.proofs.Fills.{fills, buy-raises-none}

@@ -1,6 +1,6 @@
 -- Condition 3 for any fills that keep a few laws. Cash is a sum that has to stay at or above 0, so raising before lowering never hurts; the table's changes for
 -- different symbols commute. Nothing here knows what an order costs or what it makes of a position.
-use Prim.Native.Nat.{ℕ, suc, _+_, _-_, _≤_, _<_, _^_}
+use Prim.Native.Nat.{ℕ, _+_, _-_, _≤_, _<_, _^_}
 use mathlib.Core.List.{List, [], _∷_, _++_}
 use mathlib.Core.Bool.{Bool, true, false, not, _&&_}
 use mathlib.Core.Option.{Option, none, some}
@@ -14,8 +14,8 @@ use Rattle.words.specs.Sums.{satSub}
 use Rattle.words.proofs.Ints.{P, N, P-pos, N-pos, P-neg, N-neg, P-add, P-sub, P-zero, N-zero, fits-of, satSub-exact, eq-of, le-yes, le-is, lt-yes, lt-no}
 use Rattle.table.specs.Keyed.{seek, put, put64, new}
 use Rattle.table.proofs.Keyed.{seek-key, seek-put, put-swap, put-length, put-room}
-use Rattle.order.specs.Running.{Perm, done, keep, swap, then, total, All, nothing, and, Pairs, only, parted, Last, Different, Room, NotBelow0, InRange}
-use Rattle.order.proofs.Perms.{total-perm, all-perm, pairs-perm, perm-parted, all-only, all-map, pairs-join}
+use Rattle.order.specs.Running.{Perm, done, keep, swap, then, total, All, nothing, and, Pairs, parted, Last, Different, Room, NotBelow0, InRange}
+use Rattle.order.proofs.Perms.{total-perm, all-perm, pairs-perm, all-only, all-map, pairs-join}
 
 -- What the theorem asks of the fills of orders O on states A with positions Q.
 pub record Rule (O Q A : Type 0) : Type 1 where
