@@ -1,2 +1,4 @@
 -- Laws of what a rebalance wants.
 pub mod Worth
+pub mod Drifts
+pub mod Plans
