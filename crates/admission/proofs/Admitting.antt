@@ -32,7 +32,7 @@ use Rattle.admission.proofs.Plans.{from-on, from-end, from-last, from-s
 
 -- ---- what follows an offer
 module _ (s : Settings) (n : ℕ) (left : ℤ) (o : PlannedOrder) (os : List PlannedOrder) where
-  abbrev follows : Offered → List PlannedOrder
+  abbrev pub follows : Offered → List PlannedOrder
   follows (Whole rest) = o ∷ admittedFrom s (n + 1) rest os
   follows (Part cut) = planned (o .symbol .0) cut (o .price) (o .«drift_bps») ∷ []
   follows Ends = []

@@ -3,3 +3,4 @@ pub mod Plans
 pub mod Inserting
 pub mod Admitting
 pub mod Running
+pub mod Kept

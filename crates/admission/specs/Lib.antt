@@ -4,3 +4,4 @@ pub mod Running
 pub mod Columns
 pub mod Offers
 pub mod Runs
+pub mod Kept
