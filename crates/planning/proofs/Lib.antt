@@ -2,3 +2,4 @@
 pub mod Worth
 pub mod Drifts
 pub mod Plans
+pub mod Room

@@ -1,14 +1,14 @@
 -- What is planned: its symbol, price, drift and quantity, and the list of it one order more at a time.
-use Prim.Native.Nat.{ℕ, zero, suc, _+_, _≤_, _<_}
-use mathlib.Core.Path.{_≡_, refl, sym, ap, _∙_}
-use mathlib.Core.Bool.{Bool, true, false, not}
+use Prim.Native.Nat.{ℕ, zero, suc, _+_, _<_}
+use mathlib.Core.Path.{_≡_, refl, ap}
+use mathlib.Core.Bool.{Bool, true, false}
 use mathlib.Core.List.{List, [], _∷_, _++_}
 use native.Mathlib.Omega.{arith}
 use native.Mathlib.Numerals.{add-one}
 use lib.Dec.{T}
 use lib.IntN.{ℤ, pos}
 use lib.Signed.{ltZ, leZ}
-use lib.Ieee.{Float, fin}
+use lib.Ieee.{Float}
 use lib.ListN.{length, take, getD}
 use lib.Seq.{take-suc}
 use mir.Syntax.{w64}
@@ -27,7 +27,7 @@ use Rattle.sizing.specs.Sizing.{sized, cutTo, drift}
 use Rattle.sizing.proofs.Sizes.{sized-fits, cutTo-fits}
 use Rattle.account.specs.declared.settings.Settings.{Settings}
 use Rattle.planning.specs.declared.plan.PlannedOrder.{PlannedOrder}
-use Rattle.planning.specs.Plan.{planned, passedOver, withinBand, underMaximum, limited, ordered, plannedClose, closing, gapOf, plannedTarget, targeting, closings, targetings}
+use Rattle.planning.specs.Plan.{passedOver, withinBand, underMaximum, limited, ordered, plannedClose, closing, gapOf, plannedTarget, targeting, closings, targetings}
 use Rattle.planning.proofs.Drifts.{drift-clear}
 
 -- ---- an order: of this symbol, at this price, which is 0 only where the quantity is 0; what it holds fits
@@ -134,6 +134,10 @@ module _ (s : Settings) (equity : ℤ) (price : ℕ → ℤ) (targets : List ℕ
   unfolding closing
   closing-is p = refl
 
+  pub closing-order : (p : Position) → Order (keyOf p) (price (keyOf p)) (closing s equity price targets p)
+  unfolding closing
+  closing-order p = close-order s equity (keyOf p) (p .quantity .0) (price (keyOf p)) (among (keyOf p) targets)
+
   -- one position more
   snoc-close : (ps : List Position) (p : Position) → closings s equity price targets (ps ++ (p ∷ [])) ≡ closings s equity price targets ps ++ (closing s equity price targets p ∷ [])
   unfolding closings
@@ -154,6 +158,10 @@ module _ (s : Settings) (equity : ℤ) (price : ℕ → ℤ) (held : List Positi
   pub targeting-is : (k : ℕ) (w : Float) → targeting s equity price held k w ≡ plannedTarget s equity k (holding k held .quantity .0) (price k) w
   unfolding targeting
   targeting-is k w = refl
+
+  pub targeting-order : (k : ℕ) (w : Float) → Order k (price k) (targeting s equity price held k w)
+  unfolding targeting
+  targeting-order k w = target-order s equity k (holding k held .quantity .0) (price k) w
 
   -- one target more
   more-target : (ks : List ℕ) (ws : List Float) (x : Float) (i : ℕ) → i < length ks → i < length ws

@@ -15,7 +15,7 @@ use borrow.Author.Tests.{ltb-true, ltb-false}
 use Rattle.words.specs.Sums.{satAdd, value}
 use Rattle.words.proofs.Ints.{satAdd-fits}
 use Rattle.position.specs.declared.position.Position.{Position}
-use Rattle.position.specs.Rows.{fresh, keyOf, held}
+use Rattle.position.specs.Rows.{fresh}
 use Rattle.table.specs.Keyed.{pick}
 use Rattle.table.specs.Places.{shorter}
 use Rattle.table.specs.Rows.{Cols, rows, zipped, Full}

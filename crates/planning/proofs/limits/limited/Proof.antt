@@ -1,5 +1,4 @@
 -- Skipped where the notional of what is left is below the minimum.
-use mathlib.Core.Path.{_≡_, sym, _∙_}
 use borrow.Author.Needs.{needs}
 use mir.Syntax.{w64}
 use mir.Val.{SFits}

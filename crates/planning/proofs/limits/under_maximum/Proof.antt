@@ -1,13 +1,12 @@
 -- Cut down where the maximum is on and the notional is over it.
-use mathlib.Core.Path.{_≡_, sym, _∙_}
-use mathlib.Core.Bool.{true, false}
+use mathlib.Core.Path.{_≡_}
+use mathlib.Core.Bool.{true}
 use borrow.Author.Needs.{needs}
 use lib.IntN.{pos}
 use lib.Signed.{ltZ}
 use mir.Syntax.{w64}
 use mir.Val.{SFits}
 use mir.Facts.{toZ-ofZ}
-use Rattle.words.specs.Sums.{notional}
 use Rattle.words.proofs.Ints.{le-yes, le-no, lt-is, ge-is}
 use Rattle.planning.specs.Plan.{underMaximum}
 use Rattle.planning.proofs.limits.under_maximum.Statement.{statement}

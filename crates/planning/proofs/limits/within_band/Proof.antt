@@ -2,7 +2,7 @@
 use mathlib.Core.Path.{_≡_}
 use mathlib.Core.Bool.{true, false}
 use lib.IntN.{pos}
-use lib.Ieee.{ofBits, lt, le, fin}
+use lib.Ieee.{ofBits, lt, fin}
 use Rattle.planning.specs.Plan.{withinBand}
 use Rattle.planning.proofs.limits.within_band.Statement.{statement}
 use Rattle.planning.proofs.limits.within_band.Tie as tie

@@ -1,8 +1,7 @@
 -- Quantity 0 within the band, else what the limits leave.
-use mathlib.Core.Path.{_≡_, sym, ap, _∙_}
+use mathlib.Core.Path.{sym, ap, _∙_}
 use borrow.Author.Needs.{needs}
 use mir.Facts.{toZ-ofZ}
-use Rattle.position.specs.Rows.{shares}
 use Rattle.planning.specs.Plan.{planned, ordered}
 use Rattle.planning.proofs.plan.ordered.Statement.{statement}
 use Rattle.planning.proofs.plan.ordered.Tie as tie

@@ -1,9 +1,7 @@
 -- Passed over where it is wanted or unpriced; else ordered whole, at the drift of its value.
-use mathlib.Core.Path.{_≡_, sym, ap, _∙_}
-use mathlib.Core.Bool.{true, false, not}
+use mathlib.Core.Path.{ap, _∙_}
+use mathlib.Core.Bool.{not}
 use borrow.Author.Needs.{needs}
-use lib.IntN.{pos}
-use lib.Signed.{leZ}
 use mir.Syntax.{w64}
 use mir.Val.{SFits}
 use mir.Facts.{toZ-ofZ}
