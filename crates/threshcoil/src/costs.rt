@@ -5,16 +5,22 @@ ghost use Rattle.cost_model.specs.Costs.{model, cost, effective, goodCosts};
 use cost_model::CostModel;
 use position::Shares;
 
+pub(crate) fn costs_of(commission_bps: f64, slippage_bps: f64, min_commission: i64) -> CostModel
+    ensures { λ r. ⌜ r ≡ model «commission_bps» «slippage_bps» «min_commission» ⌝ }
+{
+    CostModel {
+        commission_bps,
+        slippage_bps,
+        min_commission,
+    }
+}
+
 // Whether each part is in document 01's bounds.
 #[no_mangle]
 pub extern "C" fn tc_good_costs(commission_bps: f64, slippage_bps: f64, min_commission: i64) -> bool
     ensures { λ r. ⌜ r ≡ goodCosts (model «commission_bps» «slippage_bps» «min_commission») ⌝ }
 {
-    let costs = CostModel {
-        commission_bps,
-        slippage_bps,
-        min_commission,
-    };
+    let costs = costs_of(commission_bps, slippage_bps, min_commission);
     costs.is_good()
 }
 
@@ -28,11 +34,7 @@ pub extern "C" fn tc_compute_cost(
 ) -> i64
     ensures { λ r. ⌜ r ≡ cost (model «commission_bps» «slippage_bps» «min_commission») notional ⌝ }
 {
-    let costs = CostModel {
-        commission_bps,
-        slippage_bps,
-        min_commission,
-    };
+    let costs = costs_of(commission_bps, slippage_bps, min_commission);
     costs.compute_cost(notional)
 }
 
@@ -47,10 +49,6 @@ pub extern "C" fn tc_effective_price(
 ) -> i64
     ensures { λ r. ⌜ r ≡ effective (model «commission_bps» «slippage_bps» «min_commission») (isPositive quantity) price ⌝ }
 {
-    let costs = CostModel {
-        commission_bps,
-        slippage_bps,
-        min_commission,
-    };
+    let costs = costs_of(commission_bps, slippage_bps, min_commission);
     costs.effective_price(Shares(quantity), price)
 }

@@ -18,6 +18,18 @@ pub extern "C" fn tc_good_symbol(symbol: u64) -> bool
     Symbol(symbol).is_good()
 }
 
+fn position_of(symbol: u64, quantity: i64, average: i64, realized: i64, total: i64) -> Position
+    ensures { λ r. ⌜ r ≡ row symbol quantity average realized total ⌝ }
+{
+    Position {
+        symbol: Symbol(symbol),
+        quantity: Shares(quantity),
+        avg_entry_price: average,
+        realized_pnl: realized,
+        total_cost: total,
+    }
+}
+
 #[no_mangle]
 pub extern "C" fn tc_sound_position(
     symbol: u64,
@@ -28,13 +40,7 @@ pub extern "C" fn tc_sound_position(
 ) -> bool
     ensures { λ r. ⌜ r ≡ sound (row symbol quantity average realized total) ⌝ }
 {
-    let position = Position {
-        symbol: Symbol(symbol),
-        quantity: Shares(quantity),
-        avg_entry_price: average,
-        realized_pnl: realized,
-        total_cost: total,
-    };
+    let position = position_of(symbol, quantity, average, realized, total);
     position.is_sound()
 }
 
@@ -49,13 +55,7 @@ pub extern "C" fn tc_market_value(
 ) -> i64
     ensures { λ r. ⌜ r ≡ marketValue (row symbol quantity average realized total) price ⌝ }
 {
-    let position = Position {
-        symbol: Symbol(symbol),
-        quantity: Shares(quantity),
-        avg_entry_price: average,
-        realized_pnl: realized,
-        total_cost: total,
-    };
+    let position = position_of(symbol, quantity, average, realized, total);
     position.market_value(price)
 }
 
@@ -70,13 +70,7 @@ pub extern "C" fn tc_unrealized_pnl(
 ) -> i64
     ensures { λ r. ⌜ r ≡ unrealizedPnl (row symbol quantity average realized total) price ⌝ }
 {
-    let position = Position {
-        symbol: Symbol(symbol),
-        quantity: Shares(quantity),
-        avg_entry_price: average,
-        realized_pnl: realized,
-        total_cost: total,
-    };
+    let position = position_of(symbol, quantity, average, realized, total);
     position.unrealized_pnl(price)
 }
 

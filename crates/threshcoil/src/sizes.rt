@@ -4,7 +4,7 @@ ghost use Rattle.words.specs.Sums.{notional};
 ghost use Rattle.cost_model.specs.Costs.{model};
 ghost use Rattle.sizing.specs.Sizing.{sized, cutTo, drift};
 ghost use Rattle.sizing.specs.Afford.{need, affordable};
-use cost_model::CostModel;
+use crate::costs::costs_of;
 use position::Shares;
 
 #[no_mangle]
@@ -56,11 +56,7 @@ pub extern "C" fn tc_buy_cash_required(
 ) -> i64
     ensures { λ r. ⌜ r ≡ need (model «commission_bps» «slippage_bps» «min_commission») quantity price ⌝ }
 {
-    let costs = CostModel {
-        commission_bps,
-        slippage_bps,
-        min_commission,
-    };
+    let costs = costs_of(commission_bps, slippage_bps, min_commission);
     sizing::buy_cash_required(Shares(quantity), price, costs)
 }
 
@@ -77,11 +73,7 @@ pub extern "C" fn tc_largest_affordable_buy_qty(
 ) -> i64
     ensures { λ r. ⌜ r ≡ affordable (model «commission_bps» «slippage_bps» «min_commission») step cash requested price ⌝ }
 {
-    let costs = CostModel {
-        commission_bps,
-        slippage_bps,
-        min_commission,
-    };
+    let costs = costs_of(commission_bps, slippage_bps, min_commission);
     let fill = sizing::largest_affordable_buy_qty(Shares(requested), cash, step, price, costs);
     fill.0
 }
