@@ -1,7 +1,6 @@
 // A position as numbers: its symbol, and quantity, average, realized profit and total cost.
 ghost use mathlib.Core.Path.{_≡_};
 ghost use lib.ListN.{length};
-ghost use lib.IntN.{ℤ};
 ghost use Rattle.position.specs.Rows.{row};
 ghost use Rattle.position.specs.Symbols.{goodSymbol};
 ghost use Rattle.position.specs.Fills.{sound, marketValue, unrealizedPnl};
