@@ -16,11 +16,12 @@ use Rattle.words.specs.Sums.{satAdd, value}
 use Rattle.words.proofs.Ints.{satAdd-fits}
 use Rattle.position.specs.declared.position.Position.{Position}
 use Rattle.position.specs.Rows.{fresh}
-use Rattle.table.specs.Keyed.{pick}
+use Rattle.table.specs.Keyed.{pick, Rising}
 use Rattle.table.specs.Places.{shorter}
 use Rattle.table.specs.Rows.{Cols, rows, zipped, Full}
 use Rattle.table.proofs.Zipped.{zipped-length, zipped-at}
-use Rattle.planning.specs.Equity.{worth, worthFrom, worthPlaces, equityOf}
+use Rattle.feeds.specs.Lists.{priceOf}
+use Rattle.planning.specs.Equity.{worth, worthFrom, worthPlaces, Worth, equityOf}
 
 -- ---- by places
 pub worth-none : (price : ℕ → ℤ) (ks : List ℕ) (qs : List ℤ) → worthPlaces price 0 ks qs ≡ pos 0
@@ -58,6 +59,11 @@ shorter-same n h = go (ltb n 64) refl
     go : (b : Bool) → ltb n 64 ≡ b → pick b n 64 ≡ n
     go true e = refl
     go false e = omega (arith, ltb-false n 64 e)
+
+-- what the function that sums them answers
+pub worth-settled : (c : Cols) (n : ℕ) (symbols : List ℕ) (prices : List ℤ) (r : ℤ) → Full c → n ≤ 64 → Rising symbols → Worth (c .symbol) (c .quantity) n symbols prices r → r ≡ worthFrom (priceOf symbols prices) (pos 0) (rows n c)
+worth-settled c n symbols prices r f h rises w =
+    w .settled rises ∙ ap (λ k. worthPlaces (priceOf symbols prices) k (c .symbol) (c .quantity)) (shorter-same n h) ∙ worth-of-rows (priceOf symbols prices) c f n h
 
 -- ---- it fits
 pub worth-fits : (price : ℕ → ℤ) (sum : ℤ) (ps : List Position) → SFits w64 sum → SFits w64 (worthFrom price sum ps)

@@ -81,6 +81,7 @@ unfoldable pub wanted : Settings → ℤ → (ℕ → ℤ) → List Position →
 wanted s equity price held targets weights =
     closings s equity price targets held ++ targetings s equity price held targets weights
 
+-- how many of them are orders
 unfoldable pub orderCount : List PlannedOrder → ℕ
 orderCount [] = 0
 orderCount (o ∷ os) = pick (isZero (o .quantity .0)) (orderCount os) (orderCount os + 1)
