@@ -1,34 +1,36 @@
 -- Admission one order at a time, and what it does to the columns.
-use Prim.Native.Nat.{ℕ, zero, suc, _+_, _-_, _≤_, _<_}
+use Prim.Native.Nat.{ℕ, _+_, _-_, _≤_, _<_}
 use mathlib.Core.Path.{_≡_, refl, sym, ap, _∙_}
 use mathlib.Core.Bool.{Bool, true, false}
 use mathlib.Core.List.{List, [], _∷_, _++_, append-assoc, append-nil}
 use native.Mathlib.Omega.{arith}
 use native.Mathlib.Numerals.{add-one}
-use lib.Dec.{leb}
 use lib.IntN.{ℤ, pos, _-ℤ_}
 use lib.Signed.{ltZ, leZ}
-use lib.Ieee.{Float, nan}
-use lib.ListN.{length, getD, set, length-set}
+use lib.Ieee.{Float}
+use lib.ListN.{length, getD, set}
 use lib.Seq.{getD-set-same, getD-set-other}
 use mir.Syntax.{w64}
 use mir.Val.{SFits}
 use Rattle.words.specs.Sums.{notional}
-use Rattle.words.proofs.Ints.{P, N, P-sub, N-zero, fits-of, one-sided, lt-no, P-fits, N-fits}
-use Rattle.words.proofs.Laws.{N-notional, P-notional}
+use Rattle.words.proofs.Ints.{P-sub, fits-of, one-sided, lt-no, P-fits, N-fits}
+use Rattle.words.proofs.Laws.{N-notional}
+use Rattle.position.proofs.Counts.{not-lt-ge}
 use Rattle.table.specs.Keyed.{pick}
 use Rattle.table.specs.Places.{shorter}
 use Rattle.table.specs.Rows.{isZero}
 use Rattle.sizing.specs.Sizing.{cutTo}
 use Rattle.account.specs.declared.settings.Settings.{Settings}
+use Rattle.account.specs.declared.settings.TradeCap.{TradeCap}
+use Rattle.account.specs.declared.settings.TradeCap.the-variants.{Absent, AtMost}
 use Rattle.planning.specs.declared.plan.PlannedOrder.{PlannedOrder}
 use Rattle.planning.specs.Plan.{planned}
 use Rattle.admission.specs.declared.cap.Offered.{Offered}
 use Rattle.admission.specs.declared.cap.Offered.the-variants.{Whole, Part, Ends}
-use Rattle.admission.specs.Admission.{reached, notionalOf, lastAdmitted, admittedFrom, admitted}
+use Rattle.admission.specs.Admission.{hasCap, capped, reached, notionalOf, lastAdmitted, admittedFrom, admitted}
 use Rattle.admission.specs.Columns.{Cols, cols, orderAt, from, plans}
-use Rattle.admission.specs.Offers.{partOffered, offered, Admits}
-use Rattle.admission.proofs.Plans.{from-on, from-end, from-last, from-same, plans-start, plans-few, shorter-le, shorter-below}
+use Rattle.admission.specs.Offers.{partOffered, offered}
+use Rattle.admission.proofs.Plans.{from-on, from-end, from-last, from-same, plans-start, plans-few}
 
 -- ---- what follows an offer
 module _ (s : Settings) (n : ℕ) (left : ℤ) (o : PlannedOrder) (os : List PlannedOrder) where
@@ -64,6 +66,22 @@ module _ (s : Settings) (n : ℕ) (left : ℤ) (o : PlannedOrder) (os : List Pla
       go false false true e h = refl
       go false false false true h = h
       go false false false false h = refl
+
+-- ---- without a cap the whole plan is admitted
+absent : (cap : TradeCap) (b : Bool) → pick (hasCap cap) true b ≡ false → ((n : ℕ) → reached cap n ≡ false) × (b ≡ false)
+absent Absent b e = (λ n. refl, e)
+absent (AtMost n) b e = absurd (let z : _≡_ {A = ℕ} 0 1 = cc in omega arith)
+
+all-admitted : (s : Settings) → ((n : ℕ) → reached (s .«max_trades_per_rebalance») n ≡ false) → leZ (s .«max_rebalance_notional») (pos 0) ≡ true → (n : ℕ) (left : ℤ) (l : List PlannedOrder) → admittedFrom s n left l ≡ l
+unfolding admittedFrom
+all-admitted s a b n left [] = refl
+all-admitted s a b n left (o ∷ l) = rw (a n, b) (ap (λ t. o ∷ t) (all-admitted s a b (n + 1) left l))
+
+pub admitted-uncapped : (s : Settings) (plan : List PlannedOrder) → capped s ≡ false → admitted s plan ≡ plan
+unfolding capped admitted
+admitted-uncapped s plan h =
+    let e = absent (s .«max_trades_per_rebalance») (ltZ (pos 0) (s .«max_rebalance_notional»)) h in
+    all-admitted s (e .0) (not-lt-ge (pos 0) (s .«max_rebalance_notional») (e .1)) 0 (s .«max_rebalance_notional») plan
 
 -- ---- the cases of an offer
 module _ (s : Settings) (left q p cut : ℤ) (e : cut ≡ cutTo q p (s .«quantity_step») left) where

@@ -1,19 +1,18 @@
 -- The orders passed, which are admitted whole, with what is admitted of those that are left, are what is admitted of all.
-use Prim.Native.Nat.{ℕ, _≤_, _<_, _-_, _+_}
+use Prim.Native.Nat.{ℕ, _≤_, _-_, _+_}
 use mathlib.Core.Path.{_≡_, refl, sym, ap, _∙_}
-use mathlib.Core.List.{List, [], _++_}
+use mathlib.Core.List.{List, _++_}
 use native.Mathlib.Omega.{arith}
-use lib.IntN.{ℤ, pos}
+use lib.IntN.{pos}
 use lib.Ieee.{Float}
 use lib.ListN.{length, getD, set, length-set}
 use mir.Syntax.{w64}
 use mir.Val.{SFits, toZ, ofZ}
 use mir.Facts.{toZ-ofZ}
 use borrow.Author.Needs.{needs}
-use Rattle.table.specs.Places.{shorter}
-use Rattle.admission.specs.Columns.{Cols, cols, Full, orderAt, from, plans}
+use Rattle.admission.specs.Columns.{cols, orderAt, from, plans}
 use Rattle.admission.specs.Admission.{admittedFrom, admitted}
-use Rattle.admission.specs.Offers.{offered, Admits}
+use Rattle.admission.specs.Offers.{offered}
 use Rattle.admission.proofs.Plans.{shorter-le, shorter-below, plans-few}
 use Rattle.admission.proofs.Admitting.{admit-start, admit-on, admit-ends, admit-part, admit-all, plans-cut}
 use Rattle.admission.proofs.cap.admit.Statement.{statement}

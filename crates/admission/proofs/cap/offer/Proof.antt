@@ -1,7 +1,7 @@
 -- Each test in turn is one of the definition's.
 use mathlib.Core.Path.{_≡_, sym, ap, _∙_}
-use mathlib.Core.Bool.{true, false}
-use lib.IntN.{ℤ, pos, _-ℤ_}
+use mathlib.Core.Bool.{false}
+use lib.IntN.{pos, _-ℤ_}
 use lib.Signed.{ltZ, leZ}
 use mir.Syntax.{w64}
 use mir.Val.{SFits}
