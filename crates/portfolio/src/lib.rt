@@ -1,0 +1,1 @@
+// Calls on an account: rebalance, close, returns and the queries that need prices.
