@@ -1,0 +1,2 @@
+-- Laws of what a rebalance wants.
+pub mod Worth
