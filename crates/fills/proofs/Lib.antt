@@ -1,3 +1,5 @@
 -- Laws of deals, records and runs of fills.
 pub mod Deals
 pub mod Storing
+pub mod Filling
+pub mod Running

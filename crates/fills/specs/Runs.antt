@@ -33,17 +33,15 @@ abbrev pub state : Book → Cols → List ExecutionRecord → State
 state b c rs = record { cash = b .cash; held = rows (b .count) c; trimmed = b .trimmed; shortfall = b .shortfall; sequence = b .sequence; records = rs }
 
 unfoldable pub countedIn : Deal → Book → Book
-countedIn d b = pick (d .trimmed)
-    (record {
-      cash = b .cash;
-      count = b .count;
-      trimmed = nextCount (b .trimmed);
-      shortfall = satAdd (b .shortfall) (d .lost);
-      sequence = b .sequence;
-      written = b .written;
-      hint = b .hint;
-    })
-    b
+countedIn d b = record {
+  cash = b .cash;
+  count = b .count;
+  trimmed = pick (d .trimmed) (nextCount (b .trimmed)) (b .trimmed);
+  shortfall = pick (d .trimmed) (satAdd (b .shortfall) (d .lost)) (b .shortfall);
+  sequence = b .sequence;
+  written = b .written;
+  hint = b .hint;
+}
 
 -- "The record count rises only while recording"
 unfoldable pub sequenceAfter : Bool → ℕ → ℕ

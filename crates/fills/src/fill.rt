@@ -1,12 +1,21 @@
 // Filling orders on lent columns.
 ghost use mathlib.Core.Path.{_≡_};
+ghost use Prim.Native.Nat.{min};
+ghost use Rattle.table.specs.Rows.{cols, Ordered};
 ghost use Rattle.fills.specs.Orders.{nextCount};
 ghost use Rattle.fills.specs.Records.{buffers, storedAll};
-ghost use Rattle.fills.specs.Runs.{sequenceAfter, countedIn, recordsOf, keptIn};
+ghost use Rattle.fills.specs.Runs.{orders, sequenceAfter, countedIn, recordsOf, keptIn, Fills, Given, Runs};
 use crate::deal::Deal;
+use crate::deal::deal_of;
 use crate::order::Book;
+use crate::order::Order;
+use crate::order::Terms;
 use crate::record::ExecutionRecord;
+use crate::record::record_of;
 use crate::record::store;
+use position::Shares;
+use position::Symbol;
+use table::Found;
 
 // One fill: the scalars after it, and the record of it, to be kept where `recorded` says so.
 pub struct Filled {
@@ -45,6 +54,62 @@ fn sequence_after(n: u64, recording: bool) -> u64
     if recording { next_count(n) } else { n }
 }
 
+// The place after the one that was found: where the next symbol is looked for first.
+fn place_after(f: Found) -> usize {
+    match f {
+        Found::At(i) => { if i < 64 { i + 1 } else { 0 } }
+        Found::Absent(i) => { if i < 64 { i + 1 } else { 0 } }
+    }
+}
+
+// Fills one order: "Symbols with no fill keep their positions to the last field."
+pub fn fill_one(
+    symbol: &mut [u64; 64],
+    quantity: &mut [i64; 64],
+    average: &mut [i64; 64],
+    realized: &mut [i64; 64],
+    total: &mut [i64; 64],
+    b: Book,
+    o: Order,
+    t: Terms,
+) -> Filled
+    ensures { λ r. ⌜ (Ordered (b .count) (cols (now (symbol .entry)) (now (quantity .entry)) (now (average .entry)) (now (realized .entry)) (now (total .entry)))
+        → Fills t o b (cols (now (symbol .entry)) (now (quantity .entry)) (now (average .entry)) (now (realized .entry)) (now (total .entry)))
+        r (cols (now (symbol .exit)) (now (quantity .exit)) (now (average .exit)) (now (realized .exit)) (now (total .exit)))) ⌝ }
+{
+    let d = deal_of(o, b.cash, t);
+    let record = record_of(t, o, d, b.sequence, b.cash);
+    let c = counted(b, d);
+    if d.quantity.is_zero() {
+        return Filled {
+            book: c,
+            recorded: false,
+            record,
+        };
+    }
+    let n = b.count;
+    let f = table::find(&symbol[..], n, o.symbol.0, b.hint);
+    let p = table::held(symbol, quantity, average, realized, total, f, o.symbol.0);
+    let z = p.fill(d.quantity, d.price);
+    let count = table::post(symbol, quantity, average, realized, total, n, f, z);
+    let cash = d.cash_after;
+    let recorded = t.recording;
+    let sequence = sequence_after(b.sequence, recorded);
+    let hint = place_after(f);
+    let book = Book {
+        cash,
+        count,
+        sequence,
+        hint,
+        ..c
+    };
+    Filled {
+        book,
+        recorded,
+        record,
+    }
+}
+
 // Keeps the record of a fill, if there is one, in the lent slices.
 fn keep(words: &mut [u64], ints: &mut [i64], f: Filled) -> Book
     ensures { λ r. ⌜ (r ≡ keptIn (r .written) (f .book)) × (buffers (now (words .exit)) (now (ints .exit)) (r .written)
@@ -57,4 +122,54 @@ fn keep(words: &mut [u64], ints: &mut [i64], f: Filled) -> Book
     let written = store(words, ints, f.book.written, r);
     let b = f.book;
     Book { written, ..b }
+}
+
+// The orders that a column of 64 has.
+fn at_most_64(m: usize) -> usize
+    ensures { λ r. ⌜ r ≡ min m 64 ⌝ }
+{
+    if m < 64 { m } else { 64 }
+}
+
+// Fills the first m orders of three columns, one after the other; "records go into a lent run of execution records, in the order filled".
+pub fn fill_all(
+    symbol: &mut [u64; 64],
+    quantity: &mut [i64; 64],
+    average: &mut [i64; 64],
+    realized: &mut [i64; 64],
+    total: &mut [i64; 64],
+    words: &mut [u64],
+    ints: &mut [i64],
+    os: &[u64; 64],
+    oq: &[i64; 64],
+    op: &[i64; 64],
+    m: usize,
+    b0: Book,
+    t: Terms,
+) -> Book
+    ensures { λ r. ⌜ (Given (b0 .count) (cols (now (symbol .entry)) (now (quantity .entry)) (now (average .entry)) (now (realized .entry)) (now (total .entry)))
+        (now (os .entry)) (now (oq .entry)) (now (op .entry))
+        → Runs t (orders m (now (os .entry)) (now (oq .entry)) (now (op .entry)))
+        b0 (cols (now (symbol .entry)) (now (quantity .entry)) (now (average .entry)) (now (realized .entry)) (now (total .entry)))
+        (buffers (now (words .entry)) (now (ints .entry)) (b0 .written))
+        r (cols (now (symbol .exit)) (now (quantity .exit)) (now (average .exit)) (now (realized .exit)) (now (total .exit)))
+        (buffers (now (words .exit)) (now (ints .exit)) (r .written))) ⌝ }
+{
+    let n = at_most_64(m);
+    let mut b = b0;
+    let mut k = 0usize;
+    while k < n {
+        let s = os[k];
+        let q = oq[k];
+        let p = op[k];
+        let o = Order {
+            symbol: Symbol(s),
+            quantity: Shares(q),
+            price: p,
+        };
+        let f = fill_one(symbol, quantity, average, realized, total, b, o, t);
+        b = keep(words, ints, f);
+        k += 1;
+    }
+    b
 }

@@ -7,6 +7,8 @@ mod record;
 pub use deal::Deal;
 pub use deal::deal_of;
 pub use fill::Filled;
+pub use fill::fill_all;
+pub use fill::fill_one;
 pub use order::Book;
 pub use order::Order;
 pub use order::Terms;
