@@ -14,7 +14,22 @@ use Rattle.position.specs.declared.position.Position.{Position}
 use Rattle.position.specs.Rows.{keyOf}
 use Rattle.table.specs.Keyed.{pick}
 use Rattle.table.specs.Rows.{isZero}
-use Rattle.planning.specs.Equity.{worth}
+use Rattle.feeds.specs.Lists.{priceOf}
+use Rattle.account.specs.declared.account.Account.{Account}
+use Rattle.account.specs.declared.query.Cents.{Cents}
+use Rattle.account.specs.Account.{heldIn}
+use Rattle.planning.specs.Equity.{worth, equityOf}
+use Rattle.portfolio.specs.Answers.{isDone, queryAnswer}
+
+abbrev pub answeredCents : Answer → ℤ → Cents
+answeredCents answer x = record { answer = answer; cents = x }
+
+-- the equity of an account; "Each refusal returns its number with zero figures"
+unfoldable pub toldEquity : Account → List ℕ → List ℤ → Cents
+toldEquity a ps vs =
+    pick (isDone (queryAnswer a ps vs))
+    (answeredCents Done (equityOf (priceOf ps vs) (a .cash) (heldIn (a .positions))))
+    (answeredCents (queryAnswer a ps vs) (pos 0))
 
 -- open positions: "without flat positions"
 unfoldable pub openOnes : List Position → List Position

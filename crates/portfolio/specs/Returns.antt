@@ -15,6 +15,7 @@ use Rattle.table.specs.Keyed.{pick}
 use Rattle.feeds.specs.Lists.{priceOf}
 use Rattle.account.specs.declared.account.Account.{Account}
 use Rattle.account.specs.declared.account.Series.{Series}
+use Rattle.account.specs.declared.change.Changed.{Changed}
 use Rattle.account.specs.Account.{heldIn, withSeries}
 use Rattle.planning.specs.Equity.{equityOf}
 use Rattle.portfolio.specs.Answers.{isDone, returnAnswer}
@@ -42,6 +43,9 @@ pub record Recorded : Type 0 where
   pub account : Account
   pub equities : List ℤ
   pub returns : List Float
+
+abbrev pub recordedBy : Changed → List ℤ → List Float → Recorded
+recordedBy r equities returns = record { answer = r .answer; account = r .account; equities = equities; returns = returns }
 
 unfoldable pub recorded : Account → List ℕ → List ℤ → List ℤ → List Float → Recorded
 recorded a ps vs equities returns =

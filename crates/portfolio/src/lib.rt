@@ -1,1 +1,7 @@
-// Calls on an account: rebalance, close, returns and the queries that need prices.
+// Whole calls on an account: what each is refused for, and what it leaves.
+mod equity;
+mod refusal;
+mod returns;
+
+pub use equity::total_equity;
+pub use returns::record_return;
