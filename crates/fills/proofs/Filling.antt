@@ -31,7 +31,7 @@ use Rattle.fills.specs.Orders.{State, buys, paid}
 use Rattle.fills.specs.Records.{recordOf}
 use Rattle.fills.specs.Fill.{cashTaken, fillsWhole, made, counted, settled, trimmedFill, fill}
 use Rattle.fills.specs.Deal.{dealt, noDeal, trimmedTo, bought, sold, dealOf, recordBy, countedBy, settledBy, afterDeal}
-use Rattle.fills.specs.Runs.{state, countedIn, sequenceAfter, recordsOf, Fills}
+use Rattle.fills.specs.Runs.{state, countedIn, sequenceAfter, settledIn, recordsOf, Fills}
 
 -- ---- a fill is what its deal says
 module _ (t : Terms) (o : Order) (s : State) where
@@ -76,11 +76,11 @@ module _ (t : Terms) (o : Order) (s : State) where
   fill-is-deal = by-tests (isZero (o .quantity .0)) (buys o) (leZ (need (t .costs) (o .quantity .0) (paid t o)) (s .cash)) (leZ (pos 0) (satSub (s .cash) (cashTaken t (o .quantity .0) (paid t o)))) refl
 
   -- a deal of nothing, and of something
-  none-after : (d : Deal) → isZero (d .quantity .0) ≡ true → afterDeal t o d s ≡ countedBy d s
+  pub none-after : (d : Deal) → isZero (d .quantity .0) ≡ true → afterDeal t o d s ≡ countedBy d s
   unfolding afterDeal
   none-after d z = simp z
 
-  some-after : (d : Deal) → isZero (d .quantity .0) ≡ false → afterDeal t o d s ≡ settledBy t o d (countedBy d s)
+  pub some-after : (d : Deal) → isZero (d .quantity .0) ≡ false → afterDeal t o d s ≡ settledBy t o d (countedBy d s)
   unfolding afterDeal
   some-after d z = simp z
 
@@ -134,9 +134,9 @@ module _ (t : Terms) (o : Order) (b : Book) (c : Cols) (d : Deal) (e : d ≡ dea
         made = record-is;
       }
 
-  module _ (z : isZero (d .quantity .0) ≡ false) (f : Found) (p w : Position) (c′ : Cols)
+  module _ (z : isZero (d .quantity .0) ≡ false) (f : Found) (p w : Position) (m h : ℕ) (c′ : Cols)
       (hf : Finds (o .symbol .0) (take (b .count) (c .symbol)) f) (hp : p ≡ heldAt f (o .symbol .0) c) (hw : w ≡ applied p (d .quantity .0) (d .price))
-      (hn : Rows.counted (r .book .count) c′ ≡ posted f w (Rows.counted (b .count) c)) where
+      (hn : Rows.counted m c′ ≡ posted f w (Rows.counted (b .count) c)) where
     found-is : f ≡ found (o .symbol .0) (take (b .count) (c .symbol))
     found-is = hf .settled (s .rising)
 
@@ -146,27 +146,25 @@ module _ (t : Terms) (o : Order) (b : Book) (c : Cols) (d : Deal) (e : d ≡ dea
     symbol-is : keyOf w ≡ o .symbol .0
     symbol-is = ap keyOf hw ∙ applied-keeps-symbol p (d .quantity .0) (d .price) ∙ ap keyOf held-is ∙ named (o .symbol .0) (rows (b .count) c)
 
-    puts : Puts w (b .count) c (r .book .count) c′
+    puts : Puts w (b .count) c m c′
     puts = subst (λ (x : Counted). Puts w (b .count) c (x .count) (x .columns)) (sym hn)
         (posted-puts (b .count) c f w s (found-is ∙ ap (λ k. found k (take (b .count) (c .symbol))) (sym symbol-is)))
 
-    rows-are : rows (r .book .count) c′ ≡ put64 keyOf (applied (holding (o .symbol .0) (rows (b .count) c)) (d .quantity .0) (d .price)) (rows (b .count) c)
+    rows-are : rows m c′ ≡ put64 keyOf (applied (holding (o .symbol .0) (rows (b .count) c)) (d .quantity .0) (d .price)) (rows (b .count) c)
     rows-are = puts .same ∙ ap (λ x. put64 keyOf x (rows (b .count) c)) (hw ∙ ap (λ x. applied x (d .quantity .0) (d .price)) held-is)
 
-    pub one-filled : r .book .cash ≡ d .«cash_after» → r .book .trimmed ≡ countedIn d b .trimmed → r .book .shortfall ≡ countedIn d b .shortfall
-        → r .book .sequence ≡ sequenceAfter (t .recording) (b .sequence) → r .book .written ≡ countedIn d b .written → r .recorded ≡ t .recording
-        → Fills t o b c r c′
-    unfolding countedIn countedBy settledBy sequenceAfter
-    one-filled hc ht hs hq hv hr =
+    pub one-filled : r .book ≡ settledIn (d .«cash_after») m (t .recording) h (countedIn d b) → r .recorded ≡ t .recording → Fills t o b c r c′
+    unfolding settledIn countedIn countedBy settledBy sequenceAfter
+    one-filled hb hr =
         let y : isZero (dealOf t o (b .cash) .quantity .0) ≡ false = ap (λ x. isZero (x .quantity .0)) (sym e) ∙ z in
         record {
-          ordered = puts .ordered;
+          ordered = subst (λ n. Ordered n c′) (sym (ap (λ x. x .count) hb)) (puts .ordered);
           done = λ rs.
               let k = ap (λ x. rs ++ pick x (r .«record» ∷ []) []) hr
               ∙ ap (λ x. rs ++ pick (t .recording) (x ∷ []) []) made-is
               ∙ joined (t .recording) rs (recordBy t o d (b .sequence) (b .cash)) in
-              same-state hc rows-are ht hs hq k ∙ sym (after-is rs ∙ some-after t o (state b c rs) d z);
-          written = hv;
+              ap (λ x. state x c′ (rs ++ recordsOf r)) hb ∙ same-state refl rows-are refl refl refl k ∙ sym (after-is rs ∙ some-after t o (state b c rs) d z);
+          written = ap (λ x. x .written) hb;
           recorded = hr ∙ sym (ap (λ x. pick x false (t .recording)) y);
           made = record-is;
         }

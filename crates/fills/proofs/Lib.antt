@@ -3,3 +3,6 @@ pub mod Deals
 pub mod Storing
 pub mod Filling
 pub mod Running
+pub mod Cash
+pub mod Soundness
+pub mod Fronts

@@ -16,9 +16,8 @@ use Rattle.fills.specs.declared.order.Book.{Book}
 use Rattle.fills.specs.declared.order.Order.{Order}
 use Rattle.fills.specs.declared.order.Terms.{Terms}
 use Rattle.fills.specs.declared.record.ExecutionRecord.{ExecutionRecord}
-use Rattle.fills.specs.Orders.{State}
 use Rattle.fills.specs.Records.{wordsOf, intsOf, Buffers, buffers, room, stored, storedAll}
-use Rattle.fills.specs.Fill.{fill, fillAll}
+use Rattle.fills.specs.Fill.{fillAll}
 use Rattle.fills.specs.Runs.{order, orders, state, keptIn, recordsOf, Fills, Runs, Given}
 
 -- ---- records in the lent slices
@@ -52,6 +51,10 @@ stored-all-keeps (r ∷ rs) l =
 module _ (m : ℕ) (s : List ℕ) (q p : List ℤ) (hs : length s ≡ 64) (hq : length q ≡ 64) (hp : length p ≡ 64) where
   all-length : length (zip2 give (zip2 order s q) p) ≡ 64
   all-length = zip-length give 64 (zip2 order s q) p (zip-length order 64 s q hs hq) hp
+
+  pub orders-bound : length (orders m s q p) ≤ 64
+  unfolding orders
+  orders-bound = simp length-take (omega (arith, all-length))
 
   pub next-order : (k : ℕ) → k < min m 64 → drop k (orders m s q p) ≡ order (getD s k 0) (getD q k (pos 0)) (getD p k (pos 0)) ∷ drop (k + 1) (orders m s q p)
   unfolding orders

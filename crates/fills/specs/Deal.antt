@@ -1,7 +1,7 @@
 -- What an order comes to before anything is written, and what is written then.
 use Prim.Native.Nat.{ℕ}
 use mathlib.Core.Bool.{Bool, true, false}
-use mathlib.Core.List.{List, [], _∷_, _++_}
+use mathlib.Core.List.{[], _∷_, _++_}
 use lib.IntN.{ℤ, pos}
 use lib.Signed.{leZ}
 use Rattle.words.specs.Sums.{satAdd, satSub, notional}
@@ -35,7 +35,8 @@ dealt t q p cash trimmed lost = record {
 unfoldable pub noDeal : ℤ → ℤ → Bool → ℤ → Deal
 noDeal p cash trimmed lost = record { quantity = shares (pos 0); price = p; notional = pos 0; cost = pos 0; «cash_after» = cash; trimmed = trimmed; lost = lost }
 
--- a request of q trimmed to got; the lost notional is "the difference of the two truncated values at the effective price"
+-- A request of q trimmed to got. "The trimmed count and the lost notional rise even when nothing remains": what is lost is the notional of the
+-- request less that of the fill, both truncated, both at the effective price.
 unfoldable pub trimmedTo : Terms → ℤ → ℤ → ℤ → ℤ → Deal
 trimmedTo t q got p cash =
     pick (isZero got)

@@ -43,9 +43,21 @@ countedIn d b = record {
   hint = b .hint;
 }
 
--- "The record count rises only while recording"
+-- the record count after a fill: it rises only while recording
 unfoldable pub sequenceAfter : Bool → ℕ → ℕ
 sequenceAfter recording n = pick recording (nextCount n) n
+
+-- the scalars after a fill that leaves this cash and this count of positions
+unfoldable pub settledIn : ℤ → ℕ → Bool → ℕ → Book → Book
+settledIn cash count recorded hint b = record {
+  cash = cash;
+  count = count;
+  trimmed = b .trimmed;
+  shortfall = b .shortfall;
+  sequence = sequenceAfter recorded (b .sequence);
+  written = b .written;
+  hint = hint;
+}
 
 -- the same scalars with another count of places written
 abbrev pub keptIn : ℕ → Book → Book

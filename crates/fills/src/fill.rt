@@ -1,10 +1,12 @@
 // Filling orders on lent columns.
 ghost use mathlib.Core.Path.{_≡_};
-ghost use Prim.Native.Nat.{min};
+ghost use Prim.Native.Nat.{_<_, min};
+ghost use lib.IntN.{pos};
+ghost use lib.ListN.{getD};
 ghost use Rattle.table.specs.Rows.{cols, Ordered};
 ghost use Rattle.fills.specs.Orders.{nextCount};
 ghost use Rattle.fills.specs.Records.{buffers, storedAll};
-ghost use Rattle.fills.specs.Runs.{orders, sequenceAfter, countedIn, recordsOf, keptIn, Fills, Given, Runs};
+ghost use Rattle.fills.specs.Runs.{order, orders, sequenceAfter, settledIn, countedIn, recordsOf, keptIn, Fills, Given, Runs};
 use crate::deal::Deal;
 use crate::deal::deal_of;
 use crate::order::Book;
@@ -54,6 +56,20 @@ fn sequence_after(n: u64, recording: bool) -> u64
     if recording { next_count(n) } else { n }
 }
 
+// The scalars after a fill that leaves this cash and this count of positions.
+fn settled_in(b: Book, cash: i64, count: usize, recorded: bool, hint: usize) -> Book
+    ensures { λ r. ⌜ r ≡ settledIn cash count recorded hint b ⌝ }
+{
+    let sequence = sequence_after(b.sequence, recorded);
+    Book {
+        cash,
+        count,
+        sequence,
+        hint,
+        ..b
+    }
+}
+
 // The place after the one that was found: where the next symbol is looked for first.
 fn place_after(f: Found) -> usize {
     match f {
@@ -92,17 +108,8 @@ pub fn fill_one(
     let p = table::held(symbol, quantity, average, realized, total, f, o.symbol.0);
     let z = p.fill(d.quantity, d.price);
     let count = table::post(symbol, quantity, average, realized, total, n, f, z);
-    let cash = d.cash_after;
     let recorded = t.recording;
-    let sequence = sequence_after(b.sequence, recorded);
-    let hint = place_after(f);
-    let book = Book {
-        cash,
-        count,
-        sequence,
-        hint,
-        ..c
-    };
+    let book = settled_in(c, d.cash_after, count, recorded, place_after(f));
     Filled {
         book,
         recorded,
@@ -124,11 +131,25 @@ fn keep(words: &mut [u64], ints: &mut [i64], f: Filled) -> Book
     Book { written, ..b }
 }
 
-// The orders that a column of 64 has.
+// How many of the first m orders three columns of 64 have.
 fn at_most_64(m: usize) -> usize
     ensures { λ r. ⌜ r ≡ min m 64 ⌝ }
 {
     if m < 64 { m } else { 64 }
+}
+
+fn order_at(os: &[u64; 64], oq: &[i64; 64], op: &[i64; 64], k: usize) -> Order
+    requires { ⌜ k < 64 ⌝ }
+    ensures { λ r. ⌜ r ≡ order (getD (now (os .entry)) k 0) (getD (now (oq .entry)) k (pos 0)) (getD (now (op .entry)) k (pos 0)) ⌝ }
+{
+    let s = os[k];
+    let q = oq[k];
+    let p = op[k];
+    Order {
+        symbol: Symbol(s),
+        quantity: Shares(q),
+        price: p,
+    }
 }
 
 // Fills the first m orders of three columns, one after the other; "records go into a lent run of execution records, in the order filled".
@@ -159,14 +180,7 @@ pub fn fill_all(
     let mut b = b0;
     let mut k = 0usize;
     while k < n {
-        let s = os[k];
-        let q = oq[k];
-        let p = op[k];
-        let o = Order {
-            symbol: Symbol(s),
-            quantity: Shares(q),
-            price: p,
-        };
+        let o = order_at(os, oq, op, k);
         let f = fill_one(symbol, quantity, average, realized, total, b, o, t);
         b = keep(words, ints, f);
         k += 1;

@@ -1,14 +1,9 @@
 -- Turn by turn: an order is filled and its record kept.
-use Prim.Native.Nat.{ℕ, _-_, _≤_, _<_, min}
+use Prim.Native.Nat.{_-_, _≤_, _<_, min}
 use native.Mathlib.Omega.{arith}
-use lib.ListN.{getD}
-use lib.IntN.{ℤ, pos}
-use mir.Syntax.{w64}
-use mir.Val.{SFits}
-use mir.Facts.{toZ-ofZ}
 use borrow.Author.Needs.{needs}
 use Rattle.table.specs.Rows.{Cols, cols}
-use Rattle.fills.specs.Records.{Buffers, buffers}
+use Rattle.fills.specs.Records.{buffers}
 use Rattle.fills.proofs.Running.{Going, going-first, going-on, going-last}
 use Rattle.fills.proofs.fill.fill_all.Statement.{statement}
 use Rattle.fills.proofs.fill.fill_all.Tie as tie
@@ -23,14 +18,8 @@ abbrev μ-loop : tie.MeasureT-loop
 abbrev columns : tie.Start Inv-loop μ-loop → Cols
 columns s = cols (s .args .symbol .now) (s .args .quantity .now) (s .args .average .now) (s .args .realized .now) (s .args .total .now)
 
-fit-q : (c : tie.After-q Inv-loop μ-loop) → SFits w64 (getD (c .before .before .before .before .before .before .args .oq .now) (c .before .before .before .loop .k) (pos 0))
-fit-q c = search needs
-
-fit-p : (c : tie.After-p Inv-loop μ-loop) → SFits w64 (getD (c .before .before .before .before .before .before .before .args .op .now) (c .before .before .before .before .loop .k) (pos 0))
-fit-p c = search needs
-
 abbrev turn : tie.After-ints Inv-loop μ-loop → tie.In-loop Inv-loop μ-loop
-turn c = c .before .before .before .before .before .before .before .before .before .before .before .before .before .before .before
+turn c = c .before .before .before .before .before .before .before .before .before .before .before .before .before
 
 below : (c : tie.In-loop Inv-loop μ-loop) → c .before .loop .k < min (c .before .before .before .before .args .m) 64
 below c = omega (arith, c .loop-test .taken, c .before .before .at-most-64 .ensures)
@@ -43,23 +32,8 @@ loop-holds c =
     let a = c .before .before .args in
     going-first (a .t) (a .m) (a .os .now) (a .oq .now) (a .op .now) (a .b0) _ _
 
-mul-s : tie.Need-mul-s Inv-loop μ-loop
-mul-s c = omega arith
-
-element-copy-out-s : tie.Need-element-copy-out-s Inv-loop μ-loop
-element-copy-out-s c = omega arith
-
-mul-q : tie.Need-mul-q Inv-loop μ-loop
-mul-q c = omega arith
-
-element-copy-out-q : tie.Need-element-copy-out-q Inv-loop μ-loop
-element-copy-out-q c = omega arith
-
-mul-p : tie.Need-mul-p Inv-loop μ-loop
-mul-p c = omega arith
-
-element-copy-out-p : tie.Need-element-copy-out-p Inv-loop μ-loop
-element-copy-out-p c = omega arith
+order-at-requires : tie.Need-order-at-requires Inv-loop μ-loop
+order-at-requires c κs = omega (arith, below c)
 
 fill-one-requires : tie.Need-fill-one-requires Inv-loop μ-loop
 fill-one-requires c κs = search needs
@@ -77,11 +51,11 @@ loop-again : tie.Need-loop-again Inv-loop μ-loop
 loop-again c =
     let w = c .before .before .before in
     let f = w .before .before .before in
-    let p = f .before .before .before .before .before .before in
+    let o = f .before .before .before .before .before .before in
     let l = turn c .before in
     let s = l .before .before .before in
     let a = s .args in
-    let hf = simp (toZ-ofZ (fit-q (p .before)), toZ-ofZ (fit-p p)) at (f .fill-one .ensures) in
+    let hf = simp (o .order-at .ensures) at (f .fill-one .ensures) in
     going-on (a .t) (a .m) (a .os .now) (a .oq .now) (a .op .now) (a .b0) (columns s) (buffers (a .words .now) (a .ints .now) (a .b0 .written))
     (l .loop .b) (cols (l .loop .symbol) (l .loop .quantity) (l .loop .average) (l .loop .realized) (l .loop .total)) (l .loop .words) (l .loop .ints) (l .loop .k) (l .loop .inv)
     (f .fill-one .result) _ _ _ _ (below (turn c)) hf (w .keep .ensures .0) (w .keep .ensures .1)
@@ -109,12 +83,7 @@ fill-all-spec =
     μ-loop
     at-most-64-requires
     loop-holds
-    mul-s
-    element-copy-out-s
-    mul-q
-    element-copy-out-q
-    mul-p
-    element-copy-out-p
+    order-at-requires
     fill-one-requires
     keep-requires
     add-k

@@ -5,7 +5,7 @@ use mir.Val.{SFits}
 use mir.Facts.{toZ-ofZ}
 use Rattle.table.specs.Rows.{Cols, cols}
 use Rattle.fills.specs.Deal.{dealOf, recordBy}
-use Rattle.fills.specs.Runs.{countedIn}
+use Rattle.fills.specs.Runs.{settledIn}
 use Rattle.fills.proofs.Filling.{none-filled, one-filled}
 use borrow.Author.Needs.{needs}
 use Rattle.fills.proofs.fill.fill_one.Statement.{statement}
@@ -22,9 +22,6 @@ price-fits c = search needs
 
 after-fits : (c : tie.After-deal-of) → SFits w64 (c .deal-of .result .«cash_after»)
 after-fits c = search needs
-
-lost-fits : (c : tie.After-counted) → SFits w64 (c .counted .result .shortfall)
-lost-fits c = search needs
 
 module _ (c : tie.After-counted) where
   abbrev deal : tie.After-deal-of
@@ -71,27 +68,28 @@ fill-requires c κs = search needs
 post-requires : tie.Need-post-requires
 post-requires c κs = search needs
 
-sequence-after-requires : tie.Need-sequence-after-requires
-sequence-after-requires c κs = search needs
-
 place-after-requires : tie.Need-place-after-requires
 place-after-requires c κs = search needs
 
+settled-in-requires : tie.Need-settled-in-requires
+settled-in-requires c κs = search needs
+
 returns-2 : tie.Need-returns-2
 returns-2 c s =
-    let q = c .before .before in
-    let p = q .before .before in
+    let e = c .before .before in
+    let p = e .before in
     let w = p .before .before .before .before .before .before in
     let h = w .before .before in
     let f = h .before .before .before .before .before .before in
     let y = f .before .before .before in
     let k = y .before .before in
     let a = began k .args in
+    let d = deal k .deal-of .result in
     let ew = simp (toZ-ofZ (price-fits (deal k))) at (w .fill .ensures) in
-    one-filled (a .t) (a .o) (a .b) (columns (began k)) (deal k .deal-of .result) (deal-is k) s _ (record-is k)
-    (sym (y .before .is-zero .ensures) ∙ y .if1 .left) (f .find .result) (h .held .result) (w .fill .result) _ (f .find .ensures) (h .held .ensures) ew (p .post .ensures)
-    (toZ-ofZ (after-fits (deal k))) (ap (λ x. x .trimmed) (k .counted .ensures)) (toZ-ofZ (lost-fits k) ∙ ap (λ x. x .shortfall) (k .counted .ensures))
-    (q .sequence-after .ensures) (ap (λ x. x .written) (k .counted .ensures)) refl
+    let eb = simp (toZ-ofZ (after-fits (deal k))) at (c .settled-in .ensures) in
+    one-filled (a .t) (a .o) (a .b) (columns (began k)) d (deal-is k) s _ (record-is k) (sym (y .before .is-zero .ensures) ∙ y .if1 .left)
+    (f .find .result) (h .held .result) (w .fill .result) (p .post .result) (e .place-after .result) _ (f .find .ensures) (h .held .ensures) ew (p .post .ensures)
+    (eb ∙ ap (settledIn (d .«cash_after») (p .post .result) (a .t .recording) (e .place-after .result)) (k .counted .ensures)) refl
 
 pub fill-one-spec : {M : Type 1} → statement M
 fill-one-spec =
@@ -106,6 +104,6 @@ fill-one-spec =
     held-requires
     fill-requires
     post-requires
-    sequence-after-requires
     place-after-requires
+    settled-in-requires
     returns-2)
