@@ -16,7 +16,7 @@ use Rattle.account.specs.Settings.{atLeast, goodBand, goodSettings, with
 use Rattle.account.specs.Account.{soundPlaces, soundColumns, soundTable, soundScalars, soundAccount, withSettings}
 use Rattle.account.specs.Calls.{emptyAccount, answered, changed}
 use Rattle.account.proofs.Columns.{both-unit}
-use Rattle.account.proofs.Holdings.{account-scalars, account-table}
+use Rattle.account.proofs.Holdings.{account-scalars, account-table, account-sound}
 
 -- ---- good settings by their parts
 pub record Good (s : Settings) : Type 0 where
@@ -83,8 +83,8 @@ unfolding soundScalars
 account-cash a e = both-true (atLeast 0 (a .cash)) _ (account-scalars a e) .0
 
 pub parts-account : (a : Account) → atLeast 0 (a .cash) ≡ true → goodSettings (a .settings) ≡ true → soundTable (a .positions) ≡ true → soundAccount a ≡ true
-unfolding soundAccount soundScalars
-parts-account a c g t = simp (c, g, t)
+unfolding soundScalars
+parts-account a c g t = account-sound a (simp (c, g)) t
 
 -- a setter that is done, and one that is refused, keep an account sound
 pub changed-keeps-sound : (s : Settings) (a : Account) → soundAccount a ≡ true → soundAccount (changed s a .account) ≡ true
@@ -101,5 +101,4 @@ unfolding soundColumns soundPlaces ordered unused
 empty-sound = refl
 
 pub opened-sound : (cash : ℤ) (s : Settings) (x : Series) → soundScalars cash s ≡ true → soundAccount (emptyAccount cash s x) ≡ true
-unfolding soundAccount
-opened-sound cash s x e = simp (e, empty-sound)
+opened-sound cash s x e = account-sound (emptyAccount cash s x) e empty-sound

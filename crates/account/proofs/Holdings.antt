@@ -31,6 +31,10 @@ module _ (a : Account) (e : soundAccount a ≡ true) where
   pub account-ordered : Full (columnsOf (a .positions)) → Ordered (a .positions .count) (columnsOf (a .positions))
   account-ordered f = sound-orders (a .positions .count) (columnsOf (a .positions)) f account-table
 
+pub account-sound : (a : Account) → soundScalars (a .cash) (a .settings) ≡ true → soundTable (a .positions) ≡ true → soundAccount a ≡ true
+unfolding soundAccount
+account-sound a c t = simp (c, t)
+
 -- ---- one position
 pub place-holds : (n i : ℕ) (c : Cols) → Ordered n c → i < n → heldAt (At i) 0 c ≡ getD (rows n c) i (fresh 0)
 place-holds n i c o h = held-row i 0 c (omega (arith, o .small)) ∙ sym (row-of c (o .full) n i h)

@@ -62,6 +62,9 @@ module _ (n : ℕ) (c : Cols) (o : Ordered n c) where
 pub held-table : (t : Table) → Full (columnsOf t) → soundTable t ≡ true → tableOf (heldIn t) ≡ t
 held-table t f e = ordered-table (t .count) (columnsOf t) (sound-orders (t .count) (columnsOf t) f e)
 
+pub equal-tables : (t u : Table) → Full (columnsOf t) → Full (columnsOf u) → soundTable t ≡ true → soundTable u ≡ true → heldIn t ≡ heldIn u → t ≡ u
+equal-tables t u f g a b e = sym (held-table t f a) ∙ ap tableOf e ∙ held-table u g b
+
 -- ---- from a list to columns and back
 padded-length : {A P : Type 0} (z : A) (g : P → A) (ps : List P) → length ps ≤ 64 → length (padded z (map g ps)) ≡ 64
 padded-length z g ps h = simp (length-append, length-replicate, length-map) (omega arith)

@@ -1,9 +1,8 @@
 -- What else is left the same: where each order fills whole nothing is trimmed, and as many fills are counted in any running order.
 use Prim.Native.Nat.{ℕ, zero, suc}
-use mathlib.Core.Bool.{Bool, true, _&&_}
+use mathlib.Core.Bool.{true}
 use mathlib.Core.List.{List, [], _∷_}
 use mathlib.Core.Path.{_≡_, refl, sym, ap, _∙_}
-use lib.IntN.{ℤ}
 use lib.ListN.{length}
 use Rattle.cost_model.specs.Costs.{goodCosts}
 use Rattle.table.specs.Keyed.{pick}
@@ -15,7 +14,7 @@ use Rattle.order.specs.Running.{Perm, done, keep, swap, then, All, nothi
 use Rattle.order.specs.Statement.{Tradable, Funded, allWhole, AllWhole}
 use Rattle.order.proofs.Perms.{all-perm}
 use Rattle.order.proofs.Rule.{and-left, and-right}
-use Rattle.order.proofs.Fills.{whole-settles}
+use Rattle.order.proofs.Fills.{settles}
 
 perm-length : {A : Type 0} {x y : List A} → Perm A x y → length x ≡ length y
 perm-length done = refl
@@ -40,7 +39,7 @@ module _ (t : Terms) (good : goodCosts (t .costs) ≡ true) where
   whole-trims-nothing (o ∷ os) s (and k ks) w =
       let first : fillsWhole t o (s .cash) ≡ true = and-left (fillsWhole t o (s .cash)) (allWhole t os (fill t o s)) w in
       let rest : allWhole t os (fill t o s) ≡ true = and-right (fillsWhole t o (s .cash)) (allWhole t os (fill t o s)) w in
-      let e : fill t o s ≡ settled t o (o .quantity .0) s = whole-settles t good o s k first in
+      let e : fill t o s ≡ settled t o (o .quantity .0) s = settles t good o s k first in
       let u : Untrimmed t os (fill t o s) = whole-trims-nothing os (fill t o s) ks rest in
       record {
         trimmed = u .trimmed ∙ ap (λ (x : State). x .trimmed) e;

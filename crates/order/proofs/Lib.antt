@@ -3,6 +3,6 @@ pub mod Perms
 pub mod Rule
 pub mod Fills
 pub mod OrderTheorem
-pub mod Tables
+pub mod Accounts
 pub mod Cases
 pub mod Counters

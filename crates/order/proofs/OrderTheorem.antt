@@ -1,18 +1,18 @@
 -- Condition 3.
-use Prim.Native.Nat.{ℕ, _+_}
+use Prim.Native.Nat.{ℕ}
 use mathlib.Core.List.{List, [], _∷_, _++_}
-use mathlib.Core.Bool.{Bool, true, false, _&&_}
+use mathlib.Core.Bool.{Bool, _&&_}
 use mathlib.Core.Path.{_≡_, refl, sym, ap, _∙_, subst}
 use lib.Dec.{T}
 use lib.IntN.{ℤ, pos, _+ℤ_}
-use lib.Signed.{ltZ, leZ}
+use lib.Signed.{ltZ}
 use Rattle.sizing.proofs.Sizes.{above-is-P}
 use Rattle.fills.specs.declared.order.Order.{Order}
 use Rattle.fills.specs.declared.order.Terms.{Terms}
 use Rattle.fills.specs.Orders.{State, buys}
 use Rattle.fills.specs.Fill.{fillsWhole, fill, fillAll}
-use Rattle.order.specs.Running.{Perm, total, All, Pairs, parted}
-use Rattle.order.specs.Statement.{cashChange, lowersCash, cashRaised, Tradable, Funded, Batch, allWhole, AllWhole, LowersLast, SameLeft, OrderIsFree}
+use Rattle.order.specs.Running.{Perm, All, parted, InRange}
+use Rattle.order.specs.Statement.{cashChange, lowersCash, cashRaised, Funded, Batch, allWhole, AllWhole, LowersLast, OrderIsFree}
 use Rattle.order.proofs.Perms.{total-same, perm-parted, all-perm, all-both, all-right}
 use Rattle.order.proofs.Rule as Rule
 use Rattle.order.proofs.Fills.{fills, buy-raises-none}
@@ -34,7 +34,7 @@ module _ (t : Terms) (os : List Order) (s : State) where
   funded f = record {
     orders = f .orders;
     cash-low = f .cash-low;
-    cash-top = subst (λ (n : ℕ). leZ (s .cash +ℤ pos n) (pos 9223372036854775807) ≡ true) (total-same _ _ (λ o. above-is-P (cashChange t o)) os) (f .cash-top);
+    cash-top = subst (λ (n : ℕ). InRange (s .cash +ℤ pos n)) (total-same _ _ (λ o. above-is-P (cashChange t o)) os) (f .cash-top);
   }
 
   apart : (b : Batch t os s) → Rule.Apart (fills t (b .funded .costs)) os s

@@ -1,6 +1,6 @@
 -- Condition 3 for any fills that keep a few laws. Cash is a sum that has to stay at or above 0, so raising before lowering never hurts; the table's changes for
 -- different symbols commute. Nothing here knows what an order costs or what it makes of a position.
-use Prim.Native.Nat.{ℕ, suc, _+_, _-_, _≤_, _<_, _^_}
+use Prim.Native.Nat.{ℕ, _+_, _-_, _≤_, _<_, _^_}
 use mathlib.Core.List.{List, [], _∷_, _++_}
 use mathlib.Core.Bool.{Bool, true, false, not, _&&_}
 use mathlib.Core.Option.{Option, none, some}
@@ -14,8 +14,8 @@ use Rattle.words.specs.Sums.{satSub}
 use Rattle.words.proofs.Ints.{P, N, P-pos, N-pos, P-neg, N-neg, P-add, P-sub, P-zero, N-zero, fits-of, satSub-exact, eq-of, le-yes, le-is, lt-yes, lt-no}
 use Rattle.table.specs.Keyed.{seek, put, put64, new}
 use Rattle.table.proofs.Keyed.{seek-key, seek-put, put-swap, put-length, put-room}
-use Rattle.order.specs.Running.{Perm, done, keep, swap, then, total, All, nothing, and, Pairs, only, parted}
-use Rattle.order.proofs.Perms.{total-perm, all-perm, pairs-perm, perm-parted, all-only, all-map, pairs-join}
+use Rattle.order.specs.Running.{Perm, done, keep, swap, then, total, All, nothing, and, Pairs, parted, Last, Different, Room, NotBelow0, InRange}
+use Rattle.order.proofs.Perms.{total-perm, all-perm, pairs-perm, all-only, all-map, pairs-join}
 
 -- What the theorem asks of the fills of orders O on states A with positions Q.
 pub record Rule (O Q A : Type 0) : Type 1 where
@@ -61,7 +61,7 @@ allWhole R (o ∷ os) a = R .whole o a && allWhole R os (R .run o a)
 
 -- no order that lowers cash stands ahead of one that does not
 abbrev pub LowersLast : {O Q A : Type 0} → Rule O Q A → List O → Type 0
-LowersLast {O} R os = Pairs O (λ x y. T (lowers R x) → T (lowers R y)) os
+LowersLast R os = Last (lowers R) os
 
 -- no order that lowers cash stands ahead of one that raises it; one that does neither may stand anywhere
 abbrev pub RaisesFirst : {O Q A : Type 0} → Rule O Q A → List O → Type 0
@@ -72,18 +72,18 @@ abbrev pub newOf : {O Q A : Type 0} → Rule O Q A → List Q → O → ℕ
 newOf R ps o = new (seek (R .key) (R .symbol o) ps)
 
 abbrev pub Differ : {O Q A : Type 0} → Rule O Q A → O → O → Type 0
-Differ R x y = R .symbol x ≡ R .symbol y → ⊥
+Differ R x y = Different (R .symbol) x y
 
 -- what the cash asks
 pub record Funded {O Q A : Type 0} (R : Rule O Q A) (os : List O) (a : A) : Type 0 where
   pub orders : All O (R .Good) os
-  pub cash-low : leZ (pos 0) (R .cash a) ≡ true
-  pub cash-top : leZ (R .cash a +ℤ pos (total (raised R) os)) (pos 9223372036854775807) ≡ true
+  pub cash-low : NotBelow0 (R .cash a)
+  pub cash-top : InRange (R .cash a +ℤ pos (total (raised R) os))
 
 -- what the positions ask besides
 pub record Apart {O Q A : Type 0} (R : Rule O Q A) (os : List O) (a : A) : Type 0 where
   pub differ : Pairs O (Differ R) os
-  pub room : length (R .held a) + total (newOf R (R .held a)) os ≤ 64
+  pub room : Room (length (R .held a)) (total (newOf R (R .held a)) os)
 
 -- ---- tests and numbers
 pub and-left : (a b : Bool) → (a && b) ≡ true → a ≡ true
@@ -160,24 +160,24 @@ module _ {O Q A : Type 0} (R : Rule O Q A) where
       let q : Q = R .apply o (seek (R .key) (R .symbol o) ps) in
       put-length (R .key) q ps ∙ ap (λ (s : ℕ). length ps + new (seek (R .key) s ps)) (applied-key o ps)
 
-  up-room : (o : O) (ps : List Q) → length ps + newOf R ps o ≤ 64 → put64 (R .key) (R .apply o (seek (R .key) (R .symbol o) ps)) ps ≡ up o ps
+  up-room : (o : O) (ps : List Q) → Room (length ps) (newOf R ps o) → put64 (R .key) (R .apply o (seek (R .key) (R .symbol o) ps)) ps ≡ up o ps
   unfolding up
   up-room o ps h =
       let q : Q = R .apply o (seek (R .key) (R .symbol o) ps) in
-      put-room (R .key) q ps (subst (λ (s : ℕ). length ps + new (seek (R .key) s ps) ≤ 64) (sym (applied-key o ps)) h)
+      put-room (R .key) q ps (subst (λ (s : ℕ). Room (length ps) (new (seek (R .key) s ps))) (sym (applied-key o ps)) h)
 
   -- the positions that a list of orders leaves, each filled whole
-  held-after : (os : List O) (a : A) → All O (R .Good) os → Pairs O (Differ R) os → length (R .held a) + total (newOf R (R .held a)) os ≤ 64
+  held-after : (os : List O) (a : A) → All O (R .Good) os → Pairs O (Differ R) os → Room (length (R .held a)) (total (newOf R (R .held a)) os)
       → allWhole R os a ≡ true → R .held (after R os a) ≡ ups os (R .held a)
   unfolding after allWhole ups total
   held-after [] a nothing nothing r w = refl
   held-after (o ∷ os) a (and k ks) (and n ns) r w =
       let e : R .whole o a ≡ true = and-left (R .whole o a) (allWhole R os (R .run o a)) w in
       let f : allWhole R os (R .run o a) ≡ true = and-right (R .whole o a) (allWhole R os (R .run o a)) w in
-      let m : length (R .held a) + newOf R (R .held a) o ≤ 64 = omega arith in
+      let m : Room (length (R .held a)) (newOf R (R .held a) o) = omega arith in
       let h : R .held (R .run o a) ≡ up o (R .held a) = R .run-held o a k e ∙ up-room o (R .held a) m in
-      let l : length (up o (R .held a)) + total (newOf R (up o (R .held a))) os ≤ 64 = omega (arith, length-up o (R .held a), new-up o os (R .held a) n) in
-      let r' : length (R .held (R .run o a)) + total (newOf R (R .held (R .run o a))) os ≤ 64 = subst (λ (ps : List Q). length ps + total (newOf R ps) os ≤ 64) (sym h) l in
+      let l : Room (length (up o (R .held a))) (total (newOf R (up o (R .held a))) os) = omega (arith, length-up o (R .held a), new-up o os (R .held a) n) in
+      let r' : Room (length (R .held (R .run o a))) (total (newOf R (R .held (R .run o a))) os) = subst (λ (ps : List Q). Room (length ps) (total (newOf R ps) os)) (sym h) l in
       held-after os (R .run o a) ks ns r' f ∙ ap (ups os) h
 
   -- ---- the cash
@@ -254,13 +254,13 @@ module _ {O Q A : Type 0} (R : Rule O Q A) where
   funded-perm a p r = record {
     orders = all-perm p (r .orders);
     cash-low = r .cash-low;
-    cash-top = subst (λ (n : ℕ). leZ (R .cash a +ℤ pos n) (pos 9223372036854775807) ≡ true) (total-perm (raised R) p) (r .cash-top);
+    cash-top = subst (λ (n : ℕ). InRange (R .cash a +ℤ pos n)) (total-perm (raised R) p) (r .cash-top);
   }
 
   pub apart-perm : (a : A) {x y : List O} → Perm O x y → Apart R x a → Apart R y a
   apart-perm a p r = record {
     differ = pairs-perm (λ x y n e. n (sym e)) p (r .differ);
-    room = subst (λ (n : ℕ). length (R .held a) + n ≤ 64) (total-perm (newOf R (R .held a)) p) (r .room);
+    room = subst (λ (n : ℕ). Room (length (R .held a)) n) (total-perm (newOf R (R .held a)) p) (r .room);
   }
 
   record Opening (z : ℤ) (os : List O) : Type 0 where

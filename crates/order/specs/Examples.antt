@@ -59,20 +59,23 @@ allComeOut [] = true
 allComeOut (r ∷ rs) = comesOut r && allComeOut rs
 
 -- "l. No costs, cash 50, buy worth 100, sale worth 80: sale first fills both, cash 30"; buy first, nothing is bought
-abbrev pub bothOfL : List Order
-bothOfL = sell 2 (pos 80) ∷ (buy 1 (pos 100) ∷ [])
+abbrev pub saleFirst : List Order
+saleFirst = sell 2 (pos 80) ∷ (buy 1 (pos 100) ∷ [])
+
+abbrev pub buyFirst : List Order
+buyFirst = buy 1 (pos 100) ∷ (sell 2 (pos 80) ∷ [])
 
 abbrev pub caseL : List Run
 caseL =
-    run (pos 0) (pos 50) bothOfL true (pos 30)
-    ∷ (run (pos 0) (pos 50) (buy 1 (pos 100) ∷ (sell 2 (pos 80) ∷ [])) false (pos 130)
+    run (pos 0) (pos 50) saleFirst true (pos 30)
+    ∷ (run (pos 0) (pos 50) buyFirst false (pos 130)
     ∷ [])
 
 -- With cash for either order, both leave the same.
 abbrev pub enough : List Run
 enough =
-    run (pos 0) (pos 100) bothOfL true (pos 80)
-    ∷ (run (pos 0) (pos 100) (buy 1 (pos 100) ∷ (sell 2 (pos 80) ∷ [])) true (pos 80)
+    run (pos 0) (pos 100) saleFirst true (pos 80)
+    ∷ (run (pos 0) (pos 100) buyFirst true (pos 80)
     ∷ [])
 
 -- Sells among themselves: under a floor of 100 the sale for 20 takes 80, and cash is 50 until the sale for 500 is done.

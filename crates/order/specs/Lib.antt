@@ -1,4 +1,5 @@
 -- What condition 3 speaks of.
 pub mod Running
 pub mod Statement
+pub mod OnAccount
 pub mod Examples

@@ -1,7 +1,11 @@
--- Running orders: a list, the same members in another order, and what is said of all members.
-use Prim.Native.Nat.{ℕ, _+_}
+-- Running orders: a list, the same members in another order, and what condition 3 says of members and sums.
+use Prim.Native.Nat.{ℕ, _+_, _≤_}
 use mathlib.Core.List.{List, [], _∷_, _++_}
-use mathlib.Core.Bool.{Bool, not, cond}
+use mathlib.Core.Bool.{Bool, true, not, cond}
+use mathlib.Core.Path.{_≡_}
+use lib.Dec.{T}
+use lib.IntN.{ℤ, pos}
+use lib.Signed.{leZ}
 
 -- "running orders": the same members, each as often; what exchanging neighbours, again and again, makes of a list
 pub data Perm (A : Type 0) : List A → List A → Type 0 where
@@ -33,3 +37,23 @@ only t (a ∷ x) = cond (t a) (a ∷ only t x) (only t x)
 -- those that fail the test, then those that pass it
 abbrev pub parted : {A : Type 0} → (A → Bool) → List A → List A
 parted t x = only (λ a. not (t a)) x ++ only t x
+
+-- "ahead of": behind a member that passes the test stand only such
+abbrev pub Last : {A : Type 0} → (A → Bool) → List A → Type 0
+Last {A} t x = Pairs A (λ a b. T (t a) → T (t b)) x
+
+-- "different"
+abbrev pub Different : {A : Type 0} → (A → ℕ) → A → A → Type 0
+Different key a b = key a ≡ key b → ⊥
+
+-- "table room for all": of the places in use and those asked
+abbrev pub Room : ℕ → ℕ → Type 0
+Room used asked = used + asked ≤ 64
+
+-- "cash at least 0"
+abbrev pub NotBelow0 : ℤ → Type 0
+NotBelow0 cash = leZ (pos 0) cash ≡ true
+
+-- "inside the signed 64-bit range", of a sum of at least 0
+abbrev pub InRange : ℤ → Type 0
+InRange sum = leZ sum (pos 9223372036854775807) ≡ true

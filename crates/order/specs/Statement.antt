@@ -1,9 +1,8 @@
 -- Condition 3, in its words, about the fills that the code is proved to make.
-use Prim.Native.Nat.{ℕ, _+_, _≤_}
+use Prim.Native.Nat.{ℕ}
 use mathlib.Core.List.{List, [], _∷_}
 use mathlib.Core.Bool.{Bool, true, false, _&&_}
 use mathlib.Core.Path.{_≡_}
-use lib.Dec.{T}
 use lib.ListN.{length}
 use lib.IntN.{ℤ, pos, negℤ, _+ℤ_}
 use lib.Signed.{ltZ, leZ}
@@ -17,7 +16,7 @@ use Rattle.fills.specs.declared.order.Order.{Order}
 use Rattle.fills.specs.declared.order.Terms.{Terms}
 use Rattle.fills.specs.Orders.{State, paid}
 use Rattle.fills.specs.Fill.{cashTaken, fillsWhole, fill, fillAll}
-use Rattle.order.specs.Running.{Perm, total, All, Pairs}
+use Rattle.order.specs.Running.{Perm, total, All, Pairs, Last, Different, Room, NotBelow0, InRange}
 
 -- the change of cash by an order that fills whole: of the terms and the order alone
 unfoldable pub cashChange : Terms → Order → ℤ
@@ -36,27 +35,26 @@ pub record Tradable (o : Order) : Type 0 where
   pub quantity : isZero (o .quantity .0) ≡ false
   pub price : leZ (pos 1) (o .price) ≡ true
 
--- "for different symbols"
-abbrev pub Different : Order → Order → Type 0
-Different x y = x .symbol .0 ≡ y .symbol .0 → ⊥
+abbrev pub symbolOf : Order → ℕ
+symbolOf o = o .symbol .0
 
 -- 1 for an order whose symbol has no entry yet
 abbrev pub placesAsked : List Position → Order → ℕ
-placesAsked held o = new (seek keyOf (o .symbol .0) held)
+placesAsked held o = new (seek keyOf (symbolOf o) held)
 
 -- "non-zero orders .. on one sound account, .. with cash plus all cash raised inside the signed 64-bit range". Of a sound account only good costs and cash of
 -- at least 0 are asked.
 pub record Funded (t : Terms) (os : List Order) (s : State) : Type 0 where
   pub costs : goodCosts (t .costs) ≡ true
   pub orders : All Order Tradable os
-  pub cash-low : leZ (pos 0) (s .cash) ≡ true
-  pub cash-top : leZ (s .cash +ℤ pos (total (cashRaised t) os)) (pos 9223372036854775807) ≡ true
+  pub cash-low : NotBelow0 (s .cash)
+  pub cash-top : InRange (s .cash +ℤ pos (total (cashRaised t) os))
 
 -- all that condition 3 asks: besides, "for different symbols" and "with table room for all"
 pub record Batch (t : Terms) (os : List Order) (s : State) : Type 0 where
   pub funded : Funded t os s
-  pub different : Pairs Order Different os
-  pub room : length (s .held) + total (placesAsked (s .held)) os ≤ 64
+  pub different : Pairs Order (Different symbolOf) os
+  pub room : Room (length (s .held)) (total (placesAsked (s .held)) os)
 
 -- "each fill whole": run one after the other by the code's fills
 unfoldable pub allWhole : Terms → List Order → State → Bool
@@ -66,9 +64,9 @@ allWhole t (o ∷ os) s = fillsWhole t o (s .cash) && allWhole t os (fill t o s)
 abbrev pub AllWhole : Terms → List Order → State → Type 0
 AllWhole t os s = allWhole t os s ≡ true
 
--- "puts orders not lowering cash ahead of those lowering it": behind an order that lowers cash stand only such
+-- "puts orders not lowering cash ahead of those lowering it"
 abbrev pub LowersLast : Terms → List Order → Type 0
-LowersLast t os = Pairs Order (λ x y. T (lowersCash t x) → T (lowersCash t y)) os
+LowersLast t os = Last (lowersCash t) os
 
 -- "equal cash and equal positions"
 pub record SameLeft (a b : State) : Type 0 where

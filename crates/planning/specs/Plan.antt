@@ -1,6 +1,6 @@
 -- The orders that a rebalance wants, before any cap: "Priced open holdings absent from targets are closed, in symbol order [..] Then targets in list order".
-use Prim.Native.Nat.{ℕ}
-use mathlib.Core.Bool.{Bool, true, false, not}
+use Prim.Native.Nat.{ℕ, _+_}
+use mathlib.Core.Bool.{Bool, false, not}
 use mathlib.Core.List.{List, [], _∷_, _++_}
 use lib.IntN.{ℤ, pos}
 use lib.Signed.{ltZ, leZ}
@@ -15,7 +15,6 @@ use Rattle.sizing.specs.Sizing.{sized, cutTo, drift}
 use Rattle.feeds.specs.Lists.{among}
 use Rattle.account.specs.declared.settings.Settings.{Settings}
 use Rattle.planning.specs.declared.plan.PlannedOrder.{PlannedOrder}
-use Rattle.planning.specs.Equity.{worth}
 
 abbrev pub planned : ℕ → ℤ → ℤ → Float → PlannedOrder
 planned s q p d = record { symbol = symbol s; quantity = shares q; price = p; «drift_bps» = d }
@@ -39,24 +38,34 @@ limited s q p = pick (ltZ (notional (underMaximum s q p) p) (s .«min_order_valu
 unfoldable pub ordered : Settings → ℕ → ℤ → ℤ → Float → PlannedOrder
 ordered s k q p d = planned k (pick (withinBand s d) (pos 0) (limited s q p)) p d
 
--- "Priced open holdings absent from targets are closed [..] whole, without the step"; "of a close's holding value": quantity 0 where none is closed
+-- no order
+abbrev pub passedOver : ℕ → PlannedOrder
+passedOver k = planned k (pos 0) (pos 0) (fin false 0 (pos 0))
+
+-- "Priced open holdings absent from targets are closed [..] whole, without the step"; "of a close's holding value": of symbol, quantity, price and
+-- whether the symbol is among the targets
+unfoldable pub plannedClose : Settings → ℤ → ℕ → ℤ → ℤ → Bool → PlannedOrder
+plannedClose s equity k q p wanted =
+    pick (both (not wanted) (leZ (pos 1) p)) (ordered s k (satNeg q) p (drift (value q p) equity)) (passedOver k)
+
 unfoldable pub closing : Settings → ℤ → (ℕ → ℤ) → List ℕ → Position → PlannedOrder
 closing s equity price targets p =
-    pick (both (not (among (keyOf p) targets)) (leZ (pos 1) (price (keyOf p))))
-    (ordered s (keyOf p) (satNeg (p .quantity .0)) (price (keyOf p)) (drift (worth price p) equity))
-    (planned (keyOf p) (pos 0) (pos 0) (fin false 0 (pos 0)))
+    plannedClose s equity (keyOf p) (p .quantity .0) (price (keyOf p)) (among (keyOf p) targets)
 
--- "Target value is truncated equity × weight; the gap becomes shares": the gap is a saturating difference
-unfoldable pub gapOf : ℤ → (ℕ → ℤ) → List Position → ℕ → Float → ℤ
+-- "Target value is truncated equity × weight; the gap becomes shares": the gap is a saturating difference, of equity, quantity, price and weight
+unfoldable pub gapOf : ℤ → ℤ → ℤ → Float → ℤ
 unfolding mul
-gapOf equity price held k w = satSub (toI64 (mul binary64 (ofI64 equity) w)) (worth price (holding k held))
+gapOf equity q p w = satSub (toI64 (mul binary64 (ofI64 equity) w)) (value q p)
 
--- "an unpriced one is passed over"
+-- "an unpriced one is passed over": of symbol, quantity held, price and weight
+unfoldable pub plannedTarget : Settings → ℤ → ℕ → ℤ → ℤ → Float → PlannedOrder
+plannedTarget s equity k q p w =
+    pick (leZ (pos 1) p)
+    (ordered s k (sized (gapOf equity q p w) p (s .«quantity_step»)) p (drift (gapOf equity q p w) equity))
+    (passedOver k)
+
 unfoldable pub targeting : Settings → ℤ → (ℕ → ℤ) → List Position → ℕ → Float → PlannedOrder
-targeting s equity price held k w =
-    pick (leZ (pos 1) (price k))
-    (ordered s k (sized (gapOf equity price held k w) (price k) (s .«quantity_step»)) (price k) (drift (gapOf equity price held k w) equity))
-    (planned k (pos 0) (pos 0) (fin false 0 (pos 0)))
+targeting s equity price held k w = plannedTarget s equity k (holding k held .quantity .0) (price k) w
 
 unfoldable pub closings : Settings → ℤ → (ℕ → ℤ) → List ℕ → List Position → List PlannedOrder
 closings s equity price targets [] = []
@@ -71,3 +80,8 @@ targetings s equity price held (k ∷ ks) (w ∷ ws) = targeting s equity price 
 unfoldable pub wanted : Settings → ℤ → (ℕ → ℤ) → List Position → List ℕ → List Float → List PlannedOrder
 wanted s equity price held targets weights =
     closings s equity price targets held ++ targetings s equity price held targets weights
+
+-- how many of them are orders
+unfoldable pub orderCount : List PlannedOrder → ℕ
+orderCount [] = 0
+orderCount (o ∷ os) = pick (isZero (o .quantity .0)) (orderCount os) (orderCount os + 1)

@@ -1,7 +1,11 @@
 // Replays a stored sample of the Rust's answers: each row's function on the row's numbers, beside the row's answer.
 mod casts_rows;
+mod costs_rows;
+mod figures_rows;
+mod positions_rows;
 mod row;
-mod sums_rows;
+mod shares_rows;
+mod sizes_rows;
 mod wide_rows;
 
 use libc::STDOUT_FILENO;
@@ -15,24 +19,27 @@ enum Outcome {
 
 // A number that no leaf has agrees with nothing.
 fn agrees(r: Row) -> bool {
-    let leaf = r.leaf;
-    if leaf < 10 {
-        return sums_rows::agrees(r);
+    let group = r.leaf / 10;
+    match group {
+        0 => shares_rows::agrees(r),
+        1 => wide_rows::agrees(r),
+        3 => casts_rows::agrees(r),
+        4 => costs_rows::agrees(r),
+        5 => positions_rows::agrees(r),
+        6 => sizes_rows::agrees(r),
+        7 => figures_rows::agrees(r),
+        _ => false,
     }
-    if leaf < 30 {
-        return wide_rows::agrees(r);
-    }
-    casts_rows::agrees(r)
 }
 
 // A row that is cut short differs too.
 fn replay_row(fd: i32) -> Outcome {
-    let mut bytes = [0u8; 40];
+    let mut bytes = [0u8; 72];
     let n = io::read_full(fd, &mut bytes);
     if n == 0 {
         return Outcome::End;
     }
-    if n == 40 && agrees(row::read(&bytes)) {
+    if n == 72 && agrees(row::read(&bytes)) {
         return Outcome::Same;
     }
     Outcome::Differs

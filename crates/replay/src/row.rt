@@ -1,4 +1,4 @@
-// A row of the sample, five words of eight bytes with the lowest byte first, and what a word stands for.
+// A row of the sample, nine words of eight bytes with the lowest byte first, and what a word stands for.
 ghost use Prim.Native.Nat.{_+_, _≤_};
 
 pub struct Row {
@@ -6,6 +6,10 @@ pub struct Row {
     pub a: u64,
     pub b: u64,
     pub c: u64,
+    pub d: u64,
+    pub e: u64,
+    pub f: u64,
+    pub g: u64,
     pub answer: u64,
 }
 
@@ -13,8 +17,8 @@ fn wide(x: u8) -> u64 {
     x as u64
 }
 
-fn word(b: &[u8; 40], at: usize) -> u64
-    requires { ⌜ at + 8 ≤ 40 ⌝ }
+fn word(b: &[u8; 72], at: usize) -> u64
+    requires { ⌜ at + 8 ≤ 72 ⌝ }
 {
     let low = wide(b[at]) | wide(b[at + 1]) << 8 | wide(b[at + 2]) << 16 | wide(b[at + 3]) << 24;
     let high = wide(b[at + 4])
@@ -24,13 +28,17 @@ fn word(b: &[u8; 40], at: usize) -> u64
     low | high << 32
 }
 
-pub fn read(b: &[u8; 40]) -> Row {
+pub fn read(b: &[u8; 72]) -> Row {
     Row {
         leaf: word(b, 0),
         a: word(b, 8),
         b: word(b, 16),
         c: word(b, 24),
-        answer: word(b, 32),
+        d: word(b, 32),
+        e: word(b, 40),
+        f: word(b, 48),
+        g: word(b, 56),
+        answer: word(b, 64),
     }
 }
 
@@ -52,6 +60,10 @@ pub fn float(w: u64) -> f64 {
     }
 }
 
+pub fn same_bool(ours: bool, answer: u64) -> bool {
+    if ours { answer == 1 } else { answer == 0 }
+}
+
 pub fn same_int(ours: i64, answer: u64) -> bool {
     ours == int(answer)
 }
@@ -63,4 +75,13 @@ pub fn same_float(ours: f64, answer: u64) -> bool {
         return theirs != theirs;
     }
     ours == theirs && 1.0 / ours == 1.0 / theirs
+}
+
+// "In figures, zeros of either sign and all NaNs compare equal."
+pub fn same_figure(ours: f64, answer: u64) -> bool {
+    let theirs = float(answer);
+    if ours != ours {
+        return theirs != theirs;
+    }
+    ours == theirs
 }

@@ -28,8 +28,7 @@ pub fn agrees(r: Row) -> bool {
     let b = int(r.b);
     match leaf {
         17 => same_int(words::value(a, b), r.answer),
-        18 => same_int(words::magnitude(a, b), r.answer),
-        19 => same_int(words::price_at(a, b), r.answer),
+        18 => same_int(words::price_at(a, b), r.answer),
         _ => words_agree(r),
     }
 }

@@ -1,2 +1,3 @@
 -- What the C interface says that the crates behind it do not.
 pub mod Halves
+pub mod Lent

@@ -1,4 +1,8 @@
-// The C interface: numbers in, numbers out. Each function is the one of its name in the crate behind it, and says what that says.
+// The C interface: numbers and slices of numbers. Each function is the one of its name in the crate behind it, and says what that says.
 pub mod casts;
-pub mod sums;
+pub mod costs;
+pub mod figures;
+pub mod positions;
+pub mod shares;
+pub mod sizes;
 pub mod wide;

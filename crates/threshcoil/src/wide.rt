@@ -1,7 +1,7 @@
 // "Products and quotients take two 64-bit words": here a word at a time, and the values that are made of them.
 ghost use mathlib.Core.Path.{_≡_};
 ghost use Prim.Native.Nat.{_*_, _/_};
-ghost use Rattle.words.specs.Sums.{value, notional, priceAt, snap};
+ghost use Rattle.words.specs.Sums.{value, priceAt, snap};
 ghost use Rattle.threshcoil.specs.Halves.{upper, lower, joined};
 use words::Wide;
 
@@ -59,13 +59,6 @@ pub extern "C" fn tc_value(quantity: i64, price: i64) -> i64
     ensures { λ r. ⌜ r ≡ value quantity price ⌝ }
 {
     words::value(quantity, price)
-}
-
-#[no_mangle]
-pub extern "C" fn tc_magnitude(quantity: i64, price: i64) -> i64
-    ensures { λ r. ⌜ r ≡ notional quantity price ⌝ }
-{
-    words::magnitude(quantity, price)
 }
 
 #[no_mangle]

@@ -6,8 +6,10 @@ use scenario::Random;
 /// What one leaf's run found.
 struct Tally {
     tried: u64,
+    compared: u64,
     with_nanobook: u64,
     differences: u64,
+    left_out: Vec<u64>,
     met: Vec<u64>,
 }
 
@@ -28,9 +30,10 @@ pub fn run(seed: u64, count: u64) -> bool {
     let total = |of: fn(&Tally) -> u64| tallies.iter().map(of).sum::<u64>();
     let unmet = tallies.iter().flat_map(|t| &t.met).filter(|n| **n == 0).count();
     println!(
-        "leaves: {} leaves, {} inputs, {} of them beside nanobook too, {} differences, {unmet} classes not met",
+        "leaves: {} leaves, {} inputs, {} of them compared, {} with nanobook's own functions, {} differences, {unmet} classes not met",
         tallies.len(),
         total(|t| t.tried),
+        total(|t| t.compared),
         total(|t| t.with_nanobook),
         total(|t| t.differences),
     );
@@ -38,18 +41,26 @@ pub fn run(seed: u64, count: u64) -> bool {
 }
 
 fn compare(leaf: &Leaf, nanobook: Option<&oracle::Leaves>, random: &mut Random, count: u64) -> Tally {
-    let mut tally = Tally { tried: 0, with_nanobook: 0, differences: 0, met: vec![0; leaf.classes.len()] };
+    let (left_out, met) = (vec![0; leaf.left_out.len()], vec![0; leaf.classes.len()]);
+    let mut tally = Tally { tried: 0, compared: 0, with_nanobook: 0, differences: 0, left_out, met };
     for _ in 0..count {
-        let inputs = inputs(leaf, random);
+        let inputs = leaf.inputs(random);
         let answer = (leaf.port)(&inputs);
         tally.tried += 1;
+        for (left, (_, out)) in tally.left_out.iter_mut().zip(leaf.left_out) {
+            *left += u64::from(out(&inputs));
+        }
         for (met, (_, class)) in tally.met.iter_mut().zip(leaf.classes) {
             *met += u64::from(class(&inputs, answer));
         }
-        expect(leaf, &inputs, answer, (leaf.rust)(&inputs), "Rust", &mut tally);
-        if let (Some(own), Some(nanobook)) = (leaf.nanobook, nanobook) {
+        if let Some(own) = leaf.rust {
+            expect(leaf, &inputs, answer, own(&inputs), "Rust", &mut tally);
+        }
+        let theirs = leaf.nanobooks(nanobook, &inputs);
+        tally.compared += u64::from(leaf.rust.is_some() || theirs.is_some());
+        if let Some(theirs) = theirs {
             tally.with_nanobook += 1;
-            expect(leaf, &inputs, answer, own(nanobook, &inputs), "nanobook", &mut tally);
+            expect(leaf, &inputs, answer, theirs, "nanobook", &mut tally);
         }
     }
     tally
@@ -70,22 +81,14 @@ fn expect(leaf: &Leaf, inputs: &Inputs, answer: u64, expected: u64, whose: &str,
     }
 }
 
-/// Bit for bit, the sign of a zero included; all NaNs are one.
+/// Bit for bit, the sign of a zero included but among the figures; all NaNs are one.
 pub fn same(kind: Kind, a: u64, b: u64) -> bool {
-    a == b || (kind == Kind::F64 && f64::from_bits(a).is_nan() && f64::from_bits(b).is_nan())
-}
-
-pub fn inputs(leaf: &Leaf, random: &mut Random) -> Inputs {
-    let mut inputs = [0; 3];
-    for (word, kind) in inputs.iter_mut().zip(leaf.takes) {
-        *word = match kind {
-            Kind::U64 => random.u64(),
-            Kind::I64 => random.i64() as u64,
-            Kind::F64 => random.f64().to_bits(),
-            Kind::Bool => random.below(2),
-        };
+    let [x, y] = [a, b].map(f64::from_bits);
+    match kind {
+        Kind::F64 => a == b || (x.is_nan() && y.is_nan()),
+        Kind::Figure => x == y || (x.is_nan() && y.is_nan()),
+        Kind::U64 | Kind::I64 | Kind::Bool => a == b,
     }
-    inputs
 }
 
 pub fn call(leaf: &Leaf, inputs: &Inputs) -> String {
@@ -97,13 +100,15 @@ pub fn shown(kind: Kind, word: u64) -> String {
     match kind {
         Kind::U64 => word.to_string(),
         Kind::I64 => (word as i64).to_string(),
-        Kind::F64 => format!("{:e}", f64::from_bits(word)),
+        Kind::F64 | Kind::Figure => format!("{:e}", f64::from_bits(word)),
         Kind::Bool => (word != 0).to_string(),
     }
 }
 
 fn print(leaf: &Leaf, tally: &Tally) {
-    let met: Vec<String> =
-        leaf.classes.iter().zip(&tally.met).map(|((name, _), met): (&Class, &u64)| format!("{name} {met}")).collect();
-    println!("  {:<20} {} differences in {}; {}", leaf.name, tally.differences, tally.tried, met.join(", "));
+    let met = leaf.classes.iter().zip(&tally.met).map(|((name, _), met): (&Class, &u64)| format!("{name} {met}"));
+    let left =
+        leaf.left_out.iter().zip(&tally.left_out).map(|((why, _), n)| format!("left out of nanobook's: {why} {n}"));
+    let said: Vec<String> = met.chain(left).collect();
+    println!("  {:<29} {} differences in {}; {}", leaf.name, tally.differences, tally.compared, said.join(", "));
 }

@@ -2,22 +2,28 @@
 
 mod account;
 mod differ;
+mod fills;
 mod leaf;
 mod sample;
+mod series;
 mod table;
 
-const USAGE: &str = "usage: harness leaves [SEED [COUNT]] | scenarios [SEED [COUNT]] | spoiled SEED COUNT | table | sample write FILE | sample check FILE";
+const USAGE: &str =
+    "usage: harness leaves [SEED [COUNT]] | fills [SEED [COUNT]] | figures [SEED [COUNT]] | full | bench
+    | scenarios [SEED [COUNT]] | spoiled SEED COUNT | table | sample write FILE | sample check FILE";
+
+const SEED: u64 = 20261115;
 
 fn main() {
     let words: Vec<String> = std::env::args().skip(1).collect();
     let words: Vec<&str> = words.iter().map(String::as_str).collect();
     let agreed = match words[..] {
-        ["leaves"] => differ::run(20261115, 200_000),
-        ["leaves", seed] => differ::run(number(seed), 200_000),
-        ["leaves", seed, count] => differ::run(number(seed), number(count)),
-        ["scenarios"] => account::emit(20261115, 1_000),
-        ["scenarios", seed] => account::emit(number(seed), 1_000),
-        ["scenarios", seed, count] => account::emit(number(seed), number(count)),
+        ["leaves", ref rest @ ..] => seeded(rest, 200_000, differ::run),
+        ["fills", ref rest @ ..] => seeded(rest, 500_000, fills::run),
+        ["figures", ref rest @ ..] => seeded(rest, 120_000, series::run),
+        ["full"] => full(),
+        ["bench"] => series::bench(SEED),
+        ["scenarios", ref rest @ ..] => seeded(rest, 1_000, account::emit),
         ["spoiled", seed, count] => account::emit_spoiled(number(seed), number(count)),
         ["table"] => table::run(),
         ["sample", "write", path] => sample::write(path),
@@ -27,6 +33,24 @@ fn main() {
     if !agreed {
         std::process::exit(1);
     }
+}
+
+/// A run by its seed and count, or by those that tools/test takes.
+fn seeded(words: &[&str], count: u64, run: fn(u64, u64) -> bool) -> bool {
+    match words {
+        [] => run(SEED, count),
+        [seed] => run(number(seed), count),
+        [seed, count] => run(number(seed), number(count)),
+        _ => stop(USAGE),
+    }
+}
+
+/// The same runs, ten times and more as long and with another seed.
+fn full() -> bool {
+    let leaves = differ::run(SEED + 1, 2_000_000);
+    let fills = fills::run(SEED + 1, 20_000_000);
+    let figures = series::run(SEED + 1, 1_000_000);
+    leaves && fills && figures
 }
 
 fn number(word: &str) -> u64 {

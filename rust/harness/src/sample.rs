@@ -1,29 +1,34 @@
 //! The stored sample of the Rust's answers that the proved program `replay` replays, so that a machine without nanobook,
 //! and the gate itself, still hold the port to it.
 //!
-//! A row is five 64-bit words, the lowest byte first: a leaf's number, three inputs (0 where it takes fewer), the answer.
+//! A row is nine 64-bit words, the lowest byte first: a leaf's number, seven inputs (0 where it takes fewer), the answer.
 
-use crate::differ::inputs;
 use crate::leaf::{self, Inputs, Kind, Leaf};
 use scenario::Random;
 
 const SEED: u64 = 1;
 const ROWS: usize = 40;
+const WORDS: usize = 9;
 
-/// The Rust's answer: nanobook's own where it has the function. All NaNs are stored as one.
-fn answer(leaf: &Leaf, nanobook: &oracle::Leaves, inputs: &Inputs) -> u64 {
-    let bits = leaf.nanobook.map_or_else(|| (leaf.rust)(inputs), |own| own(nanobook, inputs));
-    if leaf.gives == Kind::F64 && f64::from_bits(bits).is_nan() { f64::NAN.to_bits() } else { bits }
+/// The Rust's answer. All NaNs are stored as one.
+fn answer(leaf: &Leaf, nanobook: &oracle::Leaves, inputs: &Inputs) -> Option<u64> {
+    let bits = leaf.expected(Some(nanobook), inputs)?;
+    let is_float = matches!(leaf.gives, Kind::F64 | Kind::Figure);
+    Some(if is_float && f64::from_bits(bits).is_nan() { f64::NAN.to_bits() } else { bits })
 }
 
 fn rows(nanobook: &oracle::Leaves) -> Vec<u8> {
     let mut bytes = Vec::new();
     for leaf in leaf::all() {
         let mut random = Random::new(SEED + leaf.number);
-        for _ in 0..ROWS {
-            let given = inputs(leaf, &mut random);
-            let row = [leaf.number, given[0], given[1], given[2], answer(leaf, nanobook, &given)];
-            bytes.extend(row.iter().flat_map(|word| word.to_le_bytes()));
+        let mut left = ROWS;
+        while left > 0 {
+            let given = leaf.inputs(&mut random);
+            // Where the Rust is no oracle there is no row.
+            let Some(answer) = answer(leaf, nanobook, &given) else { continue };
+            let words = [&[leaf.number], &given[..], &[answer]].concat();
+            bytes.extend(words.iter().flat_map(|word| word.to_le_bytes()));
+            left -= 1;
         }
     }
     bytes
@@ -40,7 +45,7 @@ pub fn write(path: &str) -> bool {
         println!("sample: {path}: {error}");
         return false;
     }
-    println!("sample: {} rows to {path}", bytes.len() / 40);
+    println!("sample: {} rows to {path}", bytes.len() / (8 * WORDS));
     true
 }
 

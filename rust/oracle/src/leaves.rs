@@ -19,6 +19,13 @@ pub struct Leaves {
     pub shares_neg: fn(i64) -> i64,
     pub shares_abs: fn(i64) -> i64,
     pub shares_unsigned_abs: fn(i64) -> u64,
+    pub shares_from_whole: fn(i64) -> i64,
+    pub shares_whole: fn(i64) -> i64,
+    pub shares_to_f64: fn(i64) -> f64,
+    /// A position is its quantity, average, realized profit and total cost.
+    pub apply_fill: fn(position: [i64; 4], quantity: i64, price: i64) -> [i64; 4],
+    pub market_value: fn(position: [i64; 4], price: i64) -> i64,
+    pub unrealized_pnl: fn(position: [i64; 4], price: i64) -> i64,
 }
 
 #[cfg(not(nanobook))]
@@ -49,5 +56,11 @@ pub fn leaves() -> Option<Leaves> {
         shares_neg: |a| (-Shares::from_raw(a)).raw(),
         shares_abs: |a| Shares::from_raw(a).abs().raw(),
         shares_unsigned_abs: |a| Shares::from_raw(a).unsigned_abs(),
+        shares_from_whole: |n| Shares::from_whole(n).raw(),
+        shares_whole: |a| Shares::from_raw(a).whole(),
+        shares_to_f64: |a| Shares::from_raw(a).to_f64(),
+        apply_fill: position::apply_fill,
+        market_value: position::market_value,
+        unrealized_pnl: position::unrealized_pnl,
     })
 }

@@ -1,7 +1,7 @@
 //! Casts and rounding.
 
 use super::Kind::{Bool, F64, I64, U64};
-use super::{Class, Inputs, Leaf};
+use super::{Class, Inputs, Leaf, PLAIN};
 use threshcoil_sys as port;
 
 const FROM_DOUBLE: &[Class] = &[
@@ -49,9 +49,9 @@ pub const LEAVES: &[Leaf] = &[
         takes: &[F64],
         gives: Bool,
         port: |i| u64::from(port::tc_is_finite(x(i))),
-        rust: |i| u64::from(x(i).is_finite()),
-        nanobook: None,
+        rust: Some(|i| u64::from(x(i).is_finite())),
         classes: FROM_DOUBLE,
+        ..PLAIN
     },
     Leaf {
         name: "tc_to_i64",
@@ -59,9 +59,9 @@ pub const LEAVES: &[Leaf] = &[
         takes: &[F64],
         gives: I64,
         port: |i| port::tc_to_i64(x(i)) as u64,
-        rust: |i| x(i) as i64 as u64,
-        nanobook: None,
+        rust: Some(|i| x(i) as i64 as u64),
         classes: FROM_DOUBLE,
+        ..PLAIN
     },
     Leaf {
         name: "tc_i64_to_f64",
@@ -69,9 +69,9 @@ pub const LEAVES: &[Leaf] = &[
         takes: &[I64],
         gives: F64,
         port: |i| port::tc_i64_to_f64(i[0] as i64).to_bits(),
-        rust: |i| (i[0] as i64 as f64).to_bits(),
-        nanobook: None,
+        rust: Some(|i| (i[0] as i64 as f64).to_bits()),
         classes: to_double!(|i: &Inputs| (i[0] as i64).unsigned_abs()),
+        ..PLAIN
     },
     Leaf {
         name: "tc_u64_to_f64",
@@ -79,9 +79,9 @@ pub const LEAVES: &[Leaf] = &[
         takes: &[U64],
         gives: F64,
         port: |i| port::tc_u64_to_f64(i[0]).to_bits(),
-        rust: |i| (i[0] as f64).to_bits(),
-        nanobook: None,
+        rust: Some(|i| (i[0] as f64).to_bits()),
         classes: to_double!(|i: &Inputs| i[0]),
+        ..PLAIN
     },
     Leaf {
         name: "tc_round",
@@ -89,9 +89,9 @@ pub const LEAVES: &[Leaf] = &[
         takes: &[F64],
         gives: F64,
         port: |i| port::tc_round(x(i)).to_bits(),
-        rust: |i| x(i).round().to_bits(),
-        nanobook: None,
+        rust: Some(|i| x(i).round().to_bits()),
         classes: FROM_DOUBLE,
+        ..PLAIN
     },
     Leaf {
         name: "tc_round_to_i64",
@@ -99,8 +99,8 @@ pub const LEAVES: &[Leaf] = &[
         takes: &[F64],
         gives: I64,
         port: |i| port::tc_round_to_i64(x(i)) as u64,
-        rust: |i| x(i).round() as i64 as u64,
-        nanobook: None,
+        rust: Some(|i| x(i).round() as i64 as u64),
         classes: FROM_DOUBLE,
+        ..PLAIN
     },
 ];

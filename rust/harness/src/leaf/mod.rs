@@ -1,12 +1,21 @@
 //! The leaves of the C interface, each beside Rust's own arithmetic and, where it has one, its function in nanobook.
 //!
-//! Numbers of every kind travel as their 64 bits, so that one run serves all leaves.
+//! Numbers of every kind travel as their 64 bits, so that one run serves all leaves. A leaf that gives several numbers
+//! stands here once for each of them.
 
+mod costs;
 mod doubles;
-mod sums;
+mod figures;
+mod positions;
+mod shares;
+mod sizes;
 mod wide;
 
+pub use figures::expected as expected_figures;
+pub use positions::{Numbers, is_sound, refusal};
+
 use oracle::Leaves;
+use scenario::Random;
 
 /// What 64 bits stand for.
 #[derive(Clone, Copy, PartialEq, Eq, Debug)]
@@ -15,12 +24,17 @@ pub enum Kind {
     I64,
     F64,
     Bool,
+    /// A double among the figures: "zeros of either sign and all NaNs compare equal".
+    Figure,
 }
 
-pub type Inputs = [u64; 3];
+pub type Inputs = [u64; 7];
 
 /// Something that an input or its answer may be, and that a run must have met.
 pub type Class = (&'static str, fn(&Inputs, u64) -> bool);
+
+/// Why some inputs are not compared with nanobook.
+pub type LeftOut = (&'static str, fn(&Inputs) -> bool);
 
 pub struct Leaf {
     pub name: &'static str,
@@ -28,15 +42,64 @@ pub struct Leaf {
     pub number: u64,
     pub takes: &'static [Kind],
     pub gives: Kind,
+    /// Inputs to try, where plain numbers of each kind would seldom meet what matters.
+    pub draw: Option<fn(&mut Random) -> Inputs>,
     pub port: fn(&Inputs) -> u64,
-    pub rust: fn(&Inputs) -> u64,
+    pub rust: Option<fn(&Inputs) -> u64>,
     pub nanobook: Option<fn(&Leaves, &Inputs) -> u64>,
+    pub left_out: &'static [LeftOut],
     pub classes: &'static [Class],
+}
+
+/// What most leaves have.
+const PLAIN: Leaf = Leaf {
+    name: "",
+    number: 0,
+    takes: &[],
+    gives: Kind::U64,
+    draw: None,
+    port: |_| 0,
+    rust: None,
+    nanobook: None,
+    left_out: &[],
+    classes: &[],
+};
+
+impl Leaf {
+    pub fn inputs(&self, random: &mut Random) -> Inputs {
+        if let Some(draw) = self.draw {
+            return draw(random);
+        }
+        let mut inputs = Inputs::default();
+        for (word, kind) in inputs.iter_mut().zip(self.takes) {
+            *word = match kind {
+                Kind::U64 => random.u64(),
+                Kind::I64 => random.i64() as u64,
+                Kind::F64 | Kind::Figure => random.f64().to_bits(),
+                Kind::Bool => random.below(2),
+            };
+        }
+        inputs
+    }
+
+    /// Nanobook's answer, where it has the function and is an oracle.
+    pub fn nanobooks(&self, nanobook: Option<&Leaves>, inputs: &Inputs) -> Option<u64> {
+        let (own, nanobook) = (self.nanobook?, nanobook?);
+        let in_domain = self.left_out.iter().all(|(_, out)| !out(inputs));
+        in_domain.then(|| own(nanobook, inputs))
+    }
+
+    /// The Rust's answer: nanobook's own, else that of Rust's own arithmetic.
+    pub fn expected(&self, nanobook: Option<&Leaves>, inputs: &Inputs) -> Option<u64> {
+        self.nanobooks(nanobook, inputs).or_else(|| self.rust.map(|own| own(inputs)))
+    }
 }
 
 /// Every leaf, group by group.
 pub fn all() -> impl Iterator<Item = &'static Leaf> {
-    [sums::LEAVES, wide::LEAVES, doubles::LEAVES].into_iter().flatten()
+    [shares::LEAVES, wide::LEAVES, doubles::LEAVES, costs::LEAVES, positions::LEAVES, sizes::LEAVES, figures::LEAVES]
+        .into_iter()
+        .flatten()
 }
 
 pub const CLAMPED: &[Class] = &[

@@ -1,7 +1,7 @@
 //! Products and quotients in two words, and the values made of them.
 
 use super::Kind::{I64, U64};
-use super::{CLAMPED, Class, Inputs, Leaf};
+use super::{CLAMPED, Class, Inputs, Leaf, PLAIN};
 use threshcoil_sys as port;
 
 const WORDS: &[Class] = &[("zero", |_, r| r == 0), ("not zero", |_, r| r != 0), ("top bit", |_, r| r >> 63 == 1)];
@@ -38,11 +38,6 @@ fn value(i: &Inputs) -> u64 {
     clamped(i128::from(i[0] as i64) * i128::from(i[1] as i64) / 1_000_000)
 }
 
-fn magnitude(i: &Inputs) -> u64 {
-    let [quantity, price] = [i[0], i[1]].map(|n| u128::from((n as i64).unsigned_abs()));
-    (quantity * price / 1_000_000).min(i64::MAX as u128) as u64
-}
-
 fn price_at(i: &Inputs) -> u64 {
     match i[1] as i64 {
         0 => 0,
@@ -57,9 +52,9 @@ pub const LEAVES: &[Leaf] = &[
         takes: &[U64, U64],
         gives: U64,
         port: |i| port::tc_mul_high(i[0], i[1]),
-        rust: |i| (product(i) >> 64) as u64,
-        nanobook: None,
+        rust: Some(|i| (product(i) >> 64) as u64),
         classes: WORDS,
+        ..PLAIN
     },
     Leaf {
         name: "tc_mul_low",
@@ -67,9 +62,9 @@ pub const LEAVES: &[Leaf] = &[
         takes: &[U64, U64],
         gives: U64,
         port: |i| port::tc_mul_low(i[0], i[1]),
-        rust: |i| product(i) as u64,
-        nanobook: None,
+        rust: Some(|i| product(i) as u64),
         classes: WORDS,
+        ..PLAIN
     },
     Leaf {
         name: "tc_div_high",
@@ -77,9 +72,9 @@ pub const LEAVES: &[Leaf] = &[
         takes: &[U64, U64, U64],
         gives: U64,
         port: |i| port::tc_div_high(i[0], i[1], i[2]),
-        rust: |i| (quotient(i) >> 64) as u64,
-        nanobook: None,
+        rust: Some(|i| (quotient(i) >> 64) as u64),
         classes: QUOTIENT,
+        ..PLAIN
     },
     Leaf {
         name: "tc_div_low",
@@ -87,9 +82,9 @@ pub const LEAVES: &[Leaf] = &[
         takes: &[U64, U64, U64],
         gives: U64,
         port: |i| port::tc_div_low(i[0], i[1], i[2]),
-        rust: |i| quotient(i) as u64,
-        nanobook: None,
+        rust: Some(|i| quotient(i) as u64),
         classes: QUOTIENT,
+        ..PLAIN
     },
     Leaf {
         name: "tc_snap_high",
@@ -97,9 +92,9 @@ pub const LEAVES: &[Leaf] = &[
         takes: &[U64, U64, U64],
         gives: U64,
         port: |i| port::tc_snap_high(i[0], i[1], i[2]),
-        rust: |i| (snapped(i) >> 64) as u64,
-        nanobook: None,
+        rust: Some(|i| (snapped(i) >> 64) as u64),
         classes: QUOTIENT,
+        ..PLAIN
     },
     Leaf {
         name: "tc_snap_low",
@@ -107,9 +102,9 @@ pub const LEAVES: &[Leaf] = &[
         takes: &[U64, U64, U64],
         gives: U64,
         port: |i| port::tc_snap_low(i[0], i[1], i[2]),
-        rust: |i| snapped(i) as u64,
-        nanobook: None,
+        rust: Some(|i| snapped(i) as u64),
         classes: QUOTIENT,
+        ..PLAIN
     },
     Leaf {
         name: "tc_value",
@@ -117,33 +112,20 @@ pub const LEAVES: &[Leaf] = &[
         takes: &[I64, I64],
         gives: I64,
         port: |i| port::tc_value(i[0] as i64, i[1] as i64) as u64,
-        rust: value,
+        rust: Some(value),
         nanobook: Some(|n, i| (n.notional_cents)(i[0] as i64, i[1] as i64) as u64),
         classes: CLAMPED,
-    },
-    Leaf {
-        name: "tc_magnitude",
-        number: 18,
-        takes: &[I64, I64],
-        gives: I64,
-        port: |i| port::tc_magnitude(i[0] as i64, i[1] as i64) as u64,
-        rust: magnitude,
-        nanobook: Some(|n, i| (n.notional_of)(i[0] as i64, i[1] as i64) as u64),
-        classes: &[
-            ("zero", |_, r| r == 0),
-            ("above zero", |_, r| (r as i64) > 0),
-            ("top", |_, r| r as i64 == i64::MAX),
-            ("of -2^63", |i, _| i[0] as i64 == i64::MIN),
-        ],
+        ..PLAIN
     },
     Leaf {
         name: "tc_price_at",
-        number: 19,
+        number: 18,
         takes: &[I64, I64],
         gives: I64,
         port: |i| port::tc_price_at(i[0] as i64, i[1] as i64) as u64,
-        rust: price_at,
+        rust: Some(price_at),
         nanobook: Some(|n, i| (n.avg_price)(i[0] as i64, i[1] as i64) as u64),
         classes: CLAMPED,
+        ..PLAIN
     },
 ];

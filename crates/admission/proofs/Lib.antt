@@ -1,0 +1,6 @@
+-- Laws of plans, for the proofs of this crate and of its callers.
+pub mod Plans
+pub mod Inserting
+pub mod Admitting
+pub mod Running
+pub mod Kept

@@ -1,0 +1,204 @@
+-- The orders passed, which are admitted whole, with what is admitted of those that are left, are what is admitted of all.
+use Prim.Native.Nat.{ℕ, _≤_, _-_, _+_}
+use mathlib.Core.Path.{_≡_, refl, sym, ap, _∙_}
+use mathlib.Core.List.{List, _++_}
+use native.Mathlib.Omega.{arith}
+use lib.IntN.{pos}
+use lib.Ieee.{Float}
+use lib.ListN.{length, getD, set, length-set}
+use mir.Syntax.{w64}
+use mir.Val.{SFits, toZ, ofZ}
+use mir.Facts.{toZ-ofZ}
+use borrow.Author.Needs.{needs}
+use Rattle.admission.specs.Columns.{cols, orderAt, from, plans}
+use Rattle.admission.specs.Admission.{admittedFrom, admitted}
+use Rattle.admission.specs.Offers.{offered}
+use Rattle.admission.proofs.Plans.{shorter-le, shorter-below, plans-few}
+use Rattle.admission.proofs.Admitting.{admit-start, admit-on, admit-ends, admit-part, admit-all, plans-cut}
+use Rattle.admission.proofs.cap.admit.Statement.{statement}
+use Rattle.admission.proofs.cap.admit.Tie as tie
+
+abbrev Inv-loop : tie.InvT-loop
+Inv-loop quantity₀ price n s m left₀ i₀ quantity left i =
+    (i ≤ m) × (m ≤ 64) × (m ≤ n) × (quantity ≡ quantity₀)
+    × ((k : List ℕ) (d : List Float)
+    → from (orderAt (cols k quantity₀ price d)) 0 i ++ admittedFrom s i (toZ w64 left) (from (orderAt (cols k quantity₀ price d)) i (m - i)) ≡ admitted s (plans n (cols k quantity₀ price d)))
+
+abbrev μ-loop : tie.MeasureT-loop
+μ-loop quantity₀ price n s m left₀ i₀ quantity left i = m - i
+
+fit-most : (s : tie.Start Inv-loop μ-loop) → SFits w64 (s .args .s .«max_rebalance_notional»)
+fit-most s = search needs
+
+abbrev at-loop : tie.After-offer Inv-loop μ-loop → tie.At-loop Inv-loop μ-loop
+at-loop d = d .before .before .before .before
+
+abbrev start : tie.At-loop Inv-loop μ-loop → tie.Start Inv-loop μ-loop
+start l = l .before .before .before
+
+offer-is : (d : tie.After-offer Inv-loop μ-loop) → offered (start (at-loop d) .args .s) (at-loop d .loop .i) (toZ w64 (at-loop d .loop .left))
+    (getD (start (at-loop d) .args .quantity .now) (at-loop d .loop .i) (pos 0)) (getD (start (at-loop d) .args .price .now) (at-loop d .loop .i) (pos 0))
+    ≡ d .offer .result
+offer-is d =
+    let l = at-loop d in
+    let a = start l .args in
+    let x : SFits w64 (getD (l .loop .quantity) (l .loop .i) (pos 0)) = search needs in
+    let y : SFits w64 (getD (a .price .now) (l .loop .i) (pos 0)) = search needs in
+    ap (λ q. offered (a .s) (l .loop .i) (toZ w64 (l .loop .left)) (getD q (l .loop .i) (pos 0)) (getD (a .price .now) (l .loop .i) (pos 0))) (sym (l .loop .inv .3))
+    ∙ sym (simp (toZ-ofZ x, toZ-ofZ y) at (d .offer .ensures))
+
+used-requires : tie.Need-used-requires Inv-loop μ-loop
+used-requires c κs = search needs
+
+loop-holds : tie.Need-loop-holds Inv-loop μ-loop
+loop-holds c =
+    let u = c .before .used in
+    let s = c .before .before in
+    let a = s .args in (
+      omega arith,
+      omega (arith, u .ensures, shorter-le (a .n) 64),
+      omega (arith, u .ensures, shorter-below (a .n) 64),
+      refl,
+      λ k d. simp (toZ-ofZ (fit-most s)) (admit-start (a .s) (a .n) (u .result) (cols k (a .quantity .now) (a .price .now) d) (u .ensures)),
+    )
+
+mul-q : tie.Need-mul-q Inv-loop μ-loop
+mul-q c = omega arith
+
+element-copy-out-q : tie.Need-element-copy-out-q Inv-loop μ-loop
+element-copy-out-q c = omega arith
+
+mul-p : tie.Need-mul-p Inv-loop μ-loop
+mul-p c = omega arith
+
+element-copy-out-p : tie.Need-element-copy-out-p Inv-loop μ-loop
+element-copy-out-p c = omega arith
+
+offer-requires : tie.Need-offer-requires Inv-loop μ-loop
+offer-requires c κs = search needs
+
+enum-known-o : tie.Need-enum-known-o Inv-loop μ-loop
+enum-known-o c = search needs
+
+enum-known-o-2 : tie.Need-enum-known-o-2 Inv-loop μ-loop
+enum-known-o-2 c = search needs
+
+mul-cut : tie.Need-mul-cut Inv-loop μ-loop
+mul-cut c = omega arith
+
+element-set-from-cut : tie.Need-element-set-from-cut Inv-loop μ-loop
+element-set-from-cut c = omega arith
+
+add-result : tie.Need-add-result Inv-loop μ-loop
+add-result c = omega arith
+
+returns : tie.Need-returns Inv-loop μ-loop
+returns c =
+    let d = c .before .before .before in
+    let l = at-loop d in
+    let a = start l .args in
+    let m = l .before .before .used .result in
+    let i = l .loop .i in
+    let t = d .before .before .before .loop-test .taken in
+    let cut = c .before .o2 .given .0 .0 in
+    let x : SFits w64 cut = search needs in
+    record {
+      no-more = omega (arith, t);
+      kept = simp length-set (ap length (l .loop .inv .3));
+      same =
+          λ h k e.
+          ap (λ q. plans (i + 1) (cols k (set q i (toZ w64 (ofZ w64 cut))) (a .price .now) e)) (l .loop .inv .3)
+          ∙ ap (λ z. plans (i + 1) (cols k (set (a .quantity .now) i z) (a .price .now) e)) (toZ-ofZ x)
+          ∙ plans-cut k (a .quantity .now) (a .price .now) e i cut (omega (arith, t)) h
+          ∙ admit-part (a .s) (a .n) m i (toZ w64 (l .loop .left)) (orderAt (cols k (a .quantity .now) (a .price .now) e)) _ t (l .loop .inv .4 k e) cut (offer-is d ∙ c .before .o2 .given .1);
+    }
+
+enum-told : tie.Need-enum-told Inv-loop μ-loop
+enum-told c = search needs
+
+returns-2 : tie.Need-returns-2 Inv-loop μ-loop
+returns-2 c =
+    let d = c .before .before in
+    let l = at-loop d in
+    let a = start l .args in
+    let m = l .before .before .used .result in
+    let i = l .loop .i in
+    let t = d .before .before .before .loop-test .taken in
+    record {
+      no-more = omega (arith, t);
+      kept = ap length (l .loop .inv .3);
+      same =
+          λ h k e.
+          ap (λ q. plans i (cols k q (a .price .now) e)) (l .loop .inv .3)
+          ∙ plans-few i _ (omega (arith, t))
+          ∙ admit-ends (a .s) (a .n) m i (toZ w64 (l .loop .left)) (orderAt (cols k (a .quantity .now) (a .price .now) e)) _ t (l .loop .inv .4 k e) (offer-is d ∙ c .enum-told .given .1);
+    }
+
+add-i : tie.Need-add-i Inv-loop μ-loop
+add-i c = omega arith
+
+loop-less : tie.Need-loop-less Inv-loop μ-loop
+loop-less c = omega arith
+
+loop-again : tie.Need-loop-again Inv-loop μ-loop
+loop-again c =
+    let d = c .before .before .before in
+    let l = at-loop d in
+    let a = start l .args in
+    let m = l .before .before .used .result in
+    let i = l .loop .i in
+    let t = d .before .before .before .loop-test .taken in
+    let rest = c .before .o .given .0 .0 in
+    let x : SFits w64 rest = search needs in (
+      omega (arith, t),
+      l .loop .inv .1,
+      l .loop .inv .2,
+      l .loop .inv .3,
+      λ k e.
+          simp (toZ-ofZ x)
+          (admit-on (a .s) (a .n) m i (toZ w64 (l .loop .left)) (orderAt (cols k (a .quantity .now) (a .price .now) e)) _ t (l .loop .inv .4 k e) rest (offer-is d ∙ c .before .o .given .1)),
+    )
+
+returns-3 : tie.Need-returns-3 Inv-loop μ-loop
+returns-3 c =
+    let l = c .before in
+    let a = start l .args in
+    let m = l .before .before .used .result in
+    let i = l .loop .i in
+    let z : m ≡ i = omega arith in
+    record {
+      no-more = l .loop .inv .2;
+      kept = ap length (l .loop .inv .3);
+      same =
+          λ h k e.
+          ap (λ q. plans m (cols k q (a .price .now) e)) (l .loop .inv .3)
+          ∙ plans-few m _ (l .loop .inv .1)
+          ∙ ap (from (orderAt (cols k (a .quantity .now) (a .price .now) e)) 0) z
+          ∙ admit-all (a .s) m i (toZ w64 (l .loop .left)) (orderAt (cols k (a .quantity .now) (a .price .now) e)) _ (c .loop-test .left) (l .loop .inv .4 k e);
+    }
+
+pub admit-spec : {M : Type 1} → statement M
+admit-spec =
+    tie.close
+    (tie.spec
+    Inv-loop
+    μ-loop
+    used-requires
+    loop-holds
+    mul-q
+    element-copy-out-q
+    mul-p
+    element-copy-out-p
+    offer-requires
+    enum-known-o
+    enum-known-o-2
+    mul-cut
+    element-set-from-cut
+    add-result
+    returns
+    enum-told
+    returns-2
+    add-i
+    loop-less
+    loop-again
+    returns-3)

@@ -1,0 +1,38 @@
+-- Caps, one order at a time: what becomes of an order that is offered, and what admission makes of the columns.
+use Prim.Native.Nat.{ℕ, _≤_}
+use mathlib.Core.Path.{_≡_}
+use mathlib.Core.List.{List}
+use lib.ListN.{length}
+use lib.IntN.{ℤ, pos, _-ℤ_}
+use lib.Signed.{ltZ, leZ}
+use lib.Ieee.{Float}
+use Rattle.words.specs.Sums.{notional}
+use Rattle.table.specs.Keyed.{pick}
+use Rattle.table.specs.Rows.{isZero}
+use Rattle.sizing.specs.Sizing.{cutTo}
+use Rattle.account.specs.declared.settings.Settings.{Settings}
+use Rattle.admission.specs.declared.cap.Offered.{Offered}
+use Rattle.admission.specs.declared.cap.Offered.the-variants.{Whole, Part, Ends}
+use Rattle.admission.specs.Admission.{reached, admitted}
+use Rattle.admission.specs.Columns.{cols, plans}
+
+-- "truncated to it by the same formula, kept if not zero and not under the minimum, and ends admission"
+unfoldable pub partOffered : Settings → ℤ → ℤ → ℤ → Offered
+partOffered s left quantity price =
+    let cut = cutTo quantity price (s .«quantity_step») left in
+    pick (isZero cut) Ends (pick (ltZ (notional cut price) (s .«min_order_value»)) Ends (Part cut))
+
+-- the order after n admitted ones, with `left` of the notional cap
+unfoldable pub offered : Settings → ℕ → ℤ → ℤ → ℤ → Offered
+offered s n left quantity price =
+    pick (reached (s .«max_trades_per_rebalance») n) Ends
+    (pick (leZ (s .«max_rebalance_notional») (pos 0)) (Whole left)
+    (pick (leZ left (pos 0)) Ends
+    (pick (ltZ left (notional quantity price)) (partOffered s left quantity price)
+    (Whole (left -ℤ notional quantity price)))))
+
+-- the columns and count of a plan to those of its admitted orders, whatever symbols and drifts stand beside them
+pub record Admits (s : Settings) (n : ℕ) (quantity price : List ℤ) (r : ℕ) (cut : List ℤ) : Type 0 where
+  pub no-more : r ≤ n
+  pub kept : length cut ≡ length quantity
+  pub same : length quantity ≡ 64 → (symbol : List ℕ) (drift : List Float) → plans r (cols symbol cut price drift) ≡ admitted s (plans n (cols symbol quantity price drift))

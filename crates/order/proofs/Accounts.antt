@@ -1,0 +1,65 @@
+-- Condition 3 on one sound account: what the code's test for soundness gives is all that is asked of the account.
+use Prim.Native.Nat.{ℕ}
+use mathlib.Core.Bool.{true}
+use mathlib.Core.List.{List}
+use mathlib.Core.Path.{_≡_, sym, ap, _∙_, subst}
+use lib.ListN.{length}
+use lib.IntN.{ℤ, pos, _+ℤ_}
+use Rattle.position.specs.declared.position.Position.{Position}
+use Rattle.cost_model.specs.declared.CostModel.{CostModel}
+use Rattle.cost_model.specs.Costs.{goodCosts}
+use Rattle.table.specs.Keyed.{both}
+use Rattle.table.specs.Rows.{Cols, rows, Ordered}
+use Rattle.table.proofs.Keyed.{both-true}
+use Rattle.account.specs.declared.account.Account.{Account}
+use Rattle.account.specs.Settings.{goodSettings}
+use Rattle.account.specs.Account.{soundScalars, soundTable, soundAccount, tableFrom, tableOf}
+use Rattle.account.proofs.Tables.{ordered-table}
+use Rattle.fills.specs.declared.order.Order.{Order}
+use Rattle.fills.specs.declared.order.Terms.{Terms}
+use Rattle.fills.specs.Orders.{State}
+use Rattle.fills.specs.Fill.{fillAll}
+use Rattle.order.specs.Running.{Perm, total, Room, NotBelow0, InRange}
+use Rattle.order.specs.Statement.{cashRaised, placesAsked, Batch, AllWhole, OrderIsFree}
+use Rattle.order.specs.OnAccount.{Begins, OrdersOn, SameAccount}
+use Rattle.order.proofs.OrderTheorem.{condition-3}
+
+sound-scalars : (a : Account) → soundAccount a ≡ true → NotBelow0 (a .cash) × (goodSettings (a .settings) ≡ true)
+unfolding soundAccount soundScalars
+sound-scalars a e = both-true _ _ (both-true _ (soundTable (a .positions)) e .0)
+
+good-costs : (a : Account) → goodSettings (a .settings) ≡ true → goodCosts (a .settings .«cost_model») ≡ true
+unfolding goodSettings
+good-costs a e = both-true (goodCosts (a .settings .«cost_model»)) _ e .0
+
+module _ (a : Account) (t : Terms) (os : List Order) (s : State) (g : OrdersOn a t os) (b : Begins a t s) where
+  batch : Batch t os s
+  batch =
+      let k = sound-scalars a (g .sound) in
+      record {
+        funded = record {
+          costs = subst (λ (m : CostModel). goodCosts m ≡ true) (sym (b .costs)) (good-costs a (k .1));
+          orders = g .orders;
+          cash-low = subst NotBelow0 (sym (b .cash)) (k .0);
+          cash-top = subst (λ (z : ℤ). InRange (z +ℤ pos (total (cashRaised t) os))) (sym (b .cash)) (g .cash-top);
+        };
+        different = g .different;
+        room = subst (λ (ps : List Position). Room (length ps) (total (placesAsked ps) os)) (sym (b .held)) (g .room);
+      }
+
+  -- both halves
+  pub order-is-free : OrderIsFree t os s
+  order-is-free = condition-3 t os s batch
+
+  -- the second, of the whole table
+  pub same-account : (v w : List Order) → Perm Order os v → Perm Order os w → AllWhole t v s → AllWhole t w s → SameAccount (fillAll t v s) (fillAll t w s)
+  same-account v w p q x y =
+      let same = order-is-free .same v w p q x y in
+      record { cash = same .cash; table = ap tableOf (same .held) }
+
+  -- and of the count and the five columns that two such runs leave
+  pub same-columns : (v w : List Order) → Perm Order os v → Perm Order os w → AllWhole t v s → AllWhole t w s
+      → (n m : ℕ) (c d : Cols) → Ordered n c → Ordered m d → rows n c ≡ fillAll t v s .held → rows m d ≡ fillAll t w s .held → tableFrom n c ≡ tableFrom m d
+  same-columns v w p q x y n m c d o k e f =
+      let same = order-is-free .same v w p q x y in
+      sym (ordered-table n c o) ∙ ap tableOf (e ∙ same .held ∙ sym f) ∙ ordered-table m d k

@@ -1,0 +1,69 @@
+// "Priced open holdings absent from targets are closed, in symbol order".
+ghost use mathlib.Core.Path.{_≡_};
+ghost use Rattle.feeds.specs.Lists.{among};
+ghost use Rattle.planning.specs.Plan.{plannedClose};
+ghost use Rattle.admission.specs.Columns.{cols, counted};
+ghost use Rattle.planner.specs.Adding.{Closes};
+use crate::place::used;
+use account::Settings;
+use admission::add_order;
+use admission::is_capped;
+use feeds::is_among;
+use feeds::quote;
+use planning::PlannedOrder;
+use planning::planned_close;
+use position::Shares;
+use position::Symbol;
+
+// The close of one holding, of nothing where its symbol is a target.
+fn close_of(
+    s: Settings,
+    equity: i64,
+    symbol: u64,
+    quantity: i64,
+    price: i64,
+    targets: &[u64],
+) -> PlannedOrder
+    ensures { λ r. ⌜ r ≡ plannedClose s equity symbol quantity price (among symbol (now (targets .entry))) ⌝ }
+{
+    let wanted = is_among(symbol, targets);
+    planned_close(s, equity, Symbol(symbol), Shares(quantity), price, wanted)
+}
+
+// Adds the closes of n holdings to a plan of m orders; returns the count. Symbols that ascend find their prices each at the
+// place after the last.
+pub fn plan_closes<'a>(
+    key: &'a [u64; 64],
+    held: &'a [i64; 64],
+    n: usize,
+    targets: &[u64],
+    symbols: &[u64],
+    prices: &[i64],
+    s: Settings,
+    equity: i64,
+    symbol: &mut [u64; 64],
+    quantity: &mut [i64; 64],
+    price: &mut [i64; 64],
+    drift: &mut [f64; 64],
+    m: usize,
+) -> usize
+    ensures { λ r. ⌜ Closes s equity (now (key .entry)) (now (held .entry)) n (now (targets .entry)) (now (symbols .entry)) (now (prices .entry))
+        (counted m (cols (now (symbol .entry)) (now (quantity .entry)) (now (price .entry)) (now (drift .entry))))
+        (counted r (cols (now (symbol .exit)) (now (quantity .exit)) (now (price .exit)) (now (drift .exit)))) ⌝ }
+{
+    let places = used(n, 64);
+    let capped = is_capped(s);
+    let mut count = m;
+    let mut hint = 0usize;
+    let mut i = 0usize;
+    while i < places {
+        let k = key[i];
+        let h = held[i];
+        let q = quote(symbols, prices, k, hint);
+        hint = q.next;
+        let o = close_of(s, equity, k, h, q.price, targets);
+        count = add_order(symbol, quantity, price, drift, count, o, capped);
+        i += 1;
+    }
+    count
+}

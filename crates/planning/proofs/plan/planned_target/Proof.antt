@@ -1,0 +1,58 @@
+-- Passed over where it is unpriced; else the gap as shares, at the drift of the gap.
+use mathlib.Core.Path.{ap, _∙_}
+use mathlib.Core.Bool.{not}
+use borrow.Author.Needs.{needs}
+use mir.Syntax.{w64}
+use mir.Val.{SFits}
+use mir.Facts.{toZ-ofZ}
+use Rattle.feeds.proofs.Lists.{below-one}
+use Rattle.planning.specs.Plan.{plannedTarget}
+use Rattle.planning.proofs.plan.planned_target.Statement.{statement}
+use Rattle.planning.proofs.plan.planned_target.Tie as tie
+
+passed-over-requires : tie.Need-passed-over-requires
+passed-over-requires c κs = search needs
+
+returns : tie.Need-returns
+unfolding plannedTarget
+returns c =
+    let s = c .before .before in
+    let e = below-one (s .args .price) ∙ ap not (simp (toZ-ofZ (s .fits .price)) at (c .before .if1 .taken)) in
+    simp e (c .passed-over .ensures)
+
+gap-of-requires : tie.Need-gap-of-requires
+gap-of-requires c κs = search needs
+
+size-qty-requires : tie.Need-size-qty-requires
+size-qty-requires c κs = search needs
+
+drift-bps-of-requires : tie.Need-drift-bps-of-requires
+drift-bps-of-requires c κs = search needs
+
+ordered-requires : tie.Need-ordered-requires
+ordered-requires c κs = search needs
+
+returns-2 : tie.Need-returns-2
+unfolding plannedTarget
+returns-2 c =
+    let d = c .before .drift-bps-of in
+    let q = c .before .before .size-qty in
+    let g = c .before .before .before .before .gap-of in
+    let p = c .before .before .before .before .before in
+    let s = p .before in
+    let e = below-one (s .args .price) ∙ ap not (simp (toZ-ofZ (s .fits .price)) at (p .if1 .left)) in
+    let fg : SFits w64 (g .result) = record { sfits = g .ok } in
+    let fs : SFits w64 (s .args .s .«quantity_step») = search needs in
+    simp e (c .ordered .ensures ∙ simp (q .ensures, d .ensures, toZ-ofZ (s .fits .price)) (simp (toZ-ofZ fg, toZ-ofZ (s .fits .equity), toZ-ofZ fs) (simp (g .ensures, toZ-ofZ (s .fits .price), toZ-ofZ (s .fits .equity)))))
+
+pub planned-target-spec : {M : Type 1} → statement M
+planned-target-spec =
+    tie.close
+    (tie.spec
+    passed-over-requires
+    returns
+    gap-of-requires
+    size-qty-requires
+    drift-bps-of-requires
+    ordered-requires
+    returns-2)

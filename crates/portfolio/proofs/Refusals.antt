@@ -1,0 +1,114 @@
+-- Which answers are refusals, and what a call that is not refused has.
+use Prim.Native.Nat.{ℕ, _+_, _≤_, _<_}
+use mathlib.Core.Path.{_≡_, refl, sym, ap, _∙_}
+use mathlib.Core.Bool.{Bool, true, false}
+use mathlib.Core.List.{List, []}
+use native.Mathlib.Omega.{arith}
+use lib.Dec.{eqb, leb}
+use lib.IntN.{ℤ}
+use borrow.Author.Tests.{leb-true, le-leb, lt-leb}
+use Rattle.answer.specs.declared.Answer.{Answer}
+use Rattle.answer.specs.declared.Answer.the-variants.{Done, BadSetting, BadSymbol, Twice, BadPrice, BadWeight, TooLong, TooMany, NoRecordRoom, NotHeld, BufferFull, Unsound, BadSeries}
+use Rattle.answer.specs.Numbers.{numberOf}
+use Rattle.table.specs.Keyed.{pick, both}
+use Rattle.table.proofs.Keyed.{both-true}
+use Rattle.feeds.specs.Checks.{unless, listsAnswer, pricesAnswer}
+use Rattle.account.specs.declared.account.Account.{Account}
+use Rattle.account.specs.Account.{soundAccount}
+use Rattle.portfolio.specs.Answers.{isDone, orLater, queryAnswer, returnAnswer}
+
+pub done-by-number : (w : Answer) → eqb (numberOf w) 0 ≡ isDone w
+done-by-number Done = refl
+done-by-number BadSetting = refl
+done-by-number BadSymbol = refl
+done-by-number Twice = refl
+done-by-number BadPrice = refl
+done-by-number BadWeight = refl
+done-by-number TooLong = refl
+done-by-number TooMany = refl
+done-by-number NoRecordRoom = refl
+done-by-number NotHeld = refl
+done-by-number BufferFull = refl
+done-by-number Unsound = refl
+done-by-number BadSeries = refl
+
+clash : {A : Type 0} (b : Bool) → b ≡ true → b ≡ false → A
+clash b p q = absurd (let z : _≡_ {A = Bool} true false = sym p ∙ q in let n : _≡_ {A = ℕ} 0 1 = cc in omega arith)
+
+pub done-is : (w : Answer) → isDone w ≡ true → w ≡ Done
+done-is Done e = refl
+done-is BadSetting e = clash false e refl
+done-is BadSymbol e = clash false e refl
+done-is Twice e = clash false e refl
+done-is BadPrice e = clash false e refl
+done-is BadWeight e = clash false e refl
+done-is TooLong e = clash false e refl
+done-is TooMany e = clash false e refl
+done-is NoRecordRoom e = clash false e refl
+done-is NotHeld e = clash false e refl
+done-is BufferFull e = clash false e refl
+done-is Unsound e = clash false e refl
+done-is BadSeries e = clash false e refl
+
+-- a test that was passed, and the answer after it
+pub passed : (ok : Bool) (refusal later : Answer) → isDone refusal ≡ false → isDone (unless ok refusal later) ≡ true → (ok ≡ true) × (isDone later ≡ true)
+passed true refusal later n e = (refl, e)
+passed false refusal later n e = clash (isDone refusal) e n
+
+pub passed-both : (first later : Answer) → isDone (orLater first later) ≡ true → (isDone first ≡ true) × (isDone later ≡ true)
+passed-both first later e = go (isDone first) refl
+  where
+    go : (b : Bool) → isDone first ≡ b → (isDone first ≡ true) × (isDone later ≡ true)
+    go true q = (q, rw q at e)
+    go false q = let h : isDone first ≡ true = rw q at e in clash (isDone first) h q
+
+-- ---- a query with prices
+pub record Queried (a : Account) (ps : List ℕ) (vs : List ℤ) : Type 0 where
+  pub sound : soundAccount a ≡ true
+  pub prices : pricesAnswer ps vs ≡ Done
+
+pub query-done : (a : Account) (ps : List ℕ) (vs : List ℤ) → isDone (queryAnswer a ps vs) ≡ true → Queried a ps vs
+unfolding queryAnswer
+query-done a ps vs e =
+    let p = passed (soundAccount a) Unsound (pricesAnswer ps vs) refl e in
+    record { sound = p .0; prices = done-is _ (p .1) }
+
+-- ---- recording a return
+-- the answer of a query comes first
+pub return-as-query : (a : Account) (ps : List ℕ) (vs : List ℤ) (n m : ℕ) → returnAnswer a ps vs n m
+    ≡ orLater (queryAnswer a ps vs) (unless (both (leb (a .series .«equity_count» + 1) n) (leb (a .series .«return_count» + 1) m)) BufferFull Done)
+unfolding returnAnswer queryAnswer
+return-as-query a ps vs n m = go (soundAccount a)
+  where
+    go : (b : Bool) → unless b Unsound (orLater (pricesAnswer ps vs) (unless (both (leb (a .series .«equity_count» + 1) n) (leb (a .series .«return_count» + 1) m)) BufferFull Done))
+        ≡ orLater (unless b Unsound (pricesAnswer ps vs)) (unless (both (leb (a .series .«equity_count» + 1) n) (leb (a .series .«return_count» + 1) m)) BufferFull Done)
+    go true = refl
+    go false = refl
+
+module _ (a : Account) (ps : List ℕ) (vs : List ℤ) (n m : ℕ) where
+  pub return-unqueried : isDone (queryAnswer a ps vs) ≡ false → returnAnswer a ps vs n m ≡ queryAnswer a ps vs
+  return-unqueried e = return-as-query a ps vs n m ∙ rw e
+
+  module _ (e : isDone (queryAnswer a ps vs) ≡ true) where
+    pub return-no-equity : n ≤ a .series .«equity_count» → returnAnswer a ps vs n m ≡ BufferFull
+    return-no-equity h = return-as-query a ps vs n m ∙ simp (e, lt-leb (a .series .«equity_count» + 1) n (omega arith))
+
+    pub return-no-return : a .series .«equity_count» < n → m ≤ a .series .«return_count» → returnAnswer a ps vs n m ≡ BufferFull
+    return-no-return g h = return-as-query a ps vs n m ∙ simp (e, le-leb (a .series .«equity_count» + 1) n (omega arith), lt-leb (a .series .«return_count» + 1) m (omega arith))
+
+    pub return-roomy : a .series .«equity_count» < n → a .series .«return_count» < m → returnAnswer a ps vs n m ≡ Done
+    return-roomy g h = return-as-query a ps vs n m ∙ simp (e, le-leb (a .series .«equity_count» + 1) n (omega arith), le-leb (a .series .«return_count» + 1) m (omega arith))
+
+pub record Returned (a : Account) (ps : List ℕ) (vs : List ℤ) (n m : ℕ) : Type 0 where
+  pub query : queryAnswer a ps vs ≡ Done
+  pub equities : a .series .«equity_count» < n
+  pub returns : a .series .«return_count» < m
+
+pub return-done : (a : Account) (ps : List ℕ) (vs : List ℤ) (n m : ℕ) → isDone (returnAnswer a ps vs n m) ≡ true → Returned a ps vs n m
+return-done a ps vs n m e =
+    let p = passed-both (queryAnswer a ps vs) _ (sym (ap isDone (return-as-query a ps vs n m)) ∙ e) in
+    let q = passed (both (leb (a .series .«equity_count» + 1) n) (leb (a .series .«return_count» + 1) m)) BufferFull Done refl (p .1) in
+    let r = both-true (leb (a .series .«equity_count» + 1) n) _ (q .0) in
+    let k : a .series .«equity_count» + 1 ≤ n = leb-true _ _ (r .0) in
+    let l : a .series .«return_count» + 1 ≤ m = leb-true _ _ (r .1) in
+    record { query = done-is _ (p .0); equities = omega arith; returns = omega arith }

@@ -1,0 +1,80 @@
+-- When each call is refused: document 01, 'Answer numbers', in the order 11, 1, 6, 2, 3, 5, 4, 8, 7, 9, 10, 12.
+use Prim.Native.Nat.{ℕ, _+_, _/_, min}
+use mathlib.Core.Bool.{Bool, true, false, not}
+use mathlib.Core.List.{List, [], _∷_}
+use lib.Dec.{leb}
+use lib.ListN.{length}
+use lib.IntN.{ℤ, pos}
+use lib.Signed.{leZ}
+use lib.Ieee.{Float}
+use Rattle.answer.specs.declared.Answer.{Answer}
+use Rattle.answer.specs.declared.Answer.the-variants.{Done, BadSetting, BadSymbol, Twice, BadPrice, BadWeight, TooLong, TooMany, NoRecordRoom, NotHeld, BufferFull, Unsound, BadSeries}
+use Rattle.position.specs.declared.position.Position.{Position}
+use Rattle.position.specs.Rows.{keyOf}
+use Rattle.position.specs.Symbols.{goodSymbol}
+use Rattle.table.specs.Keyed.{pick, both, there, seek}
+use Rattle.table.specs.Rows.{holding, isZero}
+use Rattle.feeds.specs.Checks.{unless, listsAnswer, pricesAnswer}
+use Rattle.account.specs.declared.account.Account.{Account}
+use Rattle.account.specs.Account.{soundAccount, heldIn}
+
+abbrev pub isDone : Answer → Bool
+isDone Done = true
+isDone BadSetting = false
+isDone BadSymbol = false
+isDone Twice = false
+isDone BadPrice = false
+isDone BadWeight = false
+isDone TooLong = false
+isDone TooMany = false
+isDone NoRecordRoom = false
+isDone NotHeld = false
+isDone BufferFull = false
+isDone Unsound = false
+isDone BadSeries = false
+
+-- the later answer where this one is done
+abbrev pub orLater : Answer → Answer → Answer
+orLater answer later = pick (isDone answer) later answer
+
+-- the places of a record buffer of four words and eight numbers a record
+abbrev pub places : ℕ → ℕ → ℕ
+places words ints = min (words / 4) (ints / 8)
+
+-- "recording is on and the record buffer has under 64 places"; "For closing, 8 asks for one place."
+unfoldable pub hasRoom : Account → ℕ → ℕ → Bool
+hasRoom a asked room = pick (a .settings .recording) (leb asked room) true
+
+-- target symbols that the account does not hold
+unfoldable pub notHeld : List ℕ → List Position → ℕ
+notHeld [] held = 0
+notHeld (s ∷ l) held = pick (there (seek keyOf s held)) (notHeld l held) (notHeld l held + 1)
+
+unfoldable pub rebalanceAnswer : Account → List ℕ → List Float → List ℕ → List ℤ → ℕ → Answer
+rebalanceAnswer a ts ws ps vs room =
+    unless (soundAccount a) Unsound
+    (orLater (listsAnswer ts ws ps vs)
+    (unless (hasRoom a 64 room) NoRecordRoom
+    (unless (leb (length (heldIn (a .positions)) + notHeld ts (heldIn (a .positions))) 64) TooMany
+    Done)))
+
+unfoldable pub closeAnswer : Account → ℕ → ℤ → ℕ → Answer
+closeAnswer a s price room =
+    unless (soundAccount a) Unsound
+    (unless (goodSymbol s) BadSymbol
+    (unless (leZ (pos 1) price) BadPrice
+    (unless (hasRoom a 1 room) NoRecordRoom
+    (unless (not (isZero (holding s (heldIn (a .positions)) .quantity .0))) NotHeld
+    Done))))
+
+-- a query with prices
+unfoldable pub queryAnswer : Account → List ℕ → List ℤ → Answer
+queryAnswer a ps vs = unless (soundAccount a) Unsound (pricesAnswer ps vs)
+
+-- "`record_return` gives 10 when either buffer is full, even if no return is due"
+unfoldable pub returnAnswer : Account → List ℕ → List ℤ → ℕ → ℕ → Answer
+returnAnswer a ps vs equities returns =
+    unless (soundAccount a) Unsound
+    (orLater (pricesAnswer ps vs)
+    (unless (both (leb (a .series .«equity_count» + 1) equities) (leb (a .series .«return_count» + 1) returns)) BufferFull
+    Done))

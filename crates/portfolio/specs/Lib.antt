@@ -1,0 +1,6 @@
+-- What each call on an account answers, and what it leaves.
+pub mod Answers
+pub mod Rebalance
+pub mod Close
+pub mod Returns
+pub mod Queries

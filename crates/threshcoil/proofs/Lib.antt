@@ -1,0 +1,3 @@
+-- Laws of lent places.
+pub mod Places
+pub mod Refusals
