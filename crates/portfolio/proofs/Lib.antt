@@ -1,3 +1,4 @@
 -- Laws of whole calls on an account.
 pub mod Refusals
 pub mod Worths
+pub mod Trading

@@ -5,7 +5,8 @@ use mathlib.Core.Bool.{Bool, true, false}
 use mathlib.Core.List.{List, []}
 use native.Mathlib.Omega.{arith}
 use lib.Dec.{eqb, leb}
-use lib.IntN.{ℤ}
+use lib.IntN.{ℤ, pos}
+use lib.Signed.{leZ}
 use borrow.Author.Tests.{leb-true, le-leb, lt-leb}
 use Rattle.answer.specs.declared.Answer.{Answer}
 use Rattle.answer.specs.declared.Answer.the-variants.{Done, BadSetting, BadSymbol, Twice, BadPrice, BadWeight, TooLong, TooMany, NoRecordRoom, NotHeld, BufferFull, Unsound, BadSeries}
@@ -14,8 +15,9 @@ use Rattle.table.specs.Keyed.{pick, both}
 use Rattle.table.proofs.Keyed.{both-true}
 use Rattle.feeds.specs.Checks.{unless, listsAnswer, pricesAnswer}
 use Rattle.account.specs.declared.account.Account.{Account}
+use Rattle.position.specs.Symbols.{goodSymbol}
 use Rattle.account.specs.Account.{soundAccount}
-use Rattle.portfolio.specs.Answers.{isDone, orLater, queryAnswer, returnAnswer}
+use Rattle.portfolio.specs.Answers.{isDone, orLater, hasRoom, queryAnswer, returnAnswer, closeAnswer}
 
 pub done-by-number : (w : Answer) → eqb (numberOf w) 0 ≡ isDone w
 done-by-number Done = refl
@@ -112,3 +114,17 @@ return-done a ps vs n m e =
     let k : a .series .«equity_count» + 1 ≤ n = leb-true _ _ (r .0) in
     let l : a .series .«return_count» + 1 ≤ m = leb-true _ _ (r .1) in
     record { query = done-is _ (p .0); equities = omega arith; returns = omega arith }
+
+-- ---- closing
+pub record Closing (a : Account) (room : ℕ) : Type 0 where
+  pub sound : soundAccount a ≡ true
+  pub roomy : hasRoom a 1 room ≡ true
+
+pub close-done : (a : Account) (s : ℕ) (price : ℤ) (room : ℕ) → isDone (closeAnswer a s price room) ≡ true → Closing a room
+unfolding closeAnswer
+close-done a s price room e =
+    let p = passed (soundAccount a) Unsound _ refl e in
+    let q = passed (goodSymbol s) BadSymbol _ refl (p .1) in
+    let r = passed (leZ (pos 1) price) BadPrice _ refl (q .1) in
+    let t = passed (hasRoom a 1 room) NoRecordRoom _ refl (r .1) in
+    record { sound = p .0; roomy = t .0 }

@@ -2,5 +2,6 @@
 pub mod Answers
 pub mod Rebalance
 pub mod Close
+pub mod Trades
 pub mod Returns
 pub mod Queries

@@ -1,7 +1,11 @@
 // Whole calls on an account: what each is refused for, and what it leaves.
+mod close;
 mod equity;
 mod refusal;
 mod returns;
+mod trade;
 
+pub use close::close_position_at;
 pub use equity::total_equity;
 pub use returns::record_return;
+pub use trade::Traded;

@@ -1,9 +1,17 @@
 // What each call is refused for, in the order of document 01.
 ghost use mathlib.Core.Path.{_≡_};
-ghost use Rattle.portfolio.specs.Answers.{isDone, queryAnswer, returnAnswer};
+ghost use mathlib.Core.Bool.{true};
+ghost use Rattle.portfolio.specs.Answers.{isDone, places, hasRoom, queryAnswer, returnAnswer, closeAnswer};
+ghost use Rattle.table.specs.Rows.{holding};
+ghost use Rattle.account.specs.Account.{soundTable, heldIn};
 use account::Account;
 use answer::Answer;
 use feeds::check_prices;
+use position::Position;
+use position::Symbol;
+use table::Table;
+use table::find;
+use table::held;
 
 pub(crate) fn is_done(answer: Answer) -> bool
     ensures { λ r. ⌜ r ≡ isDone answer ⌝ }
@@ -40,6 +48,66 @@ pub(crate) fn return_answer(
     }
     if returns as u64 <= a.series.return_count {
         return Answer::BufferFull;
+    }
+    Answer::Done
+}
+
+// The places of a record buffer of four words and eight numbers a record.
+pub(crate) fn places(words: usize, ints: usize) -> usize
+    ensures { λ r. ⌜ r ≡ places words ints ⌝ }
+{
+    let w = words / 4;
+    let i = ints / 8;
+    if w < i { w } else { i }
+}
+
+// Not "recording is on and the record buffer has under 64 places", or under those that a call asks for.
+pub(crate) fn has_room(a: Account, asked: usize, room: usize) -> bool
+    ensures { λ r. ⌜ r ≡ hasRoom a asked room ⌝ }
+{
+    if a.settings.recording {
+        return asked <= room;
+    }
+    true
+}
+
+// The position of a symbol, flat where there is none.
+pub(crate) fn holding_of(positions: Table, symbol: u64) -> Position
+    requires { ⌜ soundTable positions ≡ true ⌝ }
+    ensures { λ r. ⌜ r ≡ holding symbol (heldIn positions) ⌝ }
+{
+    let n = positions.count;
+    let f = find(&positions.symbol[..], n, symbol, 0);
+    held(
+        &positions.symbol,
+        &positions.quantity,
+        &positions.avg_entry_price,
+        &positions.realized_pnl,
+        &positions.total_cost,
+        f,
+        symbol,
+    )
+}
+
+// "For closing, 8 asks for one place."
+pub(crate) fn close_answer(a: Account, symbol: u64, price: i64, room: usize) -> Answer
+    ensures { λ r. ⌜ r ≡ closeAnswer a symbol price room ⌝ }
+{
+    if !a.is_sound() {
+        return Answer::Unsound;
+    }
+    if !Symbol(symbol).is_good() {
+        return Answer::BadSymbol;
+    }
+    if price < 1 {
+        return Answer::BadPrice;
+    }
+    if !has_room(a, 1, room) {
+        return Answer::NoRecordRoom;
+    }
+    let p = holding_of(a.positions, symbol);
+    if p.quantity.is_zero() {
+        return Answer::NotHeld;
     }
     Answer::Done
 }

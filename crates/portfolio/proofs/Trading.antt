@@ -1,0 +1,93 @@
+-- A run of orders on an account's columns is the run on the account, and its records stand in the first places.
+use Prim.Native.Nat.{ℕ, _+_, _*_, _/_, _≤_, min}
+use mathlib.Core.Path.{_≡_, refl, sym, ap, _∙_}
+use mathlib.Core.Bool.{Bool, true, false}
+use mathlib.Core.List.{List, [], _∷_}
+use native.Mathlib.Omega.{arith}
+use lib.Dec.{leb}
+use lib.ListN.{length, take, length-take, set, replicate}
+use lib.IntN.{ℤ, pos}
+use borrow.Author.Tests.{leb-true}
+use Rattle.answer.specs.declared.Answer.the-variants.{Done}
+use Rattle.table.specs.Keyed.{pick}
+use Rattle.table.specs.Rows.{Cols, cols, columnsOf, rows, Full, Ordered}
+use Rattle.fills.specs.declared.order.Book.{Book}
+use Rattle.fills.specs.declared.order.Order.{Order}
+use Rattle.fills.specs.declared.record.ExecutionKind.{ExecutionKind}
+use Rattle.fills.specs.declared.record.ExecutionRecord.{ExecutionRecord}
+use Rattle.fills.specs.Orders.{State}
+use Rattle.fills.specs.Records.{Buffers, buffers, allWords, allInts, fronted}
+use Rattle.fills.specs.Runs.{order, orders, state, Runs}
+use Rattle.fills.specs.Fill.{fillAll}
+use Rattle.fills.proofs.Fronts.{run-fronts, unrecorded, unrecorded-run}
+use Rattle.account.specs.declared.account.Account.{Account}
+use Rattle.account.specs.Account.{heldIn, tableFrom, tableOf}
+use Rattle.account.proofs.Tables.{ordered-table}
+use Rattle.portfolio.specs.declared.trade.Traded.{Traded}
+use Rattle.portfolio.specs.Answers.{isDone, places, hasRoom, closeAnswer}
+use Rattle.portfolio.specs.Rebalance.{Outcome, termsOf, stateOf, accountAfter}
+use Rattle.words.specs.Sums.{satNeg}
+use Rattle.table.specs.Rows.{holding}
+use Rattle.portfolio.specs.Close.{closeOrder, afterClose, closed}
+use Rattle.portfolio.specs.Trades.{Filed, filed, filedBy, stateAfter, afterOrders, bookOf, accountFrom}
+
+pub orders-most : (m : ℕ) (s : List ℕ) (q p : List ℤ) → length (orders m s q p) ≤ m
+unfolding orders
+orders-most m s q p = simp length-take (omega arith)
+
+-- ---- the room that was asked for
+room-recorded : (m w i : ℕ) → leb m (places w i) ≡ true → (m * 4 ≤ w) × (m * 8 ≤ i)
+room-recorded m w i e =
+    let h : m ≤ min (w / 4) (i / 8) = leb-true _ _ e in
+    (omega arith, omega arith)
+
+abbrev pub filing : Account → Buffers → Filed
+filing x b = record { answer = Done; account = x; records = b .written; words = b .words; ints = b .ints }
+
+module _ (a : Account) (os : List Order) (period : ℕ) (kind : ExecutionKind) (ws : List ℕ) (is : List ℤ) (r : Book) (d : Cols) (ws′ : List ℕ) (is′ : List ℤ)
+    (m : ℕ) (few : length os ≤ m) (room : hasRoom a m (places (length ws) (length is)) ≡ true)
+    (h : Runs (termsOf a period kind) os (bookOf a) (columnsOf (a .positions)) (buffers ws is 0) r d (buffers ws′ is′ (r .written))) where
+  abbrev made : List ExecutionRecord
+  made = stateAfter a os period kind .records
+
+  abbrev fronts : List ExecutionRecord → Buffers
+  fronts rs = buffers (fronted (allWords rs) ws) (fronted (allInts rs) is) (length rs)
+
+  -- "records fill the first places [..] and the rest are as found"
+  records-filed : buffers ws′ is′ (r .written) ≡ fronts made
+  unfolding hasRoom allWords allInts
+  records-filed = go (a .settings .recording) refl
+    where
+      go : (b : Bool) → a .settings .recording ≡ b → buffers ws′ is′ (r .written) ≡ fronts made
+      go true e =
+          let k = room-recorded m (length ws) (length is) (rw e at room) in
+          let u : length os * 4 ≤ length ws = omega (arith, k .0) in
+          let v : length os * 8 ≤ length is = omega (arith, k .1) in
+          run-fronts _ os (bookOf a) (columnsOf (a .positions)) (buffers ws is 0) r d (buffers ws′ is′ (r .written)) h refl u v
+      go false e =
+          let n : made ≡ [] = unrecorded (termsOf a period kind) os (stateOf a) e in
+          unrecorded-run _ os (bookOf a) (columnsOf (a .positions)) (buffers ws is 0) r d (buffers ws′ is′ (r .written)) h e ∙ sym (ap fronts n)
+
+  account-put : (n : ℕ) (traded : ℤ) → accountFrom a r (tableFrom (r .count) d) n traded ≡ accountAfter a (stateAfter a os period kind) n traded
+  unfolding accountAfter
+  account-put n traded = ap (λ t. accountFrom a r t n traded) (sym (ordered-table (r .count) d (h .ordered))) ∙ ap (λ s. accountAfter a s n traded) (h .done)
+
+  pub run-filed : (n : ℕ) (traded : ℤ) → filing (accountFrom a r (tableFrom (r .count) d) n traded) (buffers ws′ is′ (r .written)) ≡ filed (afterOrders a os period kind n traded) ws is
+  run-filed n traded = ap (λ x. filing x (buffers ws′ is′ (r .written))) (account-put n traded) ∙ ap (filing (accountAfter a (stateAfter a os period kind) n traded)) records-filed
+
+-- ---- a close is a run of one order
+pub one-order : (s : ℕ) (q p : ℤ) → orders 1 (set (replicate 64 0) 0 s) (set (replicate 64 (pos 0)) 0 q) (set (replicate 64 (pos 0)) 0 p) ≡ order s q p ∷ []
+unfolding orders
+one-order s q p = refl
+
+-- a run that leaves the last-rebalance figures
+abbrev kept : Account → ℕ → ExecutionKind → List Order → Outcome
+kept a period kind os = afterOrders a os period kind (a .counters .«last_rebalance_order_count») (a .counters .«last_rebalance_notional»)
+
+module _ (a : Account) (s : ℕ) (price : ℤ) (period : ℕ) (kind : ExecutionKind) (room : ℕ) where
+  pub closed-by-run : isDone (closeAnswer a s price room) ≡ true → (q : ℤ) → q ≡ satNeg (holding s (heldIn (a .positions)) .quantity .0)
+      → afterOrders a (orders 1 (set (replicate 64 0) 0 s) (set (replicate 64 (pos 0)) 0 q) (set (replicate 64 (pos 0)) 0 price)) period kind (a .counters .«last_rebalance_order_count») (a .counters .«last_rebalance_notional»)
+      ≡ closed a s price period kind room
+  unfolding closed afterClose fillAll
+  closed-by-run e q h =
+      rw e (ap (kept a period kind) (one-order s q price) ∙ ap (λ k. kept a period kind (order s k price ∷ [])) h)

@@ -1,0 +1,78 @@
+-- What a call that trades leaves: the answer, the account, and the records in the lent slices.
+use Prim.Native.Nat.{ℕ}
+use mathlib.Core.Path.{_≡_}
+use mathlib.Core.List.{List, []}
+use lib.ListN.{length}
+use lib.IntN.{ℤ, pos}
+use Rattle.answer.specs.declared.Answer.{Answer}
+use Rattle.answer.specs.declared.Answer.the-variants.{Done}
+use Rattle.table.specs.declared.table.Table.{Table}
+use Rattle.table.specs.Rows.{columnsOf, Full}
+use Rattle.fills.specs.declared.order.Book.{Book}
+use Rattle.fills.specs.declared.order.Order.{Order}
+use Rattle.fills.specs.declared.record.ExecutionKind.{ExecutionKind}
+use Rattle.fills.specs.Orders.{State}
+use Rattle.fills.specs.Records.{allWords, allInts, fronted}
+use Rattle.fills.specs.Fill.{fillAll}
+use Rattle.account.specs.declared.account.Account.{Account}
+use Rattle.portfolio.specs.declared.trade.Traded.{Traded}
+use Rattle.portfolio.specs.Rebalance.{Outcome, termsOf, stateOf, accountAfter}
+
+-- what a call answers, and the two slices as it leaves them
+pub record Filed : Type 0 where
+  pub answer : Answer
+  pub account : Account
+  pub records : ℕ
+  pub words : List ℕ
+  pub ints : List ℤ
+
+abbrev pub filedBy : Traded → List ℕ → List ℤ → Filed
+filedBy r ws is = record { answer = r .answer; account = r .account; records = r .records; words = ws; ints = is }
+
+-- "records fill the first places, the answer counts them, and the rest are as found"
+abbrev pub filed : Outcome → List ℕ → List ℤ → Filed
+filed o ws is = record { answer = o .answer; account = o .account; records = length (o .records); words = fronted (allWords (o .records)) ws; ints = fronted (allInts (o .records)) is }
+
+-- ---- a run of orders on an account
+abbrev pub stateAfter : Account → List Order → ℕ → ExecutionKind → State
+stateAfter a os period kind = fillAll (termsOf a period kind) os (stateOf a)
+
+-- with the two last-rebalance figures
+abbrev pub afterOrders : Account → List Order → ℕ → ExecutionKind → ℕ → ℤ → Outcome
+afterOrders a os period kind orders traded = record {
+  answer = Done;
+  account = accountAfter a (stateAfter a os period kind) orders traded;
+  records = stateAfter a os period kind .records;
+}
+
+-- ---- the account taken apart, and put together
+abbrev pub bookOf : Account → Book
+bookOf a = record {
+  cash = a .cash;
+  count = a .positions .count;
+  trimmed = a .counters .«trimmed_fill_count»;
+  shortfall = a .counters .«trimmed_shortfall_cents»;
+  sequence = a .counters .«record_count»;
+  written = 0;
+  hint = 0;
+}
+
+-- the scalars of an account, whose columns have 64 places
+pub record Begins (a : Account) (b : Book) : Type 0 where
+  pub same : b ≡ bookOf a
+  pub full : Full (columnsOf (a .positions))
+
+abbrev pub accountFrom : Account → Book → Table → ℕ → ℤ → Account
+accountFrom a b t orders traded = record {
+  cash = b .cash;
+  settings = a .settings;
+  counters = record {
+    «last_rebalance_order_count» = orders;
+    «last_rebalance_notional» = traded;
+    «trimmed_fill_count» = b .trimmed;
+    «trimmed_shortfall_cents» = b .shortfall;
+    «record_count» = b .sequence;
+  };
+  series = a .series;
+  positions = t;
+}
