@@ -1,5 +1,7 @@
 // The plan of a rebalance, made in lent columns: closes in symbol order, then targets in list order.
 mod close;
 mod place;
+mod target;
 
 pub use close::plan_closes;
+pub use target::plan_targets;
