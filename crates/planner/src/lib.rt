@@ -1,7 +1,9 @@
 // The plan of a rebalance, made in lent columns: closes in symbol order, then targets in list order.
 mod close;
 mod place;
+mod plan;
 mod target;
 
 pub use close::plan_closes;
+pub use plan::admit_plan;
 pub use target::plan_targets;
