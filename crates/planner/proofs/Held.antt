@@ -20,9 +20,11 @@ use Rattle.table.proofs.Posting.{held-is-holding}
 use Rattle.account.specs.declared.settings.Settings.{Settings}
 use Rattle.planning.specs.declared.plan.PlannedOrder.{PlannedOrder}
 use Rattle.planning.specs.Plan.{closing, closings, targeting, targetings, wanted}
+use Rattle.admission.specs.Admission.{addedAll, admitted}
+use Rattle.admission.specs.Running.{planOf}
 use Rattle.admission.specs.Columns.{from}
 use Rattle.admission.proofs.Plans.{shorter-same}
-use Rattle.planner.specs.Adding.{closeAt, closesAt, quantityAt, targetAt, targetsAt}
+use Rattle.planner.specs.Adding.{closeAt, closesAt, quantityAt, targetAt, targetsAt, wantedAt}
 
 quantity-held : (f : Found) (s : ℕ) (c : Cols) → quantityAt f (c .quantity) ≡ heldAt f s c .quantity .0
 quantity-held (At i) s c = go (ltb i 64)
@@ -66,6 +68,10 @@ module _ (s : Settings) (equity : ℤ) (price : ℕ → ℤ) (targets : List ℕ
     unfolding targetsAt
     targets-of-rows = ap (from (targetAt s equity price (take n (c .symbol)) (c .quantity) targets weights) 0) (shorter-same (length targets) (length weights) (omega arith)) ∙ targets-from 0 (length targets) (omega arith)
 
-    pub wanted-of-rows : closesAt s equity price targets n (c .symbol) (c .quantity) ++ targetsAt s equity price (take n (c .symbol)) (c .quantity) targets weights ≡ wanted s equity price (rows n c) targets weights
-    unfolding wanted
+    pub wanted-of-rows : wantedAt s equity price n (c .symbol) (c .quantity) targets weights ≡ wanted s equity price (rows n c) targets weights
+    unfolding wanted wantedAt
     wanted-of-rows = rw (closes-of-rows n (o .full) (o .small), targets-of-rows)
+
+    pub plan-of-rows : admitted s (addedAll s (wantedAt s equity price n (c .symbol) (c .quantity) targets weights) []) ≡ planOf s equity price (rows n c) targets weights
+    unfolding planOf
+    plan-of-rows = ap (λ l. admitted s (addedAll s l [])) wanted-of-rows
