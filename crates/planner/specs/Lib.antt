@@ -1,2 +1,3 @@
 -- The plan of a rebalance as it is made in columns.
 pub mod Adding
+pub mod Planning
