@@ -7,5 +7,7 @@ mod trade;
 
 pub use close::close_position_at;
 pub use equity::total_equity;
+pub use refusal::is_done;
+pub use refusal::query_answer;
 pub use returns::record_return;
 pub use trade::Traded;

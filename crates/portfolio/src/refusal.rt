@@ -13,14 +13,14 @@ use table::Table;
 use table::find;
 use table::held;
 
-pub(crate) fn is_done(answer: Answer) -> bool
+pub fn is_done(answer: Answer) -> bool
     ensures { λ r. ⌜ r ≡ isDone answer ⌝ }
 {
     answer::number(answer) == 0
 }
 
 // A query with prices.
-pub(crate) fn query_answer(a: Account, symbols: &[u64], prices: &[i64]) -> Answer
+pub fn query_answer(a: Account, symbols: &[u64], prices: &[i64]) -> Answer
     ensures { λ r. ⌜ r ≡ queryAnswer a (now (symbols .entry)) (now (prices .entry)) ⌝ }
 {
     if !a.is_sound() {
