@@ -4,8 +4,8 @@ use native.Mathlib.Omega.{arith}
 use mathlib.Core.Path.{sym}
 use Rattle.octets.specs.Words.{turned}
 use Rattle.octets.proofs.Words.{put-fits, put-past, digits-turned}
-use Rattle.octets.proofs.word.put_symbol.Statement.{statement}
-use Rattle.octets.proofs.word.put_symbol.Tie as tie
+use Rattle.octets.proofs.symbol.put_symbol.Statement.{statement}
+use Rattle.octets.proofs.symbol.put_symbol.Tie as tie
 
 returns : tie.Need-returns
 returns c =

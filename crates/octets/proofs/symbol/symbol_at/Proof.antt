@@ -5,8 +5,8 @@ use mathlib.Core.Path.{sym, ap, _∙_}
 use lib.ListN.{getD}
 use Rattle.octets.specs.Words.{turned}
 use Rattle.octets.proofs.Words.{octets, symbol-at, word-past}
-use Rattle.octets.proofs.word.symbol_at.Statement.{statement}
-use Rattle.octets.proofs.word.symbol_at.Tie as tie
+use Rattle.octets.proofs.symbol.symbol_at.Statement.{statement}
+use Rattle.octets.proofs.symbol.symbol_at.Tie as tie
 
 mul-from-big : tie.Need-mul-from-big
 mul-from-big c = search needs
