@@ -1,0 +1,21 @@
+// Entries of two words, sixteen bytes.
+ghost use mathlib.Core.Path.{_≡_};
+ghost use Rattle.lists.specs.Entries.{wholeOf, countOf};
+
+// Whether so many bytes are a whole number of entries, and no more than the bound.
+pub(crate) fn is_whole(bytes: usize, most: usize) -> bool
+    ensures { λ r. ⌜ r ≡ wholeOf most bytes ⌝ }
+{
+    if bytes % 16 == 0 {
+        bytes / 16 <= most
+    } else {
+        false
+    }
+}
+
+// How many entries are read: none of a list that is not whole.
+pub(crate) fn count_of(bytes: usize, most: usize) -> usize
+    ensures { λ r. ⌜ r ≡ countOf most bytes ⌝ }
+{
+    if is_whole(bytes, most) { bytes / 16 } else { 0 }
+}
