@@ -9,7 +9,7 @@ use lib.Dec.{eqb, leb}
 use lib.ListN.{length, take, set, replicate, length-append}
 use lib.Seq.{set-at, take-at}
 use borrow.Author.Tests.{leb-true}
-use Rattle.table.specs.Keyed.{pick, both}
+use Rattle.table.specs.Keyed.{pick}
 use Rattle.table.proofs.Keyed.{both-true}
 use Rattle.lists.specs.Entries.{wholeOf, countOf, places, padded}
 
@@ -28,6 +28,11 @@ module _ {A : Type 0} where
   unfolding places
   places-long zero f = refl
   places-long (suc n) f = simp length-append (omega (arith, places-long n f))
+
+  pub places-same : (n : ℕ) (f g : ℕ → A) → ((i : ℕ) → f i ≡ g i) → places n f ≡ places n g
+  unfolding places
+  places-same zero f g e = refl
+  places-same (suc n) f g e = ap (λ k. k ++ (f n ∷ [])) (places-same n f g e) ∙ ap (λ k. places n g ++ (k ∷ [])) (e n)
 
   -- the next place of a padded column
   pub put-next : (w n : ℕ) (z : A) (f : ℕ → A) → n < w → set (padded w z (places n f)) n (f n) ≡ padded w z (places (suc n) f)

@@ -1,7 +1,7 @@
 -- Of a list that is whole, the first places of a column are what the bytes hold: all of it, and nothing more.
 use Prim.Native.Nat.{ℕ, _/_}
 use mathlib.Core.Path.{_≡_}
-use mathlib.Core.Bool.{true, false}
+use mathlib.Core.Bool.{true}
 use mathlib.Core.List.{List}
 use lib.IntN.{pos}
 use lib.Ieee.{binary64, ofBits}

@@ -1,5 +1,6 @@
-// Entries of two words, sixteen bytes.
+// How many entries there are. Those that are read have two words, sixteen bytes.
 ghost use mathlib.Core.Path.{_≡_};
+ghost use Prim.Native.Nat.{min};
 ghost use Rattle.lists.specs.Entries.{wholeOf, countOf};
 
 // Whether so many bytes are a whole number of entries, and no more than the bound.
@@ -18,4 +19,11 @@ pub(crate) fn count_of(bytes: usize, most: usize) -> usize
     ensures { λ r. ⌜ r ≡ countOf most bytes ⌝ }
 {
     if is_whole(bytes, most) { bytes / 16 } else { 0 }
+}
+
+// The lesser of two counts.
+pub(crate) fn least(a: usize, b: usize) -> usize
+    ensures { λ r. ⌜ r ≡ min a b ⌝ }
+{
+    if a < b { a } else { b }
 }

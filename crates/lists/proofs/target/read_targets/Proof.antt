@@ -1,6 +1,6 @@
 -- After i turns the columns hold the first i entries, and zeros after them.
 use Prim.Native.Nat.{_-_, _≤_, _<_}
-use mathlib.Core.Path.{_≡_, refl, sym, ap, _∙_}
+use mathlib.Core.Path.{_≡_, refl, ap, _∙_}
 use native.Mathlib.Omega.{arith}
 use lib.Ieee.{binary64, ofBits}
 use lib.ListN.{length}
