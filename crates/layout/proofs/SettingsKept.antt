@@ -1,10 +1,10 @@
 -- Settings that are written are read back, and bytes of settings that are read are written back.
 use mathlib.Core.Path.{_≡_, refl, sym, _∙_, ap, subst}
 use mathlib.Core.Bool.{Bool, true, false, not}
-use Prim.Native.Nat.{ℕ, zero, suc, _+_, _/_, _<_, _≤_, _^_}
+use Prim.Native.Nat.{ℕ, zero, suc, _+_, _/_, _<_, _^_}
 use native.Mathlib.Omega.{arith}
-use mathlib.Core.List.{List, [], _∷_, _++_}
-use lib.Dec.{T, eqb, ltb}
+use mathlib.Core.List.{List, _∷_, _++_}
+use lib.Dec.{T, eqb}
 use lib.ListN.{length, getD}
 use lib.Seq.{take-all}
 use lib.Ieee.{Float, nan, inf, fin, binary64, fits, isNan, le}
@@ -23,7 +23,7 @@ use Rattle.cost_model.specs.Costs as Costs
 use Rattle.cost_model.specs.Costs.{goodRate}
 use Rattle.cost_model.proofs.Costs.{good-parts as good-costs}
 use Rattle.octets.specs.Words.{wordsIn, wordsOf, bytesOf}
-use Rattle.octets.specs.Numbers.{signedOf, unsignedOf, floatOf, patternOf}
+use Rattle.octets.specs.Numbers.{floatOf, patternOf}
 use Rattle.octets.proofs.Words.{Words, Octets, length-words, words-bytes, length-bytes, words-fit, bytes-words}
 use Rattle.octets.proofs.Numbers.{signed-unsigned, unsigned-signed, unsigned-lt, float-pattern, pattern-float, pattern-lt}
 use Rattle.layout.specs.Settings.{flagWord, flagOf, isFlag, isNumber, capMark, capCount, capOf, isCap, settingsWords, settingsAt, areSettings, gotSettings, noSettings, readSettings, writtenSettings}
