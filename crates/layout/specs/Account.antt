@@ -87,7 +87,7 @@ abbrev pub noAccount : ReadAccount
 noAccount = record { good = false; account = zeroAccount }
 
 -- ---- bytes
--- "good exactly when the length is 2,736, marks and flags are 0 or 1, an absent cap's number is 0 and no f64 is a NaN"
+-- "Account bytes of the wrong length answer 11", and so do words that no account has; whether the account is sound is for the calls to refuse.
 unfoldable pub readAccount : List ℕ → ReadAccount
 readAccount l = pick (both (eqb (length l) 2736) (areSettings 1 (wordsOf l))) (gotAccount (accountOf (wordsOf l))) noAccount
 

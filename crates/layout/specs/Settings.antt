@@ -76,7 +76,7 @@ settingsAt from ws =
     (flagOf (getD ws (from + 10) 0))
     (flagOf (getD ws (from + 11) 0))
 
--- Whether they are words of settings: "marks and flags are 0 or 1, an absent cap's number is 0 and no f64 is a NaN".
+-- Whether they are words of settings: marks and flags 0 or 1, the count of an absent cap 0, and no rate a NaN. So no two runs of words hold the same settings.
 unfoldable pub areSettings : ℕ → List ℕ → Bool
 areSettings from ws =
     both (isNumber (getD ws from 0))

@@ -62,7 +62,7 @@ fn cap_of(mark: u64, count: u64) -> TradeCap
     }
 }
 
-// "an absent cap's number is 0"
+// A mark is 0 or 1, and a cap that is absent has the count 0.
 fn is_cap(mark: u64, count: u64) -> bool
     ensures { λ r. ⌜ r ≡ isCap mark count ⌝ }
 {

@@ -46,7 +46,7 @@ putWord l i w = cond (ltb i (length l / 8)) (sets l (8 * i) (digits 8 w)) l
 unfoldable pub turned : ℕ → ℕ
 turned w = big (digits 8 w)
 
--- "a symbol stands as its text": eight bytes in reading order.
+-- A symbol stands as its text: document 01's "1 to 8 bytes, [..] padded with zeros", in reading order.
 abbrev pub symbolAt : List ℕ → ℕ → ℕ
 symbolAt l i = turned (wordAt l i)
 

@@ -38,6 +38,7 @@ pub(crate) fn from_little(bytes: &[u8], at: usize) -> u64
     packed(b0, b1, b2, b3, b4, b5, b6, b7)
 }
 
+// The same with the first byte highest.
 pub(crate) fn from_big(bytes: &[u8], at: usize) -> u64
     requires { ⌜ at + 8 ≤ length (now bytes) ⌝ }
     ensures { λ r. ⌜ r ≡ big (eightAt (now (bytes .entry)) at) ⌝ }
@@ -60,6 +61,7 @@ pub(crate) fn low(w: u64) -> u8
     (w % 256) as u8
 }
 
+// Eight bytes, from a place on.
 pub(crate) fn store(
     bytes: &mut [u8],
     at: usize,
