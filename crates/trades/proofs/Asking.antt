@@ -6,6 +6,7 @@ use mathlib.Core.List.{List}
 use native.Mathlib.Omega.{arith}
 use lib.Dec.{leb}
 use lib.IntN.{ℤ}
+use lib.Ieee.{Float}
 use borrow.Author.Tests.{le-leb, lt-leb, leb-true, leb-false}
 use Rattle.answer.specs.declared.Answer.{Answer}
 use Rattle.answer.specs.declared.Answer.the-variants.{Done, BadSetting, TooLong, Unsound}
@@ -15,8 +16,8 @@ use Rattle.fills.specs.declared.record.ExecutionKind.{ExecutionKind}
 use Rattle.account.specs.declared.account.Account.{Account}
 use Rattle.account.specs.Account.{soundAccount}
 use Rattle.layout.specs.Account.{readAccount}
-use Rattle.portfolio.specs.Answers.{isDone, hasRoom, closeAnswer}
-use Rattle.portfolio.specs.Rebalance.{refused}
+use Rattle.portfolio.specs.Answers.{isDone, hasRoom, closeAnswer, rebalanceAnswer}
+use Rattle.portfolio.specs.Rebalance.{refused, rebalanced}
 use Rattle.portfolio.specs.Close.{closed}
 use Rattle.trades.specs.Asked.{accountIn, goodKind, asked, early}
 
@@ -68,3 +69,13 @@ module _ (a : Account) (s : ℕ) (price : ℤ) (period : ℕ) (kind : ExecutionK
   pub close-unsound : (q : ℕ) → soundAccount a ≡ false → closed a s price period kind q ≡ refused Unsound a
   unfolding closed closeAnswer
   close-unsound q e = simp e
+
+-- ---- a rebalance
+module _ (a : Account) (ts : List ℕ) (ws : List Float) (ps : List ℕ) (vs : List ℤ) (period : ℕ) (kind : ExecutionKind) where
+  pub rebalance-room : (q : ℕ) → rebalanced a ts ws ps vs period kind (min q 64) ≡ rebalanced a ts ws ps vs period kind q
+  unfolding rebalanced rebalanceAnswer
+  rebalance-room q = simp (room-enough a 64 q)
+
+  pub rebalance-unsound : (q : ℕ) → soundAccount a ≡ false → rebalanced a ts ws ps vs period kind q ≡ refused Unsound a
+  unfolding rebalanced rebalanceAnswer
+  rebalance-unsound q e = simp e

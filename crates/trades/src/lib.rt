@@ -2,3 +2,4 @@
 mod asked;
 mod closing;
 mod filing;
+mod rebalancing;
