@@ -7,6 +7,7 @@ use native.Mathlib.Omega.{arith}
 use lib.Dec.{leb}
 use lib.IntN.{ℤ}
 use lib.Ieee.{Float}
+use lib.ListN.{length, take, length-take}
 use borrow.Author.Tests.{le-leb, lt-leb, leb-true, leb-false}
 use Rattle.answer.specs.declared.Answer.{Answer}
 use Rattle.answer.specs.declared.Answer.the-variants.{Done, BadSetting, TooLong, Unsound}
@@ -16,9 +17,10 @@ use Rattle.fills.specs.declared.record.ExecutionKind.{ExecutionKind}
 use Rattle.account.specs.declared.account.Account.{Account}
 use Rattle.account.specs.Account.{soundAccount}
 use Rattle.layout.specs.Account.{readAccount}
-use Rattle.portfolio.specs.Answers.{isDone, hasRoom, closeAnswer, rebalanceAnswer}
+use Rattle.portfolio.specs.Answers.{isDone, hasRoom, closeAnswer, rebalanceAnswer, returnAnswer}
 use Rattle.portfolio.specs.Rebalance.{refused, rebalanced}
 use Rattle.portfolio.specs.Close.{closed}
+use Rattle.portfolio.specs.Returns.{recorded}
 use Rattle.trades.specs.Asked.{accountIn, goodKind, asked, early}
 
 module _ {X : Type 0} (refuse : Answer → X) (call : X) where
@@ -79,3 +81,12 @@ module _ (a : Account) (ts : List ℕ) (ws : List Float) (ps : List ℕ) (vs : L
   pub rebalance-unsound : (q : ℕ) → soundAccount a ≡ false → rebalanced a ts ws ps vs period kind q ≡ refused Unsound a
   unfolding rebalanced rebalanceAnswer
   rebalance-unsound q e = simp e
+
+-- ---- a return
+pub return-unsound : (a : Account) (ps : List ℕ) (vs es : List ℤ) (rs : List Float) → soundAccount a ≡ false → recorded a ps vs es rs ≡ record { answer = Unsound; account = a; equities = es; returns = rs }
+unfolding recorded returnAnswer
+return-unsound a ps vs es rs e = simp e
+
+-- ---- a front of a column that is as long as the count lies within it
+pub within : {A : Type 0} (n : ℕ) (l : List A) → length (take n l) ≡ n → n ≤ length l
+within n l e = omega (arith, length-take n l)

@@ -3,3 +3,4 @@ mod asked;
 mod closing;
 mod filing;
 mod rebalancing;
+mod recording;

@@ -1,16 +1,15 @@
 -- The call, and what it leaves.
-use Prim.Native.Nat.{ℕ, _≤_}
 use mathlib.Core.Path.{_≡_, sym, _∙_}
-use mathlib.Core.List.{List}
 use native.Mathlib.Omega.{arith}
 use borrow.Author.Needs.{needs}
-use lib.ListN.{length, take, length-take}
+use lib.ListN.{length, take}
 use Rattle.lists.specs.Lists.{symbolsIn, weightsIn, pricesIn}
 use Rattle.lists.proofs.Lists.{target-symbols, target-weights, price-symbols, price-prices, target-symbols-long, target-weights-long, price-symbols-long, price-prices-long}
 use Rattle.portfolio.specs.Answers.{places}
 use Rattle.portfolio.specs.Rebalance.{rebalanced}
 use Rattle.portfolio.specs.Trades.{filed, filedBy}
 use Rattle.trades.specs.Asked.{kindOf}
+use Rattle.trades.proofs.Asking.{within}
 use Rattle.trades.proofs.Finishing.{few-records, count-is, finished-told}
 use Rattle.trades.proofs.rebalancing.rebalance_at.Statement.{statement}
 use Rattle.trades.proofs.rebalancing.rebalance_at.Tie as tie
@@ -36,9 +35,6 @@ made c =
     simp (t .before .kind-of .ensures, t .read-targets .ensures, prices-read c .read-prices .ensures, target-symbols ts (s .pre .0), target-weights ts (s .pre .0), price-symbols ps (s .pre .1), price-prices ps (s .pre .1)) at (c .rebalance-simple .ensures)
 
 -- ---- what is lent of each column
-within : {A : Type 0} (n : ℕ) (l : List A) → length (take n l) ≡ n → n ≤ length l
-within n l e = omega (arith, length-take n l)
-
 targets-lent : (c : tie.After-read-targets) → let t = c .read-targets .result in length (take (t .count) (t .symbol)) ≡ t .count
 targets-lent c = rw (c .read-targets .ensures) (target-symbols-long (c .before .before .before .before .before .before .before .args .targets .now))
 
