@@ -6,8 +6,8 @@ use mathlib.Core.List.{List, [], _∷_, _++_, append-assoc}
 use native.Mathlib.Omega.{arith}
 use native.Mathlib.Numerals.{add-one}
 use lib.Dec.{eqb, leb}
-use lib.ListN.{length, take, set, replicate, length-append}
-use lib.Seq.{set-at, take-at}
+use lib.ListN.{length, take, set, replicate, length-append, length-replicate}
+use lib.Seq.{set-at, take-at, length-take-le}
 use borrow.Author.Tests.{leb-true}
 use Rattle.table.specs.Keyed.{pick}
 use Rattle.table.proofs.Keyed.{both-true}
@@ -56,6 +56,19 @@ module _ {A : Type 0} where
 
   pub read-all : (w most n : ℕ) (z : A) (f : ℕ → A) → padded w z (places (countOf most n) f) ≡ padded w z (pick (wholeOf most n) (places (n / 16) f) [])
   read-all w most n z f = ap (padded w z) (read most n f (wholeOf most n))
+
+  listed : (n : ℕ) (f : ℕ → A) (b : Bool) → length (pick b (places (n / 16) f) []) ≡ pick b (n / 16) 0
+  listed n f true = places-long (n / 16) f
+  listed n f false = refl
+
+  -- as many places of a column are lent as are read
+  pub front-long : (w n : ℕ) (z : A) (f : ℕ → A) → length (take (countOf w n) (padded w z (pick (wholeOf w n) (places (n / 16) f) []))) ≡ countOf w n
+  front-long w n z f =
+      let l = pick (wholeOf w n) (places (n / 16) f) [] in
+      let e : length l ≡ countOf w n = listed n f (wholeOf w n) in
+      let h = count-small w n in
+      let g : countOf w n ≤ length (padded w z l) = simp (length-append, length-replicate) (omega arith) in
+      length-take-le (countOf w n) (padded w z l) g
 
   -- what a caller lends of a column is the whole list
   pub front-all : (w most n : ℕ) (z : A) (f : ℕ → A) → wholeOf most n ≡ true → take (countOf most n) (padded w z (pick (wholeOf most n) (places (n / 16) f) [])) ≡ places (n / 16) f

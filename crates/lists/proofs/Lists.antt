@@ -1,5 +1,5 @@
 -- Of a list that is whole, the first places of a column are what the bytes hold: all of it, and nothing more.
-use Prim.Native.Nat.{ℕ, _/_}
+use Prim.Native.Nat.{ℕ, _/_, _≤_}
 use mathlib.Core.Path.{_≡_}
 use mathlib.Core.Bool.{true}
 use mathlib.Core.List.{List}
@@ -8,7 +8,7 @@ use lib.Ieee.{binary64, ofBits}
 use lib.ListN.{length, take}
 use Rattle.lists.specs.Entries.{wholeList}
 use Rattle.lists.specs.Lists.{symbolOf, weightOf, priceOf, symbolsIn, weightsIn, pricesIn, targetsOf, pricesOf}
-use Rattle.lists.proofs.Columns.{places-long, front-all}
+use Rattle.lists.proofs.Columns.{count-small, places-long, front-all, front-long}
 
 module _ (l : List ℕ) where
   pub symbols-long : length (symbolsIn l) ≡ length l / 16
@@ -35,3 +35,28 @@ module _ (l : List ℕ) where
   pub price-prices : wholeList 128 l ≡ true → take (pricesOf l .count) (pricesOf l .price) ≡ pricesIn l
   unfolding pricesOf
   price-prices e = front-all 128 128 (length l) (pos 0) (priceOf l) e
+
+  -- ---- and so many of them
+  pub target-symbols-long : length (take (targetsOf l .count) (targetsOf l .symbol)) ≡ targetsOf l .count
+  unfolding targetsOf
+  target-symbols-long = front-long 64 (length l) 0 (symbolOf l)
+
+  pub target-weights-long : length (take (targetsOf l .count) (targetsOf l .weight)) ≡ targetsOf l .count
+  unfolding targetsOf
+  target-weights-long = front-long 64 (length l) (ofBits binary64 0) (weightOf l)
+
+  pub price-symbols-long : length (take (pricesOf l .count) (pricesOf l .symbol)) ≡ pricesOf l .count
+  unfolding pricesOf
+  price-symbols-long = front-long 128 (length l) 0 (symbolOf l)
+
+  pub price-prices-long : length (take (pricesOf l .count) (pricesOf l .price)) ≡ pricesOf l .count
+  unfolding pricesOf
+  price-prices-long = front-long 128 (length l) (pos 0) (priceOf l)
+
+  pub targets-small : targetsOf l .count ≤ 64
+  unfolding targetsOf
+  targets-small = count-small 64 (length l)
+
+  pub prices-small : pricesOf l .count ≤ 128
+  unfolding pricesOf
+  prices-small = count-small 128 (length l)

@@ -78,12 +78,12 @@ rows-of : (rs : List ExecutionRecord) → length (allRows rs) ≡ 12 * length rs
 rows-of [] = refl
 rows-of (r ∷ rs) = omega (arith, rows-of rs)
 
-words-of : (rs : List ExecutionRecord) → length (allWords rs) ≡ 4 * length rs
+pub words-of : (rs : List ExecutionRecord) → length (allWords rs) ≡ 4 * length rs
 unfolding allWords
 words-of [] = refl
 words-of (r ∷ rs) = omega (arith, words-of rs)
 
-ints-of : (rs : List ExecutionRecord) → length (allInts rs) ≡ 8 * length rs
+pub ints-of : (rs : List ExecutionRecord) → length (allInts rs) ≡ 8 * length rs
 unfolding allInts
 ints-of [] = refl
 ints-of (r ∷ rs) = omega (arith, ints-of rs)

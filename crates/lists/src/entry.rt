@@ -4,7 +4,7 @@ ghost use Prim.Native.Nat.{min};
 ghost use Rattle.lists.specs.Entries.{wholeOf, countOf};
 
 // Whether so many bytes are a whole number of entries, and no more than the bound.
-pub(crate) fn is_whole(bytes: usize, most: usize) -> bool
+pub fn is_whole(bytes: usize, most: usize) -> bool
     ensures { λ r. ⌜ r ≡ wholeOf most bytes ⌝ }
 {
     if bytes % 16 == 0 {

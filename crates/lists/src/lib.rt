@@ -5,6 +5,7 @@ mod record;
 mod target;
 mod weight;
 
+pub use entry::is_whole;
 pub use price::Prices;
 pub use price::read_prices;
 pub use record::write_records;

@@ -1,0 +1,48 @@
+-- What a call over bytes is refused for before it is made: answers 11, 1 and 6, in this order.
+use Prim.Native.Nat.{ℕ, _%_}
+use mathlib.Core.Bool.{Bool}
+use mathlib.Core.List.{List}
+use lib.Dec.{eqb, ltb}
+use Rattle.answer.specs.declared.Answer.{Answer}
+use Rattle.answer.specs.declared.Answer.the-variants.{Done, BadSetting, TooLong, Unsound}
+use Rattle.table.specs.Keyed.{pick, both}
+use Rattle.fills.specs.declared.record.ExecutionKind.{ExecutionKind}
+use Rattle.fills.specs.declared.record.ExecutionKind.the-variants.{Rebalance, StopExit}
+use Rattle.feeds.specs.Checks.{unless}
+use Rattle.account.specs.declared.account.Account.{Account}
+use Rattle.account.specs.Account.{soundAccount}
+use Rattle.layout.specs.declared.account_words.ReadAccount.{ReadAccount}
+use Rattle.layout.specs.Account.{readAccount}
+
+-- the account that bytes hold
+abbrev pub accountIn : List ℕ → Account
+accountIn b = readAccount b .account
+
+-- "Account bytes of the wrong length answer 11", as do a bad mark or flag and a NaN, and an account that is not sound
+abbrev pub soundIn : List ℕ → Bool
+soundIn b = both (readAccount b .good) (soundAccount (accountIn b))
+
+-- "an unknown kind answers 1"
+abbrev pub goodKind : ℕ → Bool
+goodKind k = ltb k 2
+
+abbrev pub kindOf : ℕ → ExecutionKind
+kindOf k = pick (eqb k 0) Rebalance StopExit
+
+-- whether n bytes are a whole number of records
+abbrev pub wholeRun : ℕ → Bool
+wholeRun n = eqb (n % 96) 0
+
+-- the call, unless something of what it is given is bad
+unfoldable pub asked : {X : Type 0} → (Answer → X) → List ℕ → ℕ → Bool → X → X
+asked refuse b kind whole call = pick (soundIn b) (pick (goodKind kind) (pick whole call (refuse TooLong)) (refuse BadSetting)) (refuse Unsound)
+
+-- ---- what the code does
+-- done where the call is to be made, which tells an unsound account itself
+unfoldable pub early : ReadAccount → ℕ → Bool → Answer
+early r kind whole =
+    unless (r .good) Unsound
+    (pick (both (goodKind kind) whole) Done
+    (unless (soundAccount (r .account)) Unsound
+    (unless (goodKind kind) BadSetting
+    TooLong)))

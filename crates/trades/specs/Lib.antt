@@ -1,0 +1,5 @@
+-- What the contracts of this crate cite.
+pub mod Asked
+pub mod Told
+pub mod Calls
+pub mod Returns

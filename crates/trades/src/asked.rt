@@ -1,0 +1,58 @@
+// What a call is refused for before it is made.
+ghost use mathlib.Core.Path.{_≡_};
+ghost use Rattle.answer.specs.declared.Answer.the-variants.{Unsound};
+ghost use Rattle.table.specs.Keyed.{both};
+ghost use Rattle.feeds.specs.Checks.{unless};
+ghost use Rattle.account.specs.Account.{soundAccount};
+ghost use Rattle.trades.specs.Asked.{kindOf, wholeRun, early};
+use account::Account;
+use answer::Answer;
+use fills::ExecutionKind;
+use layout::ReadAccount;
+
+// The kind of a number that is known.
+pub(crate) fn kind_of(kind: u64) -> ExecutionKind
+    ensures { λ r. ⌜ r ≡ kindOf kind ⌝ }
+{
+    if kind == 0 {
+        ExecutionKind::Rebalance
+    } else {
+        ExecutionKind::StopExit
+    }
+}
+
+// Whether so many bytes are a whole number of records.
+pub(crate) fn whole_run(bytes: usize) -> bool
+    ensures { λ r. ⌜ r ≡ wholeRun bytes ⌝ }
+{
+    bytes % 96 == 0
+}
+
+pub(crate) fn both(a: bool, b: bool) -> bool
+    ensures { λ r. ⌜ r ≡ both a b ⌝ }
+{
+    if a { b } else { false }
+}
+
+// Another answer, unless the account is not sound.
+fn unsound_or(a: Account, other: Answer) -> Answer
+    ensures { λ r. ⌜ r ≡ unless (soundAccount a) Unsound other ⌝ }
+{
+    if a.is_sound() { other } else { Answer::Unsound }
+}
+
+// Done where the call is to be made. It tells an unsound account itself, so that soundness is looked at twice only where something else is bad.
+pub(crate) fn early(r: ReadAccount, kind: u64, whole: bool) -> Answer
+    ensures { λ a. ⌜ a ≡ early r kind whole ⌝ }
+{
+    if !r.good {
+        return Answer::Unsound;
+    }
+    if 1 < kind {
+        return unsound_or(r.account, Answer::BadSetting);
+    }
+    if !whole {
+        return unsound_or(r.account, Answer::TooLong);
+    }
+    Answer::Done
+}
