@@ -6,6 +6,7 @@ use mathlib.Core.List.{List, [], _∷_, _++_}
 use native.Mathlib.Omega.{arith}
 use lib.Dec.{leb}
 use lib.IntN.{ℤ, pos}
+use lib.Ieee.{Float}
 use lib.ListN.{length, take, drop, replicate, take-append-drop, length-append}
 use lib.Seq.{length-take-le}
 use borrow.Author.Tests.{leb-true, leb-false, le-leb, lt-leb}
@@ -14,8 +15,8 @@ use Rattle.fills.specs.declared.record.ExecutionRecord.{ExecutionRecord}
 use Rattle.fills.specs.Records.{allWords, allInts, fronted}
 use Rattle.account.specs.declared.account.Account.{Account}
 use Rattle.portfolio.specs.declared.trade.Traded.{Traded}
-use Rattle.portfolio.specs.Answers.{places, hasRoom, closeAnswer}
-use Rattle.portfolio.specs.Rebalance.{Outcome}
+use Rattle.portfolio.specs.Answers.{places, hasRoom, rebalanceAnswer, closeAnswer}
+use Rattle.portfolio.specs.Rebalance.{Outcome, rebalanced}
 use Rattle.portfolio.specs.Close.{closed}
 use Rattle.portfolio.specs.Trades.{Filed, filed, filedBy}
 use Rattle.records.specs.declared.into.Numbers.{Numbers}
@@ -42,6 +43,15 @@ close-answer-within-64 a s price room = simp (room-within-64 a 1 room (omega ari
 pub closed-within-64 : (a : Account) (s : ℕ) (price : ℤ) (period : ℕ) (kind : ExecutionKind) (room : ℕ) → closed a s price period kind (min room 64) ≡ closed a s price period kind room
 unfolding closed
 closed-within-64 a s price period kind room = simp (close-answer-within-64 a s price room)
+
+rebalance-answer-within-64 : (a : Account) (ts : List ℕ) (ws : List Float) (ps : List ℕ) (vs : List ℤ) (room : ℕ) → rebalanceAnswer a ts ws ps vs (min room 64) ≡ rebalanceAnswer a ts ws ps vs room
+unfolding rebalanceAnswer
+rebalance-answer-within-64 a ts ws ps vs room = simp (room-within-64 a 64 room (omega arith))
+
+pub rebalanced-within-64 : (a : Account) (ts : List ℕ) (ws : List Float) (ps : List ℕ) (vs : List ℤ) (period : ℕ) (kind : ExecutionKind) (room : ℕ)
+    → rebalanced a ts ws ps vs period kind (min room 64) ≡ rebalanced a ts ws ps vs period kind room
+unfolding rebalanced
+rebalanced-within-64 a ts ws ps vs period kind room = simp (rebalance-answer-within-64 a ts ws ps vs room)
 
 -- ---- the first places of a part are the first places of the whole
 front-of-part : {A : Type 0} (xs : List A) (k : ℕ) (l : List A) → length xs ≤ k → k ≤ length l → fronted xs (take k l) ++ drop k l ≡ fronted xs l
