@@ -1,7 +1,6 @@
 -- A record read from number slices is the one that was stored there.
 use Prim.Native.Nat.{ℕ, zero, suc, _+_, _*_, _/_, _≤_, _<_}
 use mathlib.Core.Path.{_≡_, refl, sym, ap, _∙_}
-use mathlib.Core.Bool.{true, false}
 use mathlib.Core.List.{List, [], _∷_, _++_, append-assoc}
 use native.Mathlib.Omega.{arith}
 use lib.IntN.{ℤ, pos}
@@ -14,6 +13,7 @@ use Rattle.fills.specs.declared.record.ExecutionKind.the-variants.{Rebalance, S
 use Rattle.fills.specs.declared.record.ExecutionRecord.{ExecutionRecord}
 use Rattle.fills.specs.Records.{kindNumber, wordsOf, intsOf, allWords, allInts, room, buffers, stored}
 use Rattle.fills.proofs.Storing.{with-room}
+use Rattle.fills.proofs.Fronts.{words-long, ints-long}
 use Rattle.records.specs.Read.{kindOf, recordIn, recordAt, blank}
 use Rattle.records.specs.Run.{recordsAt}
 
@@ -45,16 +45,6 @@ kind-back Rebalance = refl
 kind-back StopExit = refl
 
 -- ---- records in the first places are read from there
-pub words-long : (rs : List ExecutionRecord) → length (allWords rs) ≡ length rs * 4
-unfolding allWords
-words-long [] = refl
-words-long (r ∷ rs) = omega (arith, words-long rs)
-
-pub ints-long : (rs : List ExecutionRecord) → length (allInts rs) ≡ length rs * 8
-unfolding allInts
-ints-long [] = refl
-ints-long (r ∷ rs) = omega (arith, ints-long rs)
-
 past : {A : Type 0} (xs l : List A) (z : A) (n m : ℕ) → m ≡ length xs + n → getD (xs ++ l) m z ≡ getD l n z
 past [] l z n m e = let k : m ≡ n = omega arith in ap (λ j. getD l j z) k
 past (x ∷ xs) l z n m e = let k : m ≡ suc (length xs + n) = omega arith in ap (λ j. getD (x ∷ xs ++ l) j z) k ∙ past xs l z n (length xs + n) refl

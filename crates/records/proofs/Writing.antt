@@ -18,11 +18,12 @@ use Rattle.portfolio.specs.declared.trade.Traded.{Traded}
 use Rattle.portfolio.specs.Answers.{places, hasRoom, rebalanceAnswer, closeAnswer}
 use Rattle.portfolio.specs.Rebalance.{Outcome, rebalanced}
 use Rattle.portfolio.specs.Close.{closed}
-use Rattle.portfolio.specs.Trades.{Filed, filed, filedBy}
+use Rattle.portfolio.specs.Trades.{filed, filedBy}
 use Rattle.records.specs.declared.into.Numbers.{Numbers}
 use Rattle.records.specs.Run.{recordsAt, collected}
-use Rattle.records.specs.Into.{Written, handed, handedBy}
-use Rattle.records.proofs.Reading.{words-long, read-back}
+use Rattle.records.specs.Into.{numbersOf, Written, handed, handedBy}
+use Rattle.fills.proofs.Fronts.{words-long}
+use Rattle.records.proofs.Reading.{read-back}
 
 -- ---- 64 places are as good as more
 within-64 : (asked room : ℕ) → asked ≤ 64 → leb asked (min room 64) ≡ leb asked room
@@ -72,7 +73,7 @@ module _ (t : Traded) (o : Outcome) (n room : ℕ) (ws : List ℕ) (is : List �
   ints-fit : length (allInts (o .records)) ≤ n * 8
   ints-fit = omega (arith, front-fits (allInts (o .records)) (take (n * 8) (replicate 512 (pos 0))) is (ap (λ x. x .ints) e), li)
 
-  pub filed-is-written : Written (record { words = ws ++ drop (n * 4) (replicate 256 0); ints = is ++ drop (n * 8) (replicate 512 (pos 0)); count = t .records; traded = t }) o room
+  pub filed-is-written : Written (numbersOf t (ws ++ drop (n * 4) (replicate 256 0)) (is ++ drop (n * 8) (replicate 512 (pos 0)))) o room
   filed-is-written = record {
     answer = ap (λ x. x .answer) e;
     account = ap (λ x. x .account) e;

@@ -3,7 +3,7 @@ use Prim.Native.Nat.{ℕ, _≤_}
 use mathlib.Core.Path.{_≡_}
 use mathlib.Core.List.{List}
 use lib.ListN.{length, replicate}
-use lib.IntN.{pos}
+use lib.IntN.{ℤ, pos}
 use Rattle.answer.specs.declared.Answer.{Answer}
 use Rattle.account.specs.declared.account.Account.{Account}
 use Rattle.fills.specs.declared.record.ExecutionRecord.{ExecutionRecord}
@@ -25,6 +25,9 @@ handedBy r run = record { answer = r .answer; account = r .account; records = r 
 -- "records fill the first places, the answer counts them, and the rest are as found"
 abbrev pub handed : Outcome → List ExecutionRecord → Handed
 handed o found = record { answer = o .answer; account = o .account; records = length (o .records); run = fronted (o .records) found }
+
+abbrev pub numbersOf : Traded → List ℕ → List ℤ → Numbers
+numbersOf t ws is = record { words = ws; ints = is; count = t .records; traded = t }
 
 -- an outcome with its records in number slices, and room for them in a run
 pub record Written (n : Numbers) (o : Outcome) (room : ℕ) : Type 0 where

@@ -5,7 +5,7 @@ ghost use lib.ListN.{length};
 ghost use Rattle.portfolio.specs.Close.{closed};
 ghost use Rattle.portfolio.specs.Rebalance.{rebalanced};
 ghost use Rattle.records.specs.Run.{collected};
-ghost use Rattle.records.specs.Into.{Written, handed, handedBy};
+ghost use Rattle.records.specs.Into.{numbersOf, Written, handed, handedBy};
 use crate::run::collect;
 use account::Account;
 use fills::ExecutionKind;
@@ -27,6 +27,19 @@ fn up_to_64(room: usize) -> usize
     ensures { λ r. ⌜ r ≡ min room 64 ⌝ }
 {
     if room < 64 { room } else { 64 }
+}
+
+// The answer of a call, and how many records its slices hold.
+fn in_numbers(traded: Traded, words: [u64; 256], ints: [i64; 512]) -> Numbers
+    ensures { λ r. ⌜ r ≡ numbersOf traded words ints ⌝ }
+{
+    let count = traded.records;
+    Numbers {
+        words,
+        ints,
+        count,
+        traded,
+    }
 }
 
 // A close whose records have the room of a run.
@@ -54,13 +67,7 @@ fn close_within(
         &mut words[..w],
         &mut ints[..i],
     );
-    let count = traded.records;
-    Numbers {
-        words,
-        ints,
-        count,
-        traded,
-    }
+    in_numbers(traded, words, ints)
 }
 
 // A rebalance whose records have the room of a run.
@@ -92,13 +99,7 @@ fn rebalance_within(
         &mut words[..w],
         &mut ints[..i],
     );
-    let count = traded.records;
-    Numbers {
-        words,
-        ints,
-        count,
-        traded,
-    }
+    in_numbers(traded, words, ints)
 }
 
 // Stores the records of a call into a run.

@@ -1,7 +1,7 @@
 -- `records::into::rebalance_into` meets its contract: a walk of its MIR, by hand. `rebalance_within` is called with copies of the parameters, the lists among them, and `hand_over` with the run, which is given up for good.
 -- Assumes nothing.
 use mathlib.Core.Path.{_≡_, refl}
-use Prim.Native.Nat.{ℕ, _<_, _^_}
+use Prim.Native.Nat.{ℕ}
 use mathlib.Core.List.{[], _∷_, List}
 use lib.IntN.{ℤ}
 use lib.Ieee.{Float}

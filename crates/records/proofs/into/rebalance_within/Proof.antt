@@ -1,6 +1,6 @@
 -- The call on the first places of two arrays of zeros; what it files keeps their length, so there is room for it in the run.
-use Prim.Native.Nat.{ℕ, _*_, _≤_, min}
-use mathlib.Core.Path.{_≡_, sym, ap, _∙_}
+use Prim.Native.Nat.{ℕ, _*_, _≤_}
+use mathlib.Core.Path.{sym, ap, subst, _∙_}
 use mathlib.Core.List.{List}
 use lib.IntN.{ℤ, pos}
 use lib.ListN.{length, take, replicate}
@@ -9,6 +9,7 @@ use native.Mathlib.Omega.{arith}
 use borrow.Author.Needs.{needs}
 use Rattle.portfolio.specs.Rebalance.{rebalanced}
 use Rattle.portfolio.specs.Trades.{filed}
+use Rattle.records.specs.Into.{Written}
 use Rattle.records.proofs.Writing.{rebalanced-within-64, places-are, filed-is-written}
 use Rattle.records.proofs.into.rebalance_within.Statement.{statement}
 use Rattle.records.proofs.into.rebalance_within.Tie as tie
@@ -37,9 +38,12 @@ slice-aggregate-rebalance-simple-2 c = sym (length-take-le _ _ (array-borrow-pre
 rebalance-simple-requires : tie.Need-rebalance-simple-requires
 rebalance-simple-requires c κs = search needs
 
+in-numbers-requires : tie.Need-in-numbers-requires
+in-numbers-requires c κs = search needs
+
 returns : tie.Need-returns
 returns c =
-    let k = c .before .before in
+    let k = c .before .before .before in
     let u = k .before .before .before in
     let x = u .before .before .before .before .args in
     let n = u .up-to-64 .result in
@@ -51,10 +55,11 @@ returns c =
     let gi : n * 8 ≤ length zi = omega (arith, small) in
     let at = rebalanced (x .a) (x .targets .now) (x .weights .now) (x .symbols .now) (x .prices .now) (x .period) (x .kind) in
     let room = ap at (places-are n zw zi gw gi ∙ u .up-to-64 .ensures) ∙ rebalanced-within-64 (x .a) (x .targets .now) (x .weights .now) (x .symbols .now) (x .prices .now) (x .period) (x .kind) (x .room) in
-    filed-is-written (k .rebalance-simple .result) (at (x .room)) n (x .room) _ _ small few
+    subst (λ m. Written m (at (x .room)) (x .room)) (sym (c .in-numbers .ensures))
+    (filed-is-written (k .rebalance-simple .result) (at (x .room)) n (x .room) _ _ small few
     (k .rebalance-simple .kept .1 .1 .1 .1 .1 .1 .1 .0 ∙ length-take-le _ _ gw)
     (k .rebalance-simple .kept .1 .1 .1 .1 .1 .1 .1 .1 .0 ∙ length-take-le _ _ gi)
-    (k .rebalance-simple .ensures ∙ ap (λ o. filed o (take (n * 4) zw) (take (n * 8) zi)) room)
+    (k .rebalance-simple .ensures ∙ ap (λ o. filed o (take (n * 4) zw) (take (n * 8) zi)) room))
 
 pub rebalance-within-spec : {M : Type 1} → statement M
 rebalance-within-spec =
@@ -68,4 +73,5 @@ rebalance-within-spec =
     array-borrow-prefix-ints
     slice-aggregate-rebalance-simple-2
     rebalance-simple-requires
+    in-numbers-requires
     returns)
