@@ -1,5 +1,5 @@
 -- Records that fill the first places of a run, one after another.
-use Prim.Native.Nat.{ℕ, zero, suc, _+_, _≤_, _<_}
+use Prim.Native.Nat.{ℕ, zero, suc, _+_, _*_, _^_, _≤_, _<_}
 use mathlib.Core.Path.{_≡_, refl, sym, ap, _∙_}
 use mathlib.Core.List.{List, [], _∷_, _++_}
 use native.Mathlib.Numerals.{add-one}
@@ -10,6 +10,13 @@ use Rattle.fills.specs.declared.record.ExecutionRecord.{ExecutionRecord}
 use Rattle.fills.specs.Records.{fronted}
 use Rattle.records.specs.Read.{recordAt}
 use Rattle.records.specs.Run.{recordsAt}
+
+-- ---- where a place of a run lies: the bytes of a record, and no place of a run wraps
+abbrev pub bytes : ℕ
+bytes = 96
+
+pub in-reach : (i n : ℕ) → i < n → n * bytes < 2 ^ 63 → i * bytes < 2 ^ 64
+in-reach i n h k = omega arith
 
 module _ {A : Type 0} where
   pub front-next : (xs ys : List A) (r : A) → length xs < length ys → set (fronted xs ys) (length xs) r ≡ fronted (xs ++ (r ∷ [])) ys

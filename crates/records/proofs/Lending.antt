@@ -1,8 +1,7 @@
--- A local array that is lent as a shared slice for a call, and comes back as room: `Denote/Lend.antt`'s `lends-shr-slice`, of an array in a local. It says nothing of the crate.
---     Lent          what the lender keeps while the array is lent for κ
---     lends-array   the array at b ∗ what it owns  ⊢ ⇛ ∃ γ. own (the `&κ [T]` ((b, 0), γ, xs)) ∗ Lent
---     comes-back    [†κ] ∗ Lent  ⊢ ⇛ room for the array at b
--- Assumes `Given`.
+-- A local array lent as a shared slice for the time of a call, and given back as room.
+--     Lent          what the lender keeps meanwhile
+--     lends-array   from the array and what it owns, the slice and `Lent`
+--     comes-back    once the lifetime is over, from `Lent`, room for the array
 use mathlib.Core.Path.{_≡_, refl}
 use Prim.Native.Nat.{ℕ}
 use mathlib.Core.List.{List, [], _∷_}

@@ -1,5 +1,4 @@
--- `records::into::close_position_into` meets its contract: a walk of its MIR, by hand. `close_within` is called with copies of the parameters, and `hand_over` with the run, which is given up for good.
--- Assumes nothing.
+-- By hand: `close_within` gets copies of the parameters, and `hand_over` gets the run for good.
 use mathlib.Core.Path.{_≡_, refl}
 use Prim.Native.Nat.{ℕ}
 use mathlib.Core.List.{[], _∷_, List}
@@ -128,7 +127,7 @@ module _ {M : Type 1} (𝓤 : URA M) (H : Heap 𝓤) (A : Atoms 𝓤) (W : Given
         owned ! u64 (Is u64) (uint-makes 𝓤 H A W w64) d _ d-is $ fjoin ! $ owned ! i64 (Is i64) (sint-makes 𝓤 H A W w64) z _ z-is $ fjoin ! $ owned ! u64 (Is u64) (uint-makes 𝓤 H A W w64) c _ c-is $ fjoin ! $
         owned ! P.the-row (Is P.the-row) (LL.makes P.the-type P′.the-plain 𝓤 H A) p _ p-is $ fjoin ! $ done !
 
-    -- what each callee's triple binds outside, and that the caller has what it asks
+    -- the two calls: their ghost values, and what they ask for
     abbrev to-within : Within 𝓤 H A mem run .Ghost
     to-within = ((tt, tt, tt, (p, (c, (z, (d, (k, (length ys, tt)))))), (pv ∷ [], (vint w64 c ∷ [], (zv ∷ [], (vint w64 d ∷ [], (kv ∷ [], (vint w64 (length ys) ∷ [], tt))))))), tt)
 

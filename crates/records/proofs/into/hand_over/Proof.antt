@@ -1,5 +1,5 @@
--- `records::into::hand_over` meets its contract: a walk of its MIR, by hand. The two arrays of numbers are copied into locals and lent to `collect`, each for a lifetime of its own; the run goes to `collect` for good.
--- Assumes nothing.
+-- By hand: the two arrays of numbers are copied into locals and lent to `collect`, each for a lifetime of its own; the run goes to `collect` for good.
+-- The offsets of the struct's fields are written out: left to the prover they are worked out of the whole account each time.
 use mathlib.Core.Path.{_≡_, refl, sym, _∙_, ap, subst}
 use Prim.Native.Nat.{ℕ, _<_, _^_}
 use mathlib.Core.List.{[], _∷_, List, map-id}
@@ -138,7 +138,7 @@ module _ {M : Type 1} (𝓤 : URA M) (H : Heap 𝓤) (A : Atoms 𝓤) (W : Given
     abbrev Slices : Item 𝓤
     Slices = ‵ (ShrSlice (named 0) (ν ∷ []) u64 .own xw (sw ∷ [])) ⊛ ‵ (ShrSlice (named 1) (μ ∷ []) i64 .own xi (si ∷ []))
 
-    -- what `collect`'s triple binds outside, and that the caller has what it asks
+    -- the call of `collect`: its ghost values, and what it asks for
     abbrev to-collect : Collect 𝓤 H A mem run .Ghost
     to-collect = (((ν ∷ [], (μ ∷ [], (κ, tt))), (fullShare, (fullShare, (q, tt))), tt, (xw, (xi, (count, (x, tt)))), (sw ∷ [], (si ∷ [], (vint w64 count ∷ [], (s ∷ [], tt))))), tt)
 

@@ -1,5 +1,4 @@
--- `records::into::rebalance_into` meets its contract: a walk of its MIR, by hand. `rebalance_within` is called with copies of the parameters, the lists among them, and `hand_over` with the run, which is given up for good.
--- Assumes nothing.
+-- By hand: `rebalance_within` gets copies of the parameters, the lists among them, and `hand_over` gets the run for good.
 use mathlib.Core.Path.{_≡_, refl}
 use Prim.Native.Nat.{ℕ}
 use mathlib.Core.List.{[], _∷_, List}
@@ -193,7 +192,7 @@ module _ {M : Type 1} (𝓤 : URA M) (H : Heap 𝓤) (A : Atoms 𝓤) (W : Given
         move ! (4 ∷ 0 ∷ []) $ fjoin ! $ move ! (3 ∷ 0 ∷ []) $ fjoin ! $ move ! (2 ∷ 0 ∷ []) $ fjoin ! $ move ! (1 ∷ 0 ∷ []) $ fjoin ! $
         owned ! P.the-row (Is P.the-row) (LL.makes P.the-type P′.the-plain 𝓤 H A) p _ p-is $ fjoin ! $ done !
 
-    -- what each callee's triple binds outside, and that the caller has what it asks
+    -- the two calls: their ghost values, and what they ask for
     abbrev to-within : Within 𝓤 H A mem run .Ghost
     to-within = (((κt, (κw, (κs, (κp, tt)))), (qt, (qw, (qs, (qp, tt)))), tt, gives p ls d k (length ys), vals (vint w64 (length ys))), tt)
 

@@ -1,7 +1,6 @@
--- `records::run::collect` meets its contract: a walk of its MIR, by hand. The borrow of the run is opened before the loop; each turn calls `record_at` with the number slices and stores what it gives; the borrow is closed after the loop.
--- Assumes nothing.
+-- By hand: the borrow of the run is opened before the loop. A turn asks `record_at` for the next record, with a copy of each number slice, and stores it. After the loop the borrow is closed.
 use mathlib.Core.Path.{_≡_, refl, sym, ap, subst}
-use Prim.Native.Nat.{ℕ, _<_, _≤_, _+_, _-_, _^_, _*_, min, zero-le}
+use Prim.Native.Nat.{ℕ, _<_, _≤_, _+_, _-_, _^_, min, zero-le}
 use native.Mathlib.Numerals.{add-one-le, add-one-dec}
 use native.Mathlib.Omega.{arith}
 use mathlib.Core.WellFounded.{WellFounded, InvImage·wf}
@@ -55,7 +54,7 @@ use Rattle.fills.proofs.record.ExecutionRecord as R
 use Rattle.fills.proofs.record.ExecutionRecord.Laws as R′
 use Rattle.records.specs.Read.{recordAt}
 use Rattle.records.specs.Run.{recordsAt}
-use Rattle.records.proofs.Fronting.{run-long, run-next}
+use Rattle.records.proofs.Fronting.{bytes, in-reach, run-long, run-next}
 use Rattle.records.proofs.read.record_at as at
 use Rattle.records.proofs.read.record_at.Symbol as at-def
 use Rattle.records.proofs.read.record_at.Symbol.{name as #records·read·record-at}
@@ -65,13 +64,6 @@ use Rattle.records.proofs.run.collect as f
 use Rattle.records.proofs.run.collect.Statement as stated
 use Rattle.records.proofs.run.collect.Code as code
 use Rattle.records.proofs.run.collect.Code.Mir as body
-
--- the bytes of a record
-abbrev bytes : ℕ
-bytes = 96
-
-in-reach : (i n : ℕ) → i < n → n * bytes < 2 ^ 63 → i * bytes < 2 ^ 64
-in-reach i n h k = omega arith
 
 -- ---- the test of a turn: below both, or at the lesser
 and-left : (a b : Bool) → T (a && b) → T a
@@ -100,7 +92,7 @@ at-least i n m k h = nand (ltb i n) (ltb i m) h (i ≡ min n m)
 abbrev stayed : Stays (f.ended .signature .params) (f.ended .kept)
 stayed = (stay-none-slice (0 ∷ []) tt (plain (λ _. u64)) yes, (stay-none-slice (1 ∷ []) tt (plain (λ _. i64)) yes, (stay-none (λ _. usize) yes, (stay-slice (2 ∷ []) tt (plain (λ _. R.the-row)), tt))))
 
--- the second part of a sequence
+-- what comes after the first statement
 abbrev after : Body → Body
 after skip = skip
 after (seq a b) = b
@@ -183,7 +175,7 @@ module _ {M : Type 1} (𝓤 : URA M) (H : Heap 𝓤) (A : Atoms 𝓤) (W : Given
       nothing ! $ move ! (1 ∷ 0 ∷ []) $ fjoin ! $ owned ! usize (Is usize) (uint-makes 𝓤 H A W w64) n _ (refl, n-fits) $ fjoin ! $ move ! (2 ∷ 0 ∷ []) $ fjoin ! $ move ! (1 ∷ 0 ∷ []) $ fjoin ! $ frame ! $
       feqI ! (List Val) (vunit ∷ []) (vunit ∷ []) refl $ done !
 
-  -- what `record_at`'s triple binds outside, and that the caller has what it asks
+  -- the call of `record_at`: its ghost values, and what it asks for
   abbrev to-read : ℕ → Reads 𝓤 H A mem run .Ghost
   to-read i = (((κw, (κi, tt)), (qw, (qi, tt)), tt, (xw, (xi, (i, tt))), (sw ∷ [], (si ∷ [], (vint w64 i ∷ [], tt)))), tt)
 

@@ -1,8 +1,6 @@
--- `records::run::store_record` meets its contract: a walk of its MIR, by hand. The borrow is opened, where the place is within one element is taken out of the row and stored to whole, and the borrow is closed at the list with the record in it.
--- Assumes nothing.
+-- By hand: the borrow of the run is opened; a place within it is taken out of the row, stored to whole and put back; the borrow is closed at the run with the record in it.
 use mathlib.Core.Path.{refl, sym, ap, subst}
-use Prim.Native.Nat.{ℕ, _<_, _^_, _*_}
-use native.Mathlib.Omega.{arith}
+use Prim.Native.Nat.{ℕ, _<_, _^_}
 use mathlib.Core.List.{[], _∷_, List}
 use lib.ListN.{length, set, length-set}
 use lib.Seq.{set-out}
@@ -44,24 +42,18 @@ use denote.Exit.{yes}
 use Rattle.fills.specs.declared.record.ExecutionRecord.{ExecutionRecord}
 use Rattle.fills.proofs.record.ExecutionRecord as T
 use Rattle.fills.proofs.record.ExecutionRecord.Laws as T′
+use Rattle.records.proofs.Fronting.{bytes, in-reach}
 use Rattle.records.proofs.run.store_record.Key.{name as #records·run·store-record}
 use Rattle.records.proofs.run.store_record as f
 use Rattle.records.proofs.run.store_record.Statement as stated
 use Rattle.records.proofs.run.store_record.Code as code
 use Rattle.records.proofs.run.store_record.Code.Mir as body
 
--- the bytes of a record
-abbrev bytes : ℕ
-bytes = 96
-
-in-reach : (i n : ℕ) → i < n → n * bytes < 2 ^ 63 → i * bytes < 2 ^ 64
-in-reach i n h k = omega arith
-
 abbrev stayed : Stays (f.ended .signature .params) (f.ended .kept)
 stayed = (stay-slice (0 ∷ []) tt (plain (λ _. T.the-row)), (stay-none (λ _. usize) yes, (stay-none (λ _. T.the-row) yes, tt)))
 
 module _ {M : Type 1} (𝓤 : URA M) (H : Heap 𝓤) (A : Atoms 𝓤) (W : Given 𝓤 H A) (mem : Memory → SProp 𝓤) (run : Routine → Fun 𝓤) (κ : Lft) (q : Share) (b o : ℕ) (γ : GName) (ys : List ExecutionRecord) (i : ℕ) (r : ExecutionRecord) where
-  -- the borrow at the list l, and the machine values: the slice's pointer and count, and the record's
+  -- the run at the list l, and the machine values of the run and the record
   abbrev x : List ExecutionRecord → RefT (List ExecutionRecord)
   x l = record { ptr = (b, o); name = γ; now = l }
 
