@@ -50,12 +50,12 @@ sets-front vs l h =
     let e : 0 + length vs ≡ length vs = omega arith in
     sets-eq vs l 0 (omega arith) ∙ ap (λ k. vs ++ drop k l) e
 
-words-long : (rs : List ExecutionRecord) → length (allWords rs) ≡ length rs * 4
+pub words-long : (rs : List ExecutionRecord) → length (allWords rs) ≡ length rs * 4
 unfolding allWords
 words-long [] = refl
 words-long (r ∷ rs) = omega (arith, words-long rs)
 
-ints-long : (rs : List ExecutionRecord) → length (allInts rs) ≡ length rs * 8
+pub ints-long : (rs : List ExecutionRecord) → length (allInts rs) ≡ length rs * 8
 unfolding allInts
 ints-long [] = refl
 ints-long (r ∷ rs) = omega (arith, ints-long rs)

@@ -1,0 +1,112 @@
+-- A call whose records have the room of a run: the run's length may stand for the room of 64 places, and what was filed in the first places of longer slices stands in the first places of all.
+use Prim.Native.Nat.{ℕ, zero, suc, _+_, _*_, _≤_, min}
+use mathlib.Core.Path.{_≡_, refl, sym, ap, _∙_}
+use mathlib.Core.Bool.{Bool, true, false}
+use mathlib.Core.List.{List, [], _∷_, _++_}
+use native.Mathlib.Omega.{arith}
+use lib.Dec.{leb}
+use lib.IntN.{ℤ, pos}
+use lib.Ieee.{Float}
+use lib.ListN.{length, take, drop, replicate, take-append-drop, length-append}
+use lib.Seq.{length-take-le}
+use borrow.Author.Tests.{leb-true, leb-false, le-leb, lt-leb}
+use Rattle.fills.specs.declared.record.ExecutionKind.{ExecutionKind}
+use Rattle.fills.specs.declared.record.ExecutionRecord.{ExecutionRecord}
+use Rattle.fills.specs.Records.{allWords, allInts, fronted}
+use Rattle.account.specs.declared.account.Account.{Account}
+use Rattle.portfolio.specs.declared.trade.Traded.{Traded}
+use Rattle.portfolio.specs.Answers.{places, hasRoom, rebalanceAnswer, closeAnswer}
+use Rattle.portfolio.specs.Rebalance.{Outcome, rebalanced}
+use Rattle.portfolio.specs.Close.{closed}
+use Rattle.portfolio.specs.Trades.{filed, filedBy}
+use Rattle.records.specs.declared.into.Numbers.{Numbers}
+use Rattle.records.specs.Run.{recordsAt, collected}
+use Rattle.records.specs.Into.{numbersOf, Written, handed, handedBy}
+use Rattle.fills.proofs.Fronts.{words-long}
+use Rattle.records.proofs.Reading.{read-back}
+
+-- ---- 64 places are as good as more
+within-64 : (asked room : ℕ) → asked ≤ 64 → leb asked (min room 64) ≡ leb asked room
+within-64 asked room h = go (leb asked room) refl
+  where
+    go : (b : Bool) → leb asked room ≡ b → leb asked (min room 64) ≡ leb asked room
+    go true e = le-leb asked (min room 64) (omega (arith, h, leb-true asked room e)) ∙ sym e
+    go false e = lt-leb asked (min room 64) (omega (arith, leb-false asked room e)) ∙ sym e
+
+room-within-64 : (a : Account) (asked room : ℕ) → asked ≤ 64 → hasRoom a asked (min room 64) ≡ hasRoom a asked room
+unfolding hasRoom
+room-within-64 a asked room h = simp (within-64 asked room h)
+
+close-answer-within-64 : (a : Account) (s : ℕ) (price : ℤ) (room : ℕ) → closeAnswer a s price (min room 64) ≡ closeAnswer a s price room
+unfolding closeAnswer
+close-answer-within-64 a s price room = simp (room-within-64 a 1 room (omega arith))
+
+pub closed-within-64 : (a : Account) (s : ℕ) (price : ℤ) (period : ℕ) (kind : ExecutionKind) (room : ℕ) → closed a s price period kind (min room 64) ≡ closed a s price period kind room
+unfolding closed
+closed-within-64 a s price period kind room = simp (close-answer-within-64 a s price room)
+
+rebalance-answer-within-64 : (a : Account) (ts : List ℕ) (ws : List Float) (ps : List ℕ) (vs : List ℤ) (room : ℕ) → rebalanceAnswer a ts ws ps vs (min room 64) ≡ rebalanceAnswer a ts ws ps vs room
+unfolding rebalanceAnswer
+rebalance-answer-within-64 a ts ws ps vs room = simp (room-within-64 a 64 room (omega arith))
+
+pub rebalanced-within-64 : (a : Account) (ts : List ℕ) (ws : List Float) (ps : List ℕ) (vs : List ℤ) (period : ℕ) (kind : ExecutionKind) (room : ℕ)
+    → rebalanced a ts ws ps vs period kind (min room 64) ≡ rebalanced a ts ws ps vs period kind room
+unfolding rebalanced
+rebalanced-within-64 a ts ws ps vs period kind room = simp (rebalance-answer-within-64 a ts ws ps vs room)
+
+-- ---- the first places of a part are the first places of the whole
+front-of-part : {A : Type 0} (xs : List A) (k : ℕ) (l : List A) → length xs ≤ k → k ≤ length l → fronted xs (take k l) ++ drop k l ≡ fronted xs l
+front-of-part [] k l h g = take-append-drop k l
+front-of-part (x ∷ xs) zero l h g = absurd (omega arith)
+front-of-part (x ∷ xs) (suc k) [] h g = absurd (omega arith)
+front-of-part (x ∷ xs) (suc k) (y ∷ l) h g = ap (λ t. x ∷ t) (front-of-part xs k l (omega arith) (omega arith))
+
+front-fits : {A : Type 0} (xs found l : List A) → l ≡ fronted xs found → length xs ≤ length l
+front-fits xs found l e = omega (arith, ap length e, length-append xs (drop (length xs) found))
+
+-- ---- from what a call filed in the first n places of each slice
+module _ (t : Traded) (o : Outcome) (n room : ℕ) (ws : List ℕ) (is : List ℤ) (small : n ≤ 64) (few : n ≤ room) (lw : length ws ≡ n * 4) (li : length is ≡ n * 8)
+    (e : filedBy t ws is ≡ filed o (take (n * 4) (replicate 256 0)) (take (n * 8) (replicate 512 (pos 0)))) where
+  words-fit : length (allWords (o .records)) ≤ n * 4
+  words-fit = omega (arith, front-fits (allWords (o .records)) (take (n * 4) (replicate 256 0)) ws (ap (λ x. x .words) e), lw)
+
+  ints-fit : length (allInts (o .records)) ≤ n * 8
+  ints-fit = omega (arith, front-fits (allInts (o .records)) (take (n * 8) (replicate 512 (pos 0))) is (ap (λ x. x .ints) e), li)
+
+  pub filed-is-written : Written (numbersOf t (ws ++ drop (n * 4) (replicate 256 0)) (is ++ drop (n * 8) (replicate 512 (pos 0)))) o room
+  filed-is-written = record {
+    answer = ap (λ x. x .answer) e;
+    account = ap (λ x. x .account) e;
+    count = ap (λ x. x .records) e;
+    records = ap (λ x. x .records) e;
+    words = ap (λ x. x .words ++ drop (n * 4) (replicate 256 0)) e ∙ front-of-part (allWords (o .records)) (n * 4) (replicate 256 0) words-fit (omega (arith, small));
+    ints = ap (λ x. x .ints ++ drop (n * 8) (replicate 512 (pos 0))) e ∙ front-of-part (allInts (o .records)) (n * 8) (replicate 512 (pos 0)) ints-fit (omega (arith, small));
+    few = omega (arith, words-fit, words-long (o .records), few);
+  }
+
+-- the places of n records
+pub places-are : (n : ℕ) (zw : List ℕ) (zi : List ℤ) → n * 4 ≤ length zw → n * 8 ≤ length zi → places (length (take (n * 4) zw)) (length (take (n * 8) zi)) ≡ n
+places-are n zw zi gw gi =
+    let u = length-take-le (n * 4) zw gw in
+    let v = length-take-le (n * 8) zi gi in
+    omega (arith, u, v)
+
+-- ---- handed over: the run has the outcome's records in its first places
+module _ (n : Numbers) (o : Outcome) (ys zs : List ExecutionRecord) (t : Traded) (w : Written n o (length ys)) (e : t ≡ n .traded) (r : zs ≡ collected (n .words) (n .ints) (n .count) ys) where
+  all-handed : min (length (o .records)) (length ys) ≡ length (o .records)
+  all-handed = omega (arith, w .few)
+
+  run-handed : zs ≡ fronted (o .records) ys
+  run-handed =
+      let ws = fronted (allWords (o .records)) (replicate 256 0) in
+      let is = fronted (allInts (o .records)) (replicate 512 (pos 0)) in
+      r ∙ ap (λ x. collected x (n .ints) (n .count) ys) (w .words) ∙ ap (λ x. collected ws x (n .count) ys) (w .ints) ∙ ap (λ k. collected ws is k ys) (w .count)
+      ∙ ap (λ k. fronted (recordsAt ws is k) ys) all-handed
+      ∙ ap (λ l. fronted l ys) (read-back (o .records) (drop (length (allWords (o .records))) (replicate 256 0)) (drop (length (allInts (o .records))) (replicate 512 (pos 0))))
+
+  pub all-is-handed : handedBy t zs ≡ handed o ys
+  all-is-handed =
+      let a = ap (λ x. x .answer) e ∙ w .answer in
+      let c = ap (λ x. x .account) e ∙ w .account in
+      let k = ap (λ x. x .records) e ∙ w .records in
+      λ i. record { answer = a i; account = c i; records = k i; run = run-handed i }

@@ -1,0 +1,155 @@
+// Calls that trade, with their records in a lent run of structs.
+ghost use mathlib.Core.Path.{_≡_};
+ghost use Prim.Native.Nat.{min};
+ghost use lib.ListN.{length};
+ghost use Rattle.portfolio.specs.Close.{closed};
+ghost use Rattle.portfolio.specs.Rebalance.{rebalanced};
+ghost use Rattle.records.specs.Run.{collected};
+ghost use Rattle.records.specs.Into.{numbersOf, Written, handed, handedBy};
+use crate::run::collect;
+use account::Account;
+use fills::ExecutionKind;
+use fills::ExecutionRecord;
+use portfolio::Traded;
+use portfolio::close_position_at;
+use portfolio::rebalance_simple;
+
+// What a call answers, with its records in number slices of 64 places.
+pub(crate) struct Numbers {
+    pub words: [u64; 256],
+    pub ints: [i64; 512],
+    pub count: usize,
+    pub traded: Traded,
+}
+
+// The places that a run of this length has, of the 64 that a call asks for at most.
+fn up_to_64(room: usize) -> usize
+    ensures { λ r. ⌜ r ≡ min room 64 ⌝ }
+{
+    if room < 64 { room } else { 64 }
+}
+
+// The answer of a call, and how many records its slices hold.
+fn in_numbers(traded: Traded, words: [u64; 256], ints: [i64; 512]) -> Numbers
+    ensures { λ r. ⌜ r ≡ numbersOf traded words ints ⌝ }
+{
+    let count = traded.records;
+    Numbers {
+        words,
+        ints,
+        count,
+        traded,
+    }
+}
+
+// A close whose records have the room of a run.
+fn close_within(
+    a: Account,
+    symbol: u64,
+    price: i64,
+    period: u64,
+    kind: ExecutionKind,
+    room: usize,
+) -> Numbers
+    ensures { λ r. ⌜ Written r (closed a symbol price period kind room) room ⌝ }
+{
+    let mut words = [0u64; 256];
+    let mut ints = [0i64; 512];
+    let n = up_to_64(room);
+    let w = n * 4;
+    let i = n * 8;
+    let traded = close_position_at(
+        a,
+        symbol,
+        price,
+        period,
+        kind,
+        &mut words[..w],
+        &mut ints[..i],
+    );
+    in_numbers(traded, words, ints)
+}
+
+// A rebalance whose records have the room of a run.
+fn rebalance_within(
+    a: Account,
+    targets: &[u64],
+    weights: &[f64],
+    symbols: &[u64],
+    prices: &[i64],
+    period: u64,
+    kind: ExecutionKind,
+    room: usize,
+) -> Numbers
+    ensures { λ r. ⌜ Written r (rebalanced a (now (targets .entry)) (now (weights .entry)) (now (symbols .entry)) (now (prices .entry)) period kind room) room ⌝ }
+{
+    let mut words = [0u64; 256];
+    let mut ints = [0i64; 512];
+    let n = up_to_64(room);
+    let w = n * 4;
+    let i = n * 8;
+    let traded = rebalance_simple(
+        a,
+        targets,
+        weights,
+        symbols,
+        prices,
+        period,
+        kind,
+        &mut words[..w],
+        &mut ints[..i],
+    );
+    in_numbers(traded, words, ints)
+}
+
+// Stores the records of a call into a run.
+fn hand_over<'a>(n: Numbers, out: &'a mut [ExecutionRecord]) -> Traded
+    ensures { λ r. ⌜ (r ≡ n .traded) × (now (out .exit) ≡ collected (n .words) (n .ints) (n .count) (now (out .entry))) ⌝ }
+{
+    let words = n.words;
+    let ints = n.ints;
+    collect(&words[..], &ints[..], n.count, out);
+    n.traded
+}
+
+// `close_position_at` with its records in a lent run of structs.
+pub fn close_position_into<'a>(
+    a: Account,
+    symbol: u64,
+    price: i64,
+    period: u64,
+    kind: ExecutionKind,
+    out: &'a mut [ExecutionRecord],
+) -> Traded
+    ensures { λ r. ⌜ handedBy r (now (out .exit)) ≡ handed (closed a symbol price period kind (length (now (out .entry)))) (now (out .entry)) ⌝ }
+{
+    let n = close_within(a, symbol, price, period, kind, out.len());
+    hand_over(n, out)
+}
+
+// `rebalance_simple` with its records in a lent run of structs.
+pub fn rebalance_into<'t, 'w, 's, 'p, 'a>(
+    a: Account,
+    targets: &'t [u64],
+    weights: &'w [f64],
+    symbols: &'s [u64],
+    prices: &'p [i64],
+    period: u64,
+    kind: ExecutionKind,
+    out: &'a mut [ExecutionRecord],
+) -> Traded
+    ensures { λ r. ⌜ handedBy r (now (out .exit))
+        ≡ handed (rebalanced a (now (targets .entry)) (now (weights .entry)) (now (symbols .entry)) (now (prices .entry)) period kind (length (now (out .entry)))) (now (out .entry)) ⌝ }
+{
+    let n = rebalance_within(
+        a,
+        targets,
+        weights,
+        symbols,
+        prices,
+        period,
+        kind,
+        out.len(),
+    );
+    hand_over(n, out)
+}
