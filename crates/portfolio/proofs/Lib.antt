@@ -2,3 +2,5 @@
 pub mod Refusals
 pub mod Worths
 pub mod Trading
+pub mod Lacking
+pub mod Plans
