@@ -4,3 +4,4 @@ pub mod Worths
 pub mod Trading
 pub mod Lacking
 pub mod Plans
+pub mod Soundness

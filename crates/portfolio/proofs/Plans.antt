@@ -1,39 +1,34 @@
 -- The plan of an account's columns is its plan, and running the columns that it stands in is the rebalance.
-use Prim.Native.Nat.{ℕ, zero, suc, _+_, _≤_, _<_}
+use Prim.Native.Nat.{ℕ, zero, suc, _+_, _≤_}
 use mathlib.Core.Path.{_≡_, refl, sym, ap, subst, _∙_}
 use mathlib.Core.Bool.{Bool, true, false}
-use mathlib.Core.List.{List, [], _∷_, _++_, map}
+use mathlib.Core.List.{List, [], _∷_, map}
 use native.Mathlib.Omega.{arith}
 use native.Mathlib.Numerals.{add-one}
 use lib.Dec.{leb}
-use lib.ListN.{length, take, drop, getD}
-use lib.Seq.{drop-cons}
+use lib.ListN.{length, drop}
 use lib.IntN.{ℤ, pos}
 use lib.Signed.{leZ}
 use lib.Ieee.{Float}
 use borrow.Author.Tests.{leb-true, le-leb}
-use Rattle.words.specs.Sums.{satAdd}
-use Rattle.table.specs.Keyed.{pick, Rising}
-use Rattle.table.specs.Rows.{columnsOf, rows}
+use Rattle.table.specs.Keyed.{pick}
+use Rattle.table.specs.Rows.{columnsOf}
 use Rattle.table.specs.Rows as table
-use Rattle.feeds.specs.Lists.{distinct, priceOf}
+use Rattle.feeds.specs.Lists.{priceOf}
 use Rattle.account.specs.declared.account.Account.{Account}
 use Rattle.account.specs.declared.settings.Settings.{Settings}
-use Rattle.account.specs.Account.{soundAccount, heldIn}
+use Rattle.account.specs.Account.{heldIn}
 use Rattle.account.proofs.Holdings.{account-ordered}
 use Rattle.planning.specs.declared.plan.PlannedOrder.{PlannedOrder}
 use Rattle.planning.specs.Equity.{equityOf}
 use Rattle.planning.specs.Plan.{closings, targetings, wanted, orderCount}
 use Rattle.planning.proofs.Plans.{targetings-length}
 use Rattle.planning.proofs.Room.{count-append, count-most, orders-at-most}
-use Rattle.fills.specs.declared.order.Order.{Order}
 use Rattle.fills.specs.declared.record.ExecutionKind.{ExecutionKind}
-use Rattle.fills.specs.Fill.{fillAll}
-use Rattle.fills.specs.Runs.{order, orders}
+use Rattle.fills.specs.Runs.{orders}
 use Rattle.fills.proofs.Running.{next-order, no-order}
-use Rattle.admission.specs.Admission.{addedAll, admitted}
-use Rattle.admission.specs.Running.{cashFirst, inRunningOrder, notionalFrom, planOf}
-use Rattle.admission.specs.Columns.{Cols, cols, Full, from, orderAt, plans}
+use Rattle.admission.specs.Running.{cashFirst, inRunningOrder, notionalFrom}
+use Rattle.admission.specs.Columns.{Cols, Full, from, orderAt, plans}
 use Rattle.admission.proofs.Plans.{plans-few, plans-length, shorter-same}
 use Rattle.admission.proofs.Kept.{running-length}
 use Rattle.planner.specs.declared.plan.Planned.{Planned}
@@ -41,9 +36,9 @@ use Rattle.planner.specs.Adding.{wantedAt}
 use Rattle.planner.specs.Planning as planner
 use Rattle.planner.proofs.Held.{wanted-of-rows, plan-of-rows}
 use Rattle.portfolio.specs.Answers.{hasRoom, notHeld}
-use Rattle.portfolio.specs.Rebalance.{Outcome, orderOf, termsOf, stateOf, accountAfter, admittedPlan, afterPlan, afterRebalance}
+use Rattle.portfolio.specs.Rebalance.{orderOf, admittedPlan, afterPlan, afterRebalance}
 use Rattle.portfolio.specs.Trades.{afterOrders}
-use Rattle.portfolio.specs.Planned.{equityAt, planAt, Stands, Room, Plans, Ready}
+use Rattle.portfolio.specs.Planned.{equityAt, planAt, Stands, Plans, Ready}
 use Rattle.portfolio.proofs.Worths.{equity-of-places}
 
 -- ---- the plan of the places

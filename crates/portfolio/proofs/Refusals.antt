@@ -120,18 +120,20 @@ return-done a ps vs n m e =
     record { query = done-is _ (p .0); equities = omega arith; returns = omega arith }
 
 -- ---- closing
-pub record Closing (a : Account) (room : ℕ) : Type 0 where
+pub record Closing (a : Account) (s : ℕ) (price : ℤ) (room : ℕ) : Type 0 where
   pub sound : soundAccount a ≡ true
+  pub good : goodSymbol s ≡ true
+  pub priced : leZ (pos 1) price ≡ true
   pub roomy : hasRoom a 1 room ≡ true
 
-pub close-done : (a : Account) (s : ℕ) (price : ℤ) (room : ℕ) → isDone (closeAnswer a s price room) ≡ true → Closing a room
+pub close-done : (a : Account) (s : ℕ) (price : ℤ) (room : ℕ) → isDone (closeAnswer a s price room) ≡ true → Closing a s price room
 unfolding closeAnswer
 close-done a s price room e =
     let p = passed (soundAccount a) Unsound _ refl e in
     let q = passed (goodSymbol s) BadSymbol _ refl (p .1) in
     let r = passed (leZ (pos 1) price) BadPrice _ refl (q .1) in
     let t = passed (hasRoom a 1 room) NoRecordRoom _ refl (r .1) in
-    record { sound = p .0; roomy = t .0 }
+    record { sound = p .0; good = q .0; priced = r .0; roomy = t .0 }
 
 -- ---- a rebalance
 pub record Rebalancing (a : Account) (ts : List ℕ) (ws : List Float) (ps : List ℕ) (vs : List ℤ) (room : ℕ) : Type 0 where

@@ -102,65 +102,42 @@ fn rebalance_at(
         (now (words .entry)) (now (ints .entry)) ⌝ }
 {
     let t = a.positions;
-    let n = used(t);
+    let places = used(t);
     let s = a.settings;
-    let mut symbol = [0u64; 64];
-    let mut quantity = [0i64; 64];
-    let mut price = [0i64; 64];
-    let mut drift = [0.0f64; 64];
-    let mut run_symbol = [0u64; 64];
-    let mut run_quantity = [0i64; 64];
-    let mut run_price = [0i64; 64];
-    let mut run_drift = [0.0f64; 64];
+    let mut os = [0u64; 64];
+    let mut oq = [0i64; 64];
+    let mut op = [0i64; 64];
+    let mut od = [0.0f64; 64];
+    let mut rs = [0u64; 64];
+    let mut rq = [0i64; 64];
+    let mut rp = [0i64; 64];
+    let mut rd = [0.0f64; 64];
     let p = plan_at(
         &t.symbol,
         &t.quantity,
-        n,
+        places,
         targets,
         weights,
         symbols,
         prices,
         s,
         a.cash,
-        &mut symbol,
-        &mut quantity,
-        &mut price,
-        &mut drift,
-        &mut run_symbol,
-        &mut run_quantity,
-        &mut run_price,
-        &mut run_drift,
+        &mut os,
+        &mut oq,
+        &mut op,
+        &mut od,
+        &mut rs,
+        &mut rq,
+        &mut rp,
+        &mut rd,
     );
     let m = p.count;
-    let orders = m as u64;
+    let n = m as u64;
+    let v = p.notional;
     if s.cash_first {
-        return run(
-            &run_symbol,
-            &run_quantity,
-            &run_price,
-            m,
-            period,
-            kind,
-            orders,
-            p.notional,
-            words,
-            ints,
-            a,
-        );
+        return run(&rs, &rq, &rp, m, period, kind, n, v, words, ints, a);
     }
-    run(
-        &symbol,
-        &quantity,
-        &price,
-        m,
-        period,
-        kind,
-        orders,
-        p.notional,
-        words,
-        ints,
-        a,
-    )
+    run(&os, &oq, &op, m, period, kind, n, v, words, ints, a)
 }
 
 // Prices whose symbols ascend are used in place; others are sorted first.

@@ -17,8 +17,10 @@ pub use types::{Price, Symbol};
 mod account;
 mod figures;
 mod leaves;
+mod single;
 pub use figures::{Figures, figures};
 pub use leaves::{Leaves, leaves};
+pub use single::{Ask, Filled, Single, fill_alone};
 
 /// Whether this build has nanobook's files in it.
 pub const PRESENT: bool = cfg!(nanobook);

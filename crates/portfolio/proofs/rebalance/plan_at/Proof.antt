@@ -1,7 +1,6 @@
 -- No plan at equity 0 or below; else the plan at that equity.
-use mathlib.Core.Path.{_≡_, sym, ap, subst, _∙_}
-use mathlib.Core.Bool.{true, false}
-use lib.IntN.{ℤ, pos}
+use mathlib.Core.Path.{_≡_, sym, ap, _∙_}
+use lib.IntN.{pos}
 use lib.Signed.{leZ}
 use mir.Syntax.{w64}
 use mir.Val.{SFits}
@@ -10,8 +9,7 @@ use borrow.Author.Needs.{needs}
 use Rattle.words.specs.Sums.{satAdd}
 use Rattle.table.specs.Keyed.{Rising}
 use Rattle.feeds.specs.Lists.{priceOf}
-use Rattle.admission.specs.Columns.{cols}
-use Rattle.portfolio.specs.Planned.{equityAt, Plans}
+use Rattle.portfolio.specs.Planned.{equityAt}
 use Rattle.portfolio.proofs.Plans.{plan-none, plan-some}
 use Rattle.portfolio.proofs.rebalance.plan_at.Statement.{statement}
 use Rattle.portfolio.proofs.rebalance.plan_at.Tie as tie

@@ -1,16 +1,13 @@
 -- The plan stands in columns of 64 places, and running them is the rebalance.
-use Prim.Native.Nat.{ℕ, _≤_}
-use mathlib.Core.Path.{_≡_, refl, sym, ap, subst, _∙_}
-use mathlib.Core.Bool.{true, false}
+use mathlib.Core.Path.{refl, ap, _∙_}
 use mathlib.Core.List.{List}
-use lib.IntN.{ℤ, pos}
+use lib.IntN.{pos}
 use lib.Ieee.{binary64, ofBits}
-use lib.ListN.{length, replicate}
+use lib.ListN.{replicate}
 use mir.Syntax.{w64}
 use mir.Val.{SFits}
 use mir.Facts.{toZ-ofZ}
 use borrow.Author.Needs.{needs}
-use Rattle.table.specs.Keyed.{pick}
 use Rattle.feeds.specs.Lists.{priceOf}
 use Rattle.planning.specs.declared.plan.PlannedOrder.{PlannedOrder}
 use Rattle.admission.specs.Columns.{Cols, cols, Full}
@@ -63,8 +60,8 @@ plan-at-requires c κs = search needs
 
 run-requires : tie.Need-run-requires
 run-requires c κs =
-    let t = c .before .before .before .before .before .before in
-    let q = t .before in
+    let t = c .before .before .before .before .before in
+    let q = t .before .before in
     let y = began q .pre in
     let h = stands q in
     let f : Full (run-columns q) = simp (t .if1 .taken) at (h .full) in
@@ -79,16 +76,16 @@ same-length-2 c = search needs
 returns : tie.Need-returns
 returns c =
     let r = c .before .before .before in
-    let t = r .before .before .before .before .before .before .before in
-    let q = t .before in
+    let t = r .before .before .before .before .before .before in
+    let q = t .before .before in
     let x = began q .args in
     let e = simp (toZ-ofZ (notional-fits q)) at (r .run .ensures) in
     e ∙ ap (λ o. filed o (x .words .now) (x .ints .now)) (run-rebalances (x .a) (plan-of (began q)) (plan-columns q) (run-columns q) (q .plan-at .result) (stands q) (run-columns q) (simp (t .if1 .taken)) (x .period) (x .kind))
 
 run-requires-2 : tie.Need-run-requires-2
 run-requires-2 c κs =
-    let t = c .before .before .before .before .before .before in
-    let q = t .before in
+    let t = c .before .before .before .before .before in
+    let q = t .before .before in
     let y = began q .pre in
     let h = stands q in
     let f : Full (plan-columns q) = simp (t .if1 .left) at (h .full) in
@@ -103,8 +100,8 @@ same-length-4 c = search needs
 returns-2 : tie.Need-returns-2
 returns-2 c =
     let r = c .before .before .before in
-    let t = r .before .before .before .before .before .before .before in
-    let q = t .before in
+    let t = r .before .before .before .before .before .before in
+    let q = t .before .before in
     let x = began q .args in
     let e = simp (toZ-ofZ (notional-fits q)) at (r .run2 .ensures) in
     e ∙ ap (λ o. filed o (x .words .now) (x .ints .now)) (run-rebalances (x .a) (plan-of (began q)) (plan-columns q) (run-columns q) (q .plan-at .result) (stands q) (plan-columns q) (simp (t .if1 .left)) (x .period) (x .kind))

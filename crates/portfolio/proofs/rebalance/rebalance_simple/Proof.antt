@@ -5,13 +5,12 @@ use mathlib.Core.Bool.{true}
 use mathlib.Core.List.{List}
 use native.Mathlib.Omega.{arith}
 use lib.IntN.{ℤ, pos}
-use lib.ListN.{length, take, replicate}
+use lib.ListN.{length, replicate}
 use lib.Seq.{length-take-le}
 use borrow.Author.Needs.{needs}
 use borrow.Author.Tests.{not-true, not-false}
 use Rattle.answer.specs.declared.Answer.{Answer}
 use Rattle.table.proofs.Keyed.{ascending-rises}
-use Rattle.feeds.specs.Lists.{priceOf}
 use Rattle.feeds.proofs.Sorted.{Serves, sorted-serves}
 use Rattle.fills.specs.Records.{allWords, allInts}
 use Rattle.portfolio.specs.Answers.{isDone, places, rebalanceAnswer}

@@ -1,11 +1,10 @@
 -- Those counted so far, and those lacking of the targets that are left, are all.
-use Prim.Native.Nat.{ℕ, _+_, _-_, _≤_}
-use mathlib.Core.Path.{_≡_, refl, sym, ap, _∙_}
+use Prim.Native.Nat.{_+_, _-_, _≤_}
+use mathlib.Core.Path.{_≡_, ap, _∙_}
 use native.Mathlib.Omega.{arith}
 use borrow.Author.Needs.{needs}
-use lib.ListN.{length, take, drop, getD}
+use lib.ListN.{length, take, drop}
 use Rattle.table.specs.Keyed.{Rising}
-use Rattle.table.specs.Places.{found}
 use Rattle.portfolio.specs.Planned.{lackedBy, lacking}
 use Rattle.portfolio.proofs.Lacking.{lacked-most, lacking-on, lacking-end}
 use Rattle.portfolio.proofs.refusal.count_not_held.Statement.{statement}

@@ -1,14 +1,11 @@
 -- The places in use are the positions, and the symbols that the column lacks are those that are not held.
-use Prim.Native.Nat.{ℕ, _+_, _≤_}
-use mathlib.Core.Path.{_≡_, _∙_, ap}
+use mathlib.Core.Path.{_≡_, _∙_}
 use native.Mathlib.Omega.{arith}
-use lib.Dec.{leb}
 use lib.ListN.{length}
 use borrow.Author.Needs.{needs}
-use Rattle.table.specs.Rows.{columnsOf, rows, Full, Ordered}
+use Rattle.table.specs.Rows.{columnsOf, Full, Ordered}
 use Rattle.account.specs.Account.{heldIn}
 use Rattle.account.proofs.Columns.{rows-length, sound-orders}
-use Rattle.portfolio.specs.Answers.{notHeld}
 use Rattle.portfolio.proofs.Lacking.{lacking-held}
 use Rattle.portfolio.proofs.refusal.has_places.Statement.{statement}
 use Rattle.portfolio.proofs.refusal.has_places.Tie as tie
