@@ -1,0 +1,56 @@
+-- By the flag; then the setter of the account, filed.
+use mathlib.Core.Path.{_∙_}
+use native.Mathlib.Omega.{arith}
+use borrow.Author.Tests.{lt-ltb, le-ltb}
+use borrow.Author.Needs.{needs}
+use Rattle.account.specs.Settings.{withRecording}
+use Rattle.layout.specs.Settings.{isFlag, flagOf}
+use Rattle.accounts.specs.Entries.{settingsIn}
+use Rattle.accounts.proofs.Filing.{set-done, set-not-done}
+use Rattle.accounts.proofs.change.tc_set_recording.Statement.{statement}
+use Rattle.accounts.proofs.change.tc_set_recording.Tie as tie
+
+account-in-requires : tie.Need-account-in-requires
+account-in-requires c κs = search needs
+
+unless-unsound-requires : tie.Need-unless-unsound-requires
+unless-unsound-requires c κs = search needs
+
+same-length : tie.Need-same-length
+same-length c = search needs
+
+returns : tie.Need-returns
+returns c =
+    let a = c .before .before in
+    let s = a .before .before .before .args in
+    set-not-done (isFlag (s .flag)) (withRecording (flagOf (s .flag)) (settingsIn (s .account .now))) (s .account .now) (a .account-in .result) (c .unless-unsound .result) (a .account-in .ensures) (c .unless-unsound .ensures) (le-ltb (s .flag) 2 (omega arith))
+
+set-recording-requires : tie.Need-set-recording-requires
+set-recording-requires c κs = search needs
+
+file-requires : tie.Need-file-requires
+file-requires c κs = search needs
+
+same-length-2 : tie.Need-same-length-2
+same-length-2 c = search needs
+
+returns-2 : tie.Need-returns-2
+returns-2 c =
+    let f = c .before .before in
+    let q = f .before .before in
+    let a = q .before .before in
+    let s = a .before .before .before .args in
+    f .file .ensures ∙ set-done (isFlag (s .flag)) (withRecording (flagOf (s .flag))) (s .account .now) (a .account-in .result) (q .set-recording .result) (a .account-in .ensures) (q .set-recording .ensures) (lt-ltb (s .flag) 2 (omega arith))
+
+pub tc-set-recording-spec : {M : Type 1} → statement M
+tc-set-recording-spec =
+    tie.close
+    (tie.spec
+    account-in-requires
+    unless-unsound-requires
+    same-length
+    returns
+    set-recording-requires
+    file-requires
+    same-length-2
+    returns-2)

@@ -1,0 +1,3 @@
+// The C interface, accounts in lent bytes: setters.
+pub mod change;
+mod filed;
