@@ -4,7 +4,11 @@ use Prim.Native.Nat.{ℕ}
 use mathlib.Core.Bool.{Bool, true, false}
 use mathlib.Core.List.{List}
 use lib.Dec.{eqb}
+use lib.IntN.{ℤ}
 use lib.ListN.{length}
+use mir.Syntax.{w64}
+use mir.Val.{toZ, ofZ, SFits}
+use mir.ValLaws.{toZ-ofZ}
 use borrow.Author.Tests.{ne-eqb}
 use Rattle.answer.specs.declared.Answer.the-variants.{Done, BadSetting, Unsound}
 use Rattle.answer.specs.Numbers.{numberOf}
@@ -71,6 +75,10 @@ set-filed given s b k = simp (k, ← sound-in b) (set-by (soundIn b) (goodSettin
 -- the same over what the calls gave
 pub set-done : (given : Bool) (f : Settings → Settings) (b : List ℕ) (a : Account) (c : Changed) → a ≡ accountIn b → c ≡ changed (f (a .settings)) a → given ≡ true → filed c b ≡ setIn given (f (accountIn b .settings)) b
 set-done given f b a c e h k = ap (λ (x : Changed). filed x b) (h ∙ ap (λ (x : Account). changed (f (x .settings)) x) e) ∙ set-filed given (f (accountIn b .settings)) b k
+
+-- where a signed number is given, through the bits that hold it
+pub set-number-done : (f : ℤ → Settings → Settings) (z : ℤ) (b : List ℕ) (a : Account) (c : Changed) → SFits w64 z → a ≡ accountIn b → c ≡ changed (f (toZ w64 (ofZ w64 z)) (a .settings)) a → filed c b ≡ setIn true (f z (accountIn b .settings)) b
+set-number-done f z b a c k e h = set-done true (f z) b a c e (h ∙ ap (λ (x : ℤ). changed (f x (a .settings)) a) (toZ-ofZ w64 z k)) refl
 
 -- what is given is refused by itself
 refused-by : (t : Bool) (s : Settings) (b : List ℕ) → told (numberOf (pick t BadSetting Unsound)) b ≡ pick t (answering BadSetting b) (answering Unsound b)

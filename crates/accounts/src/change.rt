@@ -11,6 +11,12 @@ use crate::filed::unless_unsound;
 use account::TradeCap;
 use answer::Answer;
 
+fn is_flag(flag: u64) -> bool
+    ensures { λ r. ⌜ r ≡ isFlag flag ⌝ }
+{
+    flag < 2
+}
+
 // The mark 1 sets the cap; the mark 0 lifts it, and the cap is then 0.
 fn is_cap(mark: u64, cap: u64) -> bool
     ensures { λ r. ⌜ r ≡ isCap mark cap ⌝ }
@@ -92,7 +98,7 @@ pub extern "C" fn tc_set_recording(account: &mut [u8], flag: u64) -> u64
     ensures { λ r. ⌜ told r (now (account .exit)) ≡ setIn (isFlag flag) (withRecording (flagOf flag) (settingsIn (now (account .entry)))) (now (account .entry)) ⌝ }
 {
     let a = account_in(account);
-    if 1 < flag {
+    if !is_flag(flag) {
         return unless_unsound(a, Answer::BadSetting);
     }
     let c = a.set_recording(flag == 1);
@@ -104,7 +110,7 @@ pub extern "C" fn tc_set_cash_first(account: &mut [u8], flag: u64) -> u64
     ensures { λ r. ⌜ told r (now (account .exit)) ≡ setIn (isFlag flag) (withCashFirst (flagOf flag) (settingsIn (now (account .entry)))) (now (account .entry)) ⌝ }
 {
     let a = account_in(account);
-    if 1 < flag {
+    if !is_flag(flag) {
         return unless_unsound(a, Answer::BadSetting);
     }
     let c = a.set_cash_first(flag == 1);

@@ -1,10 +1,8 @@
 -- The setter of the account, filed.
-use mathlib.Core.Bool.{true}
-use mathlib.Core.Path.{refl, _∙_}
-use mir.Facts.{toZ-ofZ}
+use mathlib.Core.Path.{_∙_}
 use borrow.Author.Needs.{needs}
 use Rattle.account.specs.Settings.{withMinOrder}
-use Rattle.accounts.proofs.Filing.{set-done}
+use Rattle.accounts.proofs.Filing.{set-number-done}
 use Rattle.accounts.proofs.change.tc_set_min_order_value.Statement.{statement}
 use Rattle.accounts.proofs.change.tc_set_min_order_value.Tie as tie
 
@@ -26,7 +24,7 @@ returns c =
     let q = f .before .before in
     let a = q .before in
     let s = a .before .before .before in
-    f .file .ensures ∙ set-done true (withMinOrder (s .args .cents)) (s .args .account .now) (a .account-in .result) (q .set-min-order-value .result) (a .account-in .ensures) (simp (toZ-ofZ (s .fits .cents)) at (q .set-min-order-value .ensures)) refl
+    f .file .ensures ∙ set-number-done withMinOrder (s .args .cents) (s .args .account .now) (a .account-in .result) (q .set-min-order-value .result) (s .fits .cents) (a .account-in .ensures) (q .set-min-order-value .ensures)
 
 pub tc-set-min-order-value-spec : {M : Type 1} → statement M
 tc-set-min-order-value-spec =

@@ -1,10 +1,8 @@
 -- The setter of the account, filed.
-use mathlib.Core.Bool.{true}
-use mathlib.Core.Path.{refl, _∙_}
-use mir.Facts.{toZ-ofZ}
+use mathlib.Core.Path.{_∙_}
 use borrow.Author.Needs.{needs}
 use Rattle.account.specs.Settings.{withStep}
-use Rattle.accounts.proofs.Filing.{set-done}
+use Rattle.accounts.proofs.Filing.{set-number-done}
 use Rattle.accounts.proofs.change.tc_set_quantity_step.Statement.{statement}
 use Rattle.accounts.proofs.change.tc_set_quantity_step.Tie as tie
 
@@ -26,7 +24,7 @@ returns c =
     let q = f .before .before in
     let a = q .before in
     let s = a .before .before .before in
-    f .file .ensures ∙ set-done true (withStep (s .args .micro-shares)) (s .args .account .now) (a .account-in .result) (q .set-quantity-step .result) (a .account-in .ensures) (simp (toZ-ofZ (s .fits .micro-shares)) at (q .set-quantity-step .ensures)) refl
+    f .file .ensures ∙ set-number-done withStep (s .args .micro-shares) (s .args .account .now) (a .account-in .result) (q .set-quantity-step .result) (s .fits .micro-shares) (a .account-in .ensures) (q .set-quantity-step .ensures)
 
 pub tc-set-quantity-step-spec : {M : Type 1} → statement M
 tc-set-quantity-step-spec =

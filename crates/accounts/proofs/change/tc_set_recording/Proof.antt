@@ -1,7 +1,6 @@
 -- By the flag; then the setter of the account, filed.
-use mathlib.Core.Path.{_∙_}
-use native.Mathlib.Omega.{arith}
-use borrow.Author.Tests.{lt-ltb, le-ltb}
+use mathlib.Core.Path.{sym, _∙_}
+use borrow.Author.Tests.{not-true, not-false}
 use borrow.Author.Needs.{needs}
 use Rattle.account.specs.Settings.{withRecording}
 use Rattle.layout.specs.Settings.{isFlag, flagOf}
@@ -13,6 +12,9 @@ use Rattle.accounts.proofs.change.tc_set_recording.Tie as tie
 account-in-requires : tie.Need-account-in-requires
 account-in-requires c κs = search needs
 
+is-flag-requires : tie.Need-is-flag-requires
+is-flag-requires c κs = search needs
+
 unless-unsound-requires : tie.Need-unless-unsound-requires
 unless-unsound-requires c κs = search needs
 
@@ -21,9 +23,10 @@ same-length c = search needs
 
 returns : tie.Need-returns
 returns c =
-    let a = c .before .before in
+    let i = c .before .before in
+    let a = i .before in
     let s = a .before .before .before .args in
-    set-not-done (isFlag (s .flag)) (withRecording (flagOf (s .flag)) (settingsIn (s .account .now))) (s .account .now) (a .account-in .result) (c .unless-unsound .result) (a .account-in .ensures) (c .unless-unsound .ensures) (le-ltb (s .flag) 2 (omega arith))
+    set-not-done (isFlag (s .flag)) (withRecording (flagOf (s .flag)) (settingsIn (s .account .now))) (s .account .now) (a .account-in .result) (c .unless-unsound .result) (a .account-in .ensures) (c .unless-unsound .ensures) (sym (i .is-flag .ensures) ∙ not-true _ (c .before .if1 .taken))
 
 set-recording-requires : tie.Need-set-recording-requires
 set-recording-requires c κs = search needs
@@ -38,15 +41,18 @@ returns-2 : tie.Need-returns-2
 returns-2 c =
     let f = c .before .before in
     let q = f .before .before in
-    let a = q .before .before in
+    let e = q .before in
+    let i = e .before in
+    let a = i .before in
     let s = a .before .before .before .args in
-    f .file .ensures ∙ set-done (isFlag (s .flag)) (withRecording (flagOf (s .flag))) (s .account .now) (a .account-in .result) (q .set-recording .result) (a .account-in .ensures) (q .set-recording .ensures) (lt-ltb (s .flag) 2 (omega arith))
+    f .file .ensures ∙ set-done (isFlag (s .flag)) (withRecording (flagOf (s .flag))) (s .account .now) (a .account-in .result) (q .set-recording .result) (a .account-in .ensures) (q .set-recording .ensures) (sym (i .is-flag .ensures) ∙ not-false _ (e .if1 .left))
 
 pub tc-set-recording-spec : {M : Type 1} → statement M
 tc-set-recording-spec =
     tie.close
     (tie.spec
     account-in-requires
+    is-flag-requires
     unless-unsound-requires
     same-length
     returns
