@@ -1,0 +1,4 @@
+-- What the contracts of this crate cite.
+pub mod Asked
+pub mod Told
+pub mod Reports
