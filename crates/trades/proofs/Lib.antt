@@ -1,3 +1,4 @@
 -- The laws of this crate.
 pub mod Asking
 pub mod Finishing
+pub mod Telling
