@@ -18,8 +18,8 @@ pub fn model(costs: Costs) -> CostModel {
 }
 
 impl Account for Nanobook {
-    fn open(opening: &Opening) -> Nanobook {
-        Nanobook { account: Portfolio::new(opening.cash, model(opening.costs)), recorded_before: 0 }
+    fn open(opening: &Opening) -> (u64, Nanobook) {
+        (0, Nanobook { account: Portfolio::new(opening.cash, model(opening.costs)), recorded_before: 0 })
     }
 
     fn call(&mut self, step: &Step) -> Option<Outcome> {
