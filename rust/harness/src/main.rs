@@ -4,13 +4,14 @@ mod account;
 mod differ;
 mod fills;
 mod leaf;
+mod port;
 mod sample;
 mod series;
 mod table;
 
 const USAGE: &str =
     "usage: harness leaves [SEED [COUNT]] | fills [SEED [COUNT]] | figures [SEED [COUNT]] | full | bench
-    | scenarios [SEED [COUNT]] | spoiled SEED COUNT | table | sample write FILE | sample check FILE";
+    | accounts [SEED [COUNT]] | scenarios [SEED [COUNT]] | spoiled [SEED [COUNT]] | table | sample write FILE | sample check FILE";
 
 const SEED: u64 = 20261115;
 
@@ -23,8 +24,9 @@ fn main() {
         ["figures", ref rest @ ..] => seeded(rest, 120_000, series::run),
         ["full"] => full(),
         ["bench"] => series::bench(SEED),
+        ["accounts", ref rest @ ..] => seeded(rest, 8_000, account::run),
         ["scenarios", ref rest @ ..] => seeded(rest, 1_000, account::emit),
-        ["spoiled", seed, count] => account::emit_spoiled(number(seed), number(count)),
+        ["spoiled", ref rest @ ..] => seeded(rest, 1_000, account::emit_spoiled),
         ["table"] => table::run(),
         ["sample", "write", path] => sample::write(path),
         ["sample", "check", path] => sample::check(path),
