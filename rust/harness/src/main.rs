@@ -1,6 +1,7 @@
 //! The harness: `harness COMMAND`. Exit status 1 where the port and the Rust differ.
 
 mod account;
+mod bench;
 mod differ;
 mod fills;
 mod leaf;
@@ -10,8 +11,8 @@ mod series;
 mod table;
 
 const USAGE: &str =
-    "usage: harness leaves [SEED [COUNT]] | fills [SEED [COUNT]] | figures [SEED [COUNT]] | full | bench
-    | accounts [SEED [COUNT]] | scenarios [SEED [COUNT]] | spoiled [SEED [COUNT]] | table | sample write FILE | sample check FILE";
+    "usage: harness leaves [SEED [COUNT]] | fills [SEED [COUNT]] | figures [SEED [COUNT]] | full
+    | bench figures | bench accounts     | accounts [SEED [COUNT]] | scenarios [SEED [COUNT]] | spoiled [SEED [COUNT]] | table | sample write FILE | sample check FILE";
 
 const SEED: u64 = 20261115;
 
@@ -23,7 +24,8 @@ fn main() {
         ["fills", ref rest @ ..] => seeded(rest, 500_000, fills::run),
         ["figures", ref rest @ ..] => seeded(rest, 120_000, series::run),
         ["full"] => full(),
-        ["bench"] => series::bench(SEED),
+        ["bench", "figures"] => series::bench(SEED),
+        ["bench", "accounts"] => bench::run(),
         ["accounts", ref rest @ ..] => seeded(rest, 8_000, account::run),
         ["scenarios", ref rest @ ..] => seeded(rest, 1_000, account::emit),
         ["spoiled", ref rest @ ..] => seeded(rest, 1_000, account::emit_spoiled),
