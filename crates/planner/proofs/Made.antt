@@ -46,8 +46,8 @@ module _ (s : Settings) (wanted : List PlannedOrder) (n : ℕ) (c : Cols) (g : A
 
   pub plan-stands : (d : Cols) → s .«cash_first» ≡ false → Planning s wanted c d (record { count = n; notional = v })
   unfolding inRunningOrder
-  plan-stands d e = record { few = g .few; same = simp e (g .same); notional = total }
+  plan-stands d e = record { full = simp e (g .full); few = g .few; same = simp e (g .same); notional = total }
 
   pub plan-runs : (b d : Cols) (r : ℕ) → s .«cash_first» ≡ true → Full b → Runs n c b r d → Planning s wanted c d (record { count = r; notional = v })
   unfolding inRunningOrder
-  plan-runs b d r e f w = record { few = omega (arith, w .count, shorter-le n 64); same = simp e (w .same f ∙ ap (λ l. cashFirst l []) (g .same)); notional = total }
+  plan-runs b d r e f w = record { full = simp e (w .full f); few = omega (arith, w .count, shorter-le n 64); same = simp e (w .same f ∙ ap (λ l. cashFirst l []) (g .same)); notional = total }

@@ -16,6 +16,7 @@ use Rattle.planner.specs.Adding.{wantedAt, Room}
 
 -- the plan r of these orders stands in the columns d of the run in cash-first mode, else in the columns c
 pub record Planning (s : Settings) (wanted : List PlannedOrder) (c d : Cols) (r : Planned) : Type 0 where
+  pub full : Full (pick (s .«cash_first») d c)
   pub few : r .count ≤ 64
   pub same : plans (r .count) (pick (s .«cash_first») d c) ≡ inRunningOrder s (admitted s (addedAll s wanted []))
   pub notional : r .notional ≡ notionalFrom (pos 0) (admitted s (addedAll s wanted []))

@@ -2,3 +2,6 @@
 pub mod Refusals
 pub mod Worths
 pub mod Trading
+pub mod Lacking
+pub mod Plans
+pub mod Soundness

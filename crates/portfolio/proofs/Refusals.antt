@@ -6,18 +6,22 @@ use mathlib.Core.List.{List, []}
 use native.Mathlib.Omega.{arith}
 use lib.Dec.{eqb, leb}
 use lib.IntN.{ℤ, pos}
+use lib.Ieee.{Float}
+use lib.ListN.{length}
 use lib.Signed.{leZ}
 use borrow.Author.Tests.{leb-true, le-leb, lt-leb}
 use Rattle.answer.specs.declared.Answer.{Answer}
 use Rattle.answer.specs.declared.Answer.the-variants.{Done, BadSetting, BadSymbol, Twice, BadPrice, BadWeight, TooLong, TooMany, NoRecordRoom, NotHeld, BufferFull, Unsound, BadSeries}
 use Rattle.answer.specs.Numbers.{numberOf}
-use Rattle.table.specs.Keyed.{pick, both}
+use Rattle.table.specs.Keyed.{pick, both, Rising}
 use Rattle.table.proofs.Keyed.{both-true}
 use Rattle.feeds.specs.Checks.{unless, listsAnswer, pricesAnswer}
+use Rattle.feeds.proofs.Checks.{Accepted, done-accepted}
 use Rattle.account.specs.declared.account.Account.{Account}
 use Rattle.position.specs.Symbols.{goodSymbol}
-use Rattle.account.specs.Account.{soundAccount}
-use Rattle.portfolio.specs.Answers.{isDone, orLater, hasRoom, queryAnswer, returnAnswer, closeAnswer}
+use Rattle.account.specs.Account.{soundAccount, heldIn}
+use Rattle.portfolio.specs.Answers.{isDone, orLater, hasRoom, notHeld, rebalanceAnswer, queryAnswer, returnAnswer, closeAnswer}
+use Rattle.portfolio.specs.Planned.{Ready}
 
 pub done-by-number : (w : Answer) → eqb (numberOf w) 0 ≡ isDone w
 done-by-number Done = refl
@@ -116,15 +120,45 @@ return-done a ps vs n m e =
     record { query = done-is _ (p .0); equities = omega arith; returns = omega arith }
 
 -- ---- closing
-pub record Closing (a : Account) (room : ℕ) : Type 0 where
+pub record Closing (a : Account) (s : ℕ) (price : ℤ) (room : ℕ) : Type 0 where
   pub sound : soundAccount a ≡ true
+  pub good : goodSymbol s ≡ true
+  pub priced : leZ (pos 1) price ≡ true
   pub roomy : hasRoom a 1 room ≡ true
 
-pub close-done : (a : Account) (s : ℕ) (price : ℤ) (room : ℕ) → isDone (closeAnswer a s price room) ≡ true → Closing a room
+pub close-done : (a : Account) (s : ℕ) (price : ℤ) (room : ℕ) → isDone (closeAnswer a s price room) ≡ true → Closing a s price room
 unfolding closeAnswer
 close-done a s price room e =
     let p = passed (soundAccount a) Unsound _ refl e in
     let q = passed (goodSymbol s) BadSymbol _ refl (p .1) in
     let r = passed (leZ (pos 1) price) BadPrice _ refl (q .1) in
     let t = passed (hasRoom a 1 room) NoRecordRoom _ refl (r .1) in
-    record { sound = p .0; roomy = t .0 }
+    record { sound = p .0; good = q .0; priced = r .0; roomy = t .0 }
+
+-- ---- a rebalance
+pub record Rebalancing (a : Account) (ts : List ℕ) (ws : List Float) (ps : List ℕ) (vs : List ℤ) (room : ℕ) : Type 0 where
+  pub sound : soundAccount a ≡ true
+  pub lists : Accepted ts ws ps vs
+  pub roomy : hasRoom a 64 room ≡ true
+  pub few : length (heldIn (a .positions)) + notHeld ts (heldIn (a .positions)) ≤ 64
+
+module _ (a : Account) (ts : List ℕ) (ws : List Float) (ps : List ℕ) (vs : List ℤ) (room : ℕ) where
+  pub rebalance-done : isDone (rebalanceAnswer a ts ws ps vs room) ≡ true → Rebalancing a ts ws ps vs room
+  unfolding rebalanceAnswer
+  rebalance-done e =
+      let p = passed (soundAccount a) Unsound _ refl e in
+      let q = passed-both (listsAnswer ts ws ps vs) _ (p .1) in
+      let r = passed (hasRoom a 64 room) NoRecordRoom _ refl (q .1) in
+      let t = passed (leb (length (heldIn (a .positions)) + notHeld ts (heldIn (a .positions))) 64) TooMany _ refl (r .1) in
+      record { sound = p .0; lists = done-accepted ts ws ps vs (done-is _ (q .0)); roomy = r .0; few = leb-true _ _ (t .0) }
+
+  -- at prices whose symbols ascend: those of the call, or others that serve for them
+  pub rebalance-ready : Rebalancing a ts ws ps vs room → (symbols : List ℕ) → Rising symbols → Ready a ts ws symbols room
+  rebalance-ready h symbols r = record {
+    sound = h .sound;
+    paired = h .lists .targetsPaired;
+    apart = h .lists .targetsDistinct;
+    priced = r;
+    roomy = h .roomy;
+    few = h .few;
+  }

@@ -1,14 +1,20 @@
 // What each call is refused for, in the order of document 01.
 ghost use mathlib.Core.Path.{_≡_};
 ghost use mathlib.Core.Bool.{true};
-ghost use Rattle.portfolio.specs.Answers.{isDone, places, hasRoom, queryAnswer, returnAnswer, closeAnswer};
+ghost use Prim.Native.Nat.{_+_, _≤_};
+ghost use lib.Dec.{leb};
+ghost use lib.ListN.{length};
+ghost use Rattle.portfolio.specs.Answers.{isDone, places, hasRoom, notHeld, queryAnswer, rebalanceAnswer, returnAnswer, closeAnswer};
+ghost use Rattle.portfolio.specs.Planned.{lackedBy, Lacking};
 ghost use Rattle.table.specs.Rows.{holding};
 ghost use Rattle.account.specs.Account.{soundTable, heldIn};
 use account::Account;
 use answer::Answer;
+use feeds::check_lists;
 use feeds::check_prices;
 use position::Position;
 use position::Symbol;
+use table::Found;
 use table::Table;
 use table::find;
 use table::held;
@@ -69,6 +75,64 @@ pub(crate) fn has_room(a: Account, asked: usize, room: usize) -> bool
         return asked <= room;
     }
     true
+}
+
+fn lacked_by(f: Found) -> usize
+    ensures { λ r. ⌜ r ≡ lackedBy f ⌝ }
+{
+    match f {
+        Found::At(_) => 0,
+        Found::Absent(_) => 1,
+    }
+}
+
+// The targets that are not among the first n symbols. A target is likely held at its own place in the list.
+fn count_not_held(key: &[u64; 64], n: usize, targets: &[u64]) -> usize
+    ensures { λ r. ⌜ Lacking (now (key .entry)) n (now (targets .entry)) r ⌝ }
+{
+    let mut count = 0usize;
+    let mut i = 0usize;
+    while i < targets.len() {
+        let f = find(key, n, targets[i], i);
+        count += lacked_by(f);
+        i += 1;
+    }
+    count
+}
+
+// Not "held symbols (flat ones too) and target symbols together exceed 64".
+fn has_places(positions: Table, targets: &[u64]) -> bool
+    requires { ⌜ (soundTable positions ≡ true) × (length (now targets) ≤ 64) ⌝ }
+    ensures { λ r. ⌜ r ≡ leb (length (heldIn positions) + notHeld (now (targets .entry)) (heldIn positions)) 64 ⌝ }
+{
+    let n = positions.count;
+    n + count_not_held(&positions.symbol, n, targets) <= 64
+}
+
+pub(crate) fn rebalance_answer(
+    a: Account,
+    targets: &[u64],
+    weights: &[f64],
+    symbols: &[u64],
+    prices: &[i64],
+    room: usize,
+) -> Answer
+    ensures { λ r. ⌜ r ≡ rebalanceAnswer a (now (targets .entry)) (now (weights .entry)) (now (symbols .entry)) (now (prices .entry)) room ⌝ }
+{
+    if !a.is_sound() {
+        return Answer::Unsound;
+    }
+    let answer = check_lists(targets, weights, symbols, prices);
+    if !is_done(answer) {
+        return answer;
+    }
+    if !has_room(a, 64, room) {
+        return Answer::NoRecordRoom;
+    }
+    if !has_places(a.positions, targets) {
+        return Answer::TooMany;
+    }
+    Answer::Done
 }
 
 // The position of a symbol, flat where there is none.

@@ -31,7 +31,7 @@ answer-is c = simp (toZ-ofZ (c .before .before .before .fits .price), c .before 
 is-done : (c : tie.Else1) → isDone (answer-at (c .before .before .before .before .before)) ≡ true
 is-done c = sym (ap isDone (answer-is (c .before .before))) ∙ sym (c .before .is-done .ensures) ∙ not-false _ (c .if1 .left)
 
-closing : (c : tie.Else1) → let s = c .before .before .before .before .before in Closing (s .args .a) (places (length (s .args .words .now)) (length (s .args .ints .now)))
+closing : (c : tie.Else1) → let s = c .before .before .before .before .before in Closing (s .args .a) (s .args .symbol) (s .args .price) (places (length (s .args .words .now)) (length (s .args .ints .now)))
 closing c = close-done _ _ _ _ (is-done c)
 
 notional-fits : (s : tie.Start) → SFits w64 (s .args .a .counters .«last_rebalance_notional»)

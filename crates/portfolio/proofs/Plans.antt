@@ -1,0 +1,151 @@
+-- The plan of an account's columns is its plan, and running the columns that it stands in is the rebalance.
+use Prim.Native.Nat.{ℕ, zero, suc, _+_, _≤_}
+use mathlib.Core.Path.{_≡_, refl, sym, ap, subst, _∙_}
+use mathlib.Core.Bool.{Bool, true, false}
+use mathlib.Core.List.{List, [], _∷_, map}
+use native.Mathlib.Omega.{arith}
+use native.Mathlib.Numerals.{add-one}
+use lib.Dec.{leb}
+use lib.ListN.{length, drop}
+use lib.IntN.{ℤ, pos}
+use lib.Signed.{leZ}
+use lib.Ieee.{Float}
+use borrow.Author.Tests.{leb-true, le-leb}
+use Rattle.table.specs.Keyed.{pick}
+use Rattle.table.specs.Rows.{columnsOf}
+use Rattle.table.specs.Rows as table
+use Rattle.feeds.specs.Lists.{priceOf}
+use Rattle.account.specs.declared.account.Account.{Account}
+use Rattle.account.specs.declared.settings.Settings.{Settings}
+use Rattle.account.specs.Account.{heldIn}
+use Rattle.account.proofs.Holdings.{account-ordered}
+use Rattle.planning.specs.declared.plan.PlannedOrder.{PlannedOrder}
+use Rattle.planning.specs.Equity.{equityOf}
+use Rattle.planning.specs.Plan.{closings, targetings, wanted, orderCount}
+use Rattle.planning.proofs.Plans.{targetings-length}
+use Rattle.planning.proofs.Room.{count-append, count-most, orders-at-most}
+use Rattle.fills.specs.declared.record.ExecutionKind.{ExecutionKind}
+use Rattle.fills.specs.Runs.{orders}
+use Rattle.fills.proofs.Running.{next-order, no-order}
+use Rattle.admission.specs.Running.{cashFirst, inRunningOrder, notionalFrom}
+use Rattle.admission.specs.Columns.{Cols, Full, from, orderAt, plans}
+use Rattle.admission.proofs.Plans.{plans-few, plans-length, shorter-same}
+use Rattle.admission.proofs.Kept.{running-length}
+use Rattle.planner.specs.declared.plan.Planned.{Planned}
+use Rattle.planner.specs.Adding.{wantedAt}
+use Rattle.planner.specs.Planning as planner
+use Rattle.planner.proofs.Held.{wanted-of-rows, plan-of-rows}
+use Rattle.portfolio.specs.Answers.{hasRoom, notHeld}
+use Rattle.portfolio.specs.Rebalance.{orderOf, admittedPlan, afterPlan, afterRebalance}
+use Rattle.portfolio.specs.Trades.{afterOrders}
+use Rattle.portfolio.specs.Planned.{equityAt, planAt, Stands, Plans, Ready}
+use Rattle.portfolio.proofs.Worths.{equity-of-places}
+
+-- ---- the plan of the places
+no-run : (s : Settings) → inRunningOrder s [] ≡ []
+unfolding inRunningOrder cashFirst
+no-run s = go (s .«cash_first»)
+  where
+    go : (b : Bool) → pick b (cashFirst [] []) [] ≡ []
+    go true = refl
+    go false = refl
+
+module _ (s : Settings) (cash : ℤ) (price : ℕ → ℤ) (n : ℕ) (ks : List ℕ) (qs : List ℤ) (targets : List ℕ) (weights : List Float) where
+  -- "At equity 0 or below the call is done with no orders and both last-rebalance figures 0"
+  pub plan-none : (c d : Cols) → Full c → Full d → leZ (equityAt price cash n ks qs) (pos 0) ≡ true → Stands s (planAt s cash price n ks qs targets weights) c d (record { count = 0; notional = pos 0 })
+  unfolding planAt notionalFrom
+  plan-none c d f g e =
+      rw e
+      (record {
+        full = go (s .«cash_first»);
+        few = omega arith;
+        same = plans-few 0 (pick (s .«cash_first») d c) (omega arith) ∙ sym (no-run s);
+        notional = refl;
+      })
+    where
+      go : (b : Bool) → Full (pick b d c)
+      go true = g
+      go false = f
+
+  pub plan-some : (c d : Cols) (r : Planned) → leZ (equityAt price cash n ks qs) (pos 0) ≡ false
+      → planner.Planning s (wantedAt s (equityAt price cash n ks qs) price n ks qs targets weights) c d r → Stands s (planAt s cash price n ks qs targets weights) c d r
+  unfolding planAt
+  plan-some c d r e p = rw e (record { full = p .full; few = p .few; same = p .same; notional = p .notional })
+
+-- ---- of an account
+module _ (a : Account) (ts : List ℕ) (ws : List Float) (ps : List ℕ) (room : ℕ) (y : Ready a ts ws ps room) (f : table.Full (columnsOf (a .positions))) (price : ℕ → ℤ) where
+  abbrev own : ℤ
+  own = equityOf price (a .cash) (heldIn (a .positions))
+
+  abbrev at-places : ℤ
+  at-places = equityAt price (a .cash) (a .positions .count) (a .positions .symbol) (a .positions .quantity)
+
+  own-equity : at-places ≡ own
+  own-equity = equity-of-places price a (y .sound) f
+
+  plan-of-account : planAt (a .settings) (a .cash) price (a .positions .count) (a .positions .symbol) (a .positions .quantity) ts ws ≡ admittedPlan a ts ws price
+  unfolding planAt admittedPlan
+  plan-of-account =
+      rw own-equity
+      (ap (pick (leZ own (pos 0)) []) (plan-of-rows (a .settings) own price ts (columnsOf (a .positions)) ws (a .positions .count) (account-ordered a (y .sound) f) (y .paired)))
+
+  few-wanted : (equity : ℤ) → orderCount (wanted (a .settings) equity price (heldIn (a .positions)) ts ws) ≤ 64
+  unfolding wanted notHeld
+  few-wanted equity =
+      let held = heldIn (a .positions) in
+      let cs = closings (a .settings) equity price ts held in
+      let gs = targetings (a .settings) equity price held ts ws in
+      omega (
+        arith,
+        count-append cs gs,
+        count-most gs,
+        targetings-length (a .settings) equity price held ts ws (y .paired),
+        orders-at-most held (λ l. notHeld l held) (λ t l. refl) (a .settings) equity price ts (y .apart),
+        y .few,
+      )
+
+  few-orders : orderCount (wantedAt (a .settings) at-places price (a .positions .count) (a .positions .symbol) (a .positions .quantity) ts ws) ≤ 64
+  few-orders =
+      rw (wanted-of-rows (a .settings) at-places price ts (columnsOf (a .positions)) ws (a .positions .count) (account-ordered a (y .sound) f) (y .paired)) (few-wanted at-places)
+
+-- what the function that plans it answers
+pub account-stands : (a : Account) (ts : List ℕ) (ws : List Float) (ps : List ℕ) (vs : List ℤ) (room : ℕ) → Ready a ts ws ps room → table.Full (columnsOf (a .positions)) → (k l c d : Cols) (r : Planned) (n : ℕ)
+    → n ≡ a .positions .count → Full k → Full l → Plans (a .settings) (a .cash) (a .positions .symbol) (a .positions .quantity) n ts ws ps vs k l c d r → Stands (a .settings) (admittedPlan a ts ws (priceOf ps vs)) c d r
+account-stands a ts ws ps vs room y f k l c d r n e fk fl p =
+    let price = priceOf ps vs in
+    let made = subst (λ n. Plans (a .settings) (a .cash) (a .positions .symbol) (a .positions .quantity) n ts ws ps vs k l c d r) e p in
+    subst (λ plan. Stands (a .settings) plan c d r) (plan-of-account a ts ws ps room y f price)
+    (made .settled (record { priced = y .priced; held = account-ordered a (y .sound) f .rising; plan = fk; run = fl; most = few-orders a ts ws ps room y f price }))
+
+-- ---- the columns of a plan as orders
+orders-from : (c : Cols) → Full c → (n i k : ℕ) → n ≤ 64 → i + k ≡ n → drop i (orders n (c .symbol) (c .quantity) (c .price)) ≡ map orderOf (from (orderAt c) i k)
+orders-from c f n i zero h e = no-order n (c .symbol) (c .quantity) (c .price) (f .symbol) (f .quantity) (f .price) i (omega arith)
+orders-from c f n i (suc k) h e =
+    next-order n (c .symbol) (c .quantity) (c .price) (f .symbol) (f .quantity) (f .price) i (omega arith)
+    ∙ ap (λ l. orderOf (orderAt c i) ∷ l) (rw add-one (orders-from c f n (suc i) k h (omega arith)))
+
+pub orders-of-plan : (n : ℕ) (c : Cols) → Full c → n ≤ 64 → orders n (c .symbol) (c .quantity) (c .price) ≡ map orderOf (plans n c)
+orders-of-plan n c f h = orders-from c f n 0 n h (omega arith) ∙ sym (ap (map orderOf) (plans-few n c h))
+
+-- ---- the run is the rebalance
+pub room-for : (a : Account) (m room : ℕ) → m ≤ 64 → hasRoom a 64 room ≡ true → hasRoom a m room ≡ true
+unfolding hasRoom
+room-for a m room h e = go (a .settings .recording) e
+  where
+    go : (b : Bool) → pick b (leb 64 room) true ≡ true → pick b (leb m room) true ≡ true
+    go true q = le-leb m room (omega (arith, leb-true 64 room q, h))
+    go false q = refl
+
+module _ (a : Account) (plan : List PlannedOrder) (c d : Cols) (r : Planned) (h : Stands (a .settings) plan c d r) where
+  counted : r .count ≡ length plan
+  counted = omega (arith, ap length (h .same), running-length (a .settings) plan, plans-length (r .count) (pick (a .settings .«cash_first») d c), shorter-same (r .count) 64 (h .few))
+
+  pub run-rebalances : (x : Cols) → x ≡ pick (a .settings .«cash_first») d c → (period : ℕ) (kind : ExecutionKind)
+      → afterOrders a (orders (r .count) (x .symbol) (x .quantity) (x .price)) period kind (r .count) (r .notional) ≡ afterRebalance a plan period kind
+  unfolding afterRebalance afterPlan
+  run-rebalances x e period kind =
+      let f : Full x = rw e (h .full) in
+      let run : orders (r .count) (x .symbol) (x .quantity) (x .price) ≡ map orderOf (inRunningOrder (a .settings) plan) = orders-of-plan (r .count) x f (h .few) ∙ ap (map orderOf) (ap (plans (r .count)) e ∙ h .same) in
+      ap (λ os. afterOrders a os period kind (r .count) (r .notional)) run
+      ∙ ap (λ n. afterOrders a (map orderOf (inRunningOrder (a .settings) plan)) period kind n (r .notional)) counted
+      ∙ ap (afterOrders a (map orderOf (inRunningOrder (a .settings) plan)) period kind (length plan)) (h .notional)

@@ -1,0 +1,88 @@
+-- A rebalance as its functions go: targets that a column lacks, the plan of the places of two columns, and what a call that is not refused has.
+use Prim.Native.Nat.{ℕ, _+_, _≤_}
+use mathlib.Core.Path.{_≡_}
+use mathlib.Core.Bool.{true}
+use mathlib.Core.List.{List, [], _∷_}
+use lib.ListN.{length, take}
+use lib.IntN.{ℤ, pos}
+use lib.Signed.{leZ}
+use lib.Ieee.{Float}
+use Rattle.words.specs.Sums.{satAdd}
+use Rattle.table.specs.Keyed.{pick, Rising}
+use Rattle.table.specs.Places.{shorter, found}
+use Rattle.table.specs.declared.found.Found.{Found}
+use Rattle.table.specs.declared.found.Found.the-variants.{At, Absent}
+use Rattle.table.specs.declared.table.Table.{Table}
+use Rattle.table.specs.Rows.{columnsOf}
+use Rattle.table.specs.Rows as table
+use Rattle.feeds.specs.Lists.{distinct, priceOf}
+use Rattle.account.specs.declared.account.Account.{Account}
+use Rattle.account.specs.declared.settings.Settings.{Settings}
+use Rattle.account.specs.Account.{soundAccount, heldIn}
+use Rattle.planning.specs.declared.plan.PlannedOrder.{PlannedOrder}
+use Rattle.planning.specs.Plan.{orderCount}
+use Rattle.planning.specs.Equity.{worthPlaces}
+use Rattle.admission.specs.Admission.{addedAll, admitted}
+use Rattle.admission.specs.Running.{inRunningOrder, notionalFrom}
+use Rattle.admission.specs.Columns.{Cols, Full, plans}
+use Rattle.planner.specs.declared.plan.Planned.{Planned}
+use Rattle.planner.specs.Adding.{wantedAt}
+use Rattle.portfolio.specs.Answers.{hasRoom, notHeld}
+
+-- ---- targets that are not held
+abbrev pub lackedBy : Found → ℕ
+lackedBy (At i) = 0
+lackedBy (Absent i) = 1
+
+-- how many of them a column lacks
+unfoldable pub lacking : List ℕ → List ℕ → ℕ
+lacking [] ks = 0
+lacking (t ∷ l) ks = lackedBy (found t ks) + lacking l ks
+
+-- r of the targets are not among the first n places, where their symbols ascend
+pub record Lacking (ks : List ℕ) (n : ℕ) (targets : List ℕ) (r : ℕ) : Type 0 where
+  pub most : r ≤ length targets
+  pub settled : Rising (take n ks) → r ≡ lacking targets (take n ks)
+
+-- ---- the plan of the places of two columns
+abbrev pub equityAt : (ℕ → ℤ) → ℤ → ℕ → List ℕ → List ℤ → ℤ
+equityAt price cash n ks qs = satAdd cash (worthPlaces price (shorter n 64) ks qs)
+
+-- "At equity 0 or below the call is done with no orders"
+unfoldable pub planAt : Settings → ℤ → (ℕ → ℤ) → ℕ → List ℕ → List ℤ → List ℕ → List Float → List PlannedOrder
+planAt s cash price n ks qs targets weights =
+    let equity = equityAt price cash n ks qs in
+    pick (leZ equity (pos 0)) [] (admitted s (addedAll s (wantedAt s equity price n ks qs targets weights) []))
+
+-- the plan stands in the columns d of the run in cash-first mode, else in the columns c
+pub record Stands (s : Settings) (plan : List PlannedOrder) (c d : Cols) (r : Planned) : Type 0 where
+  pub full : Full (pick (s .«cash_first») d c)
+  pub few : r .count ≤ 64
+  pub same : plans (r .count) (pick (s .«cash_first») d c) ≡ inRunningOrder s plan
+  pub notional : r .notional ≡ notionalFrom (pos 0) plan
+
+-- what a plan is made under: symbols that ascend, full columns, and room for its orders
+pub record Room (s : Settings) (cash : ℤ) (ks : List ℕ) (qs : List ℤ) (n : ℕ) (targets : List ℕ) (weights : List Float) (symbols : List ℕ) (prices : List ℤ) (a b : Cols) : Type 0 where
+  pub priced : Rising symbols
+  pub held : Rising (take n ks)
+  pub plan : Full a
+  pub run : Full b
+  pub most : let price = priceOf symbols prices in orderCount (wantedAt s (equityAt price cash n ks qs) price n ks qs targets weights) ≤ 64
+
+-- from the columns a and b
+pub record Plans (s : Settings) (cash : ℤ) (ks : List ℕ) (qs : List ℤ) (n : ℕ) (targets : List ℕ) (weights : List Float) (symbols : List ℕ) (prices : List ℤ) (a b c d : Cols) (r : Planned) : Type 0 where
+  pub settled : Room s cash ks qs n targets weights symbols prices a b → Stands s (planAt s cash (priceOf symbols prices) n ks qs targets weights) c d r
+
+-- the count of a table's places in use, and that its columns have 64
+pub record Used (t : Table) (r : ℕ) : Type 0 where
+  pub same : r ≡ t .count
+  pub full : table.Full (columnsOf t)
+
+-- ---- a rebalance that is not refused, at prices whose symbols ascend
+pub record Ready (a : Account) (targets : List ℕ) (weights : List Float) (symbols : List ℕ) (room : ℕ) : Type 0 where
+  pub sound : soundAccount a ≡ true
+  pub paired : length targets ≡ length weights
+  pub apart : distinct targets ≡ true
+  pub priced : Rising symbols
+  pub roomy : hasRoom a 64 room ≡ true
+  pub few : length (heldIn (a .positions)) + notHeld targets (heldIn (a .positions)) ≤ 64

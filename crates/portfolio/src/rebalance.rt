@@ -1,0 +1,195 @@
+// A rebalance: the plan at the prices of the call, and its fills.
+ghost use mathlib.Core.Path.{_≡_};
+ghost use lib.ListN.{length};
+ghost use Rattle.feeds.specs.Lists.{priceOf};
+ghost use Rattle.admission.specs.Columns.{cols};
+ghost use Rattle.portfolio.specs.Answers.{places};
+ghost use Rattle.portfolio.specs.Planned.{Plans, Ready, Used};
+ghost use Rattle.portfolio.specs.Rebalance.{admittedPlan, afterRebalance, rebalanced};
+ghost use Rattle.portfolio.specs.Trades.{filed, filedBy};
+use crate::refusal::is_done;
+use crate::refusal::places;
+use crate::refusal::rebalance_answer;
+use crate::trade::Traded;
+use crate::trade::run;
+use account::Account;
+use account::Settings;
+use feeds::is_ascending;
+use feeds::sort_prices;
+use fills::ExecutionKind;
+use planner::Planned;
+use planner::make_plan;
+use planning::total_worth;
+use table::Table;
+
+// "At equity 0 or below the call is done with no orders and both last-rebalance figures 0": else the plan of what is held, in columns that the
+// caller lends.
+fn plan_at<'a>(
+    key: &'a [u64; 64],
+    held: &'a [i64; 64],
+    n: usize,
+    targets: &[u64],
+    weights: &[f64],
+    symbols: &[u64],
+    prices: &[i64],
+    s: Settings,
+    cash: i64,
+    symbol: &mut [u64; 64],
+    quantity: &mut [i64; 64],
+    price: &mut [i64; 64],
+    drift: &mut [f64; 64],
+    run_symbol: &mut [u64; 64],
+    run_quantity: &mut [i64; 64],
+    run_price: &mut [i64; 64],
+    run_drift: &mut [f64; 64],
+) -> Planned
+    ensures { λ r. ⌜ Plans s cash (now (key .entry)) (now (held .entry)) n (now (targets .entry)) (now (weights .entry)) (now (symbols .entry)) (now (prices .entry))
+        (cols (now (symbol .entry)) (now (quantity .entry)) (now (price .entry)) (now (drift .entry)))
+        (cols (now («run_symbol» .entry)) (now («run_quantity» .entry)) (now («run_price» .entry)) (now («run_drift» .entry)))
+        (cols (now (symbol .exit)) (now (quantity .exit)) (now (price .exit)) (now (drift .exit)))
+        (cols (now («run_symbol» .exit)) (now («run_quantity» .exit)) (now («run_price» .exit)) (now («run_drift» .exit))) r ⌝ }
+{
+    let equity = words::saturating_add(cash, total_worth(key, held, n, symbols, prices));
+    if equity <= 0 {
+        return Planned {
+            count: 0,
+            notional: 0,
+        };
+    }
+    make_plan(
+        key,
+        held,
+        n,
+        targets,
+        weights,
+        symbols,
+        prices,
+        s,
+        equity,
+        symbol,
+        quantity,
+        price,
+        drift,
+        run_symbol,
+        run_quantity,
+        run_price,
+        run_drift,
+    )
+}
+
+// The count of places in use.
+fn used(positions: Table) -> usize
+    ensures { λ r. ⌜ Used positions r ⌝ }
+{
+    positions.count
+}
+
+// Plans at prices whose symbols ascend, and fills: in cash-first mode the columns of the run, else those of the plan.
+fn rebalance_at(
+    a: Account,
+    targets: &[u64],
+    weights: &[f64],
+    symbols: &[u64],
+    prices: &[i64],
+    period: u64,
+    kind: ExecutionKind,
+    words: &mut [u64],
+    ints: &mut [i64],
+) -> Traded
+    requires { ⌜ Ready a (now targets) (now weights) (now symbols) (places (length (now words)) (length (now ints))) ⌝ }
+    ensures { λ r. ⌜ filedBy r (now (words .exit)) (now (ints .exit))
+        ≡ filed (afterRebalance a (admittedPlan a (now (targets .entry)) (now (weights .entry)) (priceOf (now (symbols .entry)) (now (prices .entry)))) period kind)
+        (now (words .entry)) (now (ints .entry)) ⌝ }
+{
+    let t = a.positions;
+    let places = used(t);
+    let s = a.settings;
+    let mut os = [0u64; 64];
+    let mut oq = [0i64; 64];
+    let mut op = [0i64; 64];
+    let mut od = [0.0f64; 64];
+    let mut rs = [0u64; 64];
+    let mut rq = [0i64; 64];
+    let mut rp = [0i64; 64];
+    let mut rd = [0.0f64; 64];
+    let p = plan_at(
+        &t.symbol,
+        &t.quantity,
+        places,
+        targets,
+        weights,
+        symbols,
+        prices,
+        s,
+        a.cash,
+        &mut os,
+        &mut oq,
+        &mut op,
+        &mut od,
+        &mut rs,
+        &mut rq,
+        &mut rp,
+        &mut rd,
+    );
+    let m = p.count;
+    let n = m as u64;
+    let v = p.notional;
+    if s.cash_first {
+        return run(&rs, &rq, &rp, m, period, kind, n, v, words, ints, a);
+    }
+    run(&os, &oq, &op, m, period, kind, n, v, words, ints, a)
+}
+
+// Prices whose symbols ascend are used in place; others are sorted first.
+pub fn rebalance_simple(
+    a: Account,
+    targets: &[u64],
+    weights: &[f64],
+    symbols: &[u64],
+    prices: &[i64],
+    period: u64,
+    kind: ExecutionKind,
+    words: &mut [u64],
+    ints: &mut [i64],
+) -> Traded
+    ensures { λ r. ⌜ filedBy r (now (words .exit)) (now (ints .exit))
+        ≡ filed (rebalanced a (now (targets .entry)) (now (weights .entry)) (now (symbols .entry)) (now (prices .entry)) period kind
+        (places (length (now (words .entry))) (length (now (ints .entry))))) (now (words .entry)) (now (ints .entry)) ⌝ }
+{
+    let room = places(words.len(), ints.len());
+    let answer = rebalance_answer(a, targets, weights, symbols, prices, room);
+    if !is_done(answer) {
+        return Traded {
+            answer,
+            records: 0,
+            account: a,
+        };
+    }
+    if is_ascending(symbols) {
+        return rebalance_at(
+            a,
+            targets,
+            weights,
+            symbols,
+            prices,
+            period,
+            kind,
+            words,
+            ints,
+        );
+    }
+    let mut keys = [0u64; 128];
+    let mut values = [0i64; 128];
+    let m = sort_prices(symbols, prices, &mut keys[..], &mut values[..]);
+    rebalance_at(
+        a,
+        targets,
+        weights,
+        &keys[..m],
+        &values[..m],
+        period,
+        kind,
+        words,
+        ints,
+    )
+}
