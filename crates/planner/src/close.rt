@@ -15,6 +15,18 @@ use planning::planned_close;
 use position::Shares;
 use position::Symbol;
 
+// Whether a symbol is a target. The hinted place is looked at first; the answer does not depend on the hint.
+fn is_target(symbol: u64, targets: &[u64], hint: usize) -> bool
+    ensures { λ r. ⌜ r ≡ among symbol (now (targets .entry)) ⌝ }
+{
+    if hint < targets.len() {
+        if targets[hint] == symbol {
+            return true;
+        }
+    }
+    is_among(symbol, targets)
+}
+
 // The close of one holding, of nothing where its symbol is a target.
 fn close_of(
     s: Settings,
@@ -23,15 +35,16 @@ fn close_of(
     quantity: i64,
     price: i64,
     targets: &[u64],
+    hint: usize,
 ) -> PlannedOrder
     ensures { λ r. ⌜ r ≡ plannedClose s equity symbol quantity price (among symbol (now (targets .entry))) ⌝ }
 {
-    let wanted = is_among(symbol, targets);
+    let wanted = is_target(symbol, targets, hint);
     planned_close(s, equity, Symbol(symbol), Shares(quantity), price, wanted)
 }
 
 // Adds the closes of n holdings to a plan of m orders; returns the count. Symbols that ascend find their prices each at the
-// place after the last.
+// place after the last, and a holding that is kept likely stands at its own place among the targets.
 pub fn plan_closes<'a>(
     key: &'a [u64; 64],
     held: &'a [i64; 64],
@@ -61,7 +74,7 @@ pub fn plan_closes<'a>(
         let h = held[i];
         let q = quote(symbols, prices, k, hint);
         hint = q.next;
-        let o = close_of(s, equity, k, h, q.price, targets);
+        let o = close_of(s, equity, k, h, q.price, targets, i);
         count = add_order(symbol, quantity, price, drift, count, o, capped);
         i += 1;
     }

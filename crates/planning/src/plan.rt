@@ -84,7 +84,7 @@ fn gap_of(equity: i64, held: Shares, price: i64, weight: f64) -> i64
     words::saturating_sub(target, words::value(held.0, price))
 }
 
-// "the gap becomes shares"; "an unpriced one is passed over".
+// "the gap becomes shares"; "an unpriced one is passed over". Within the band, where most targets are most days, the gap need not become shares.
 pub fn planned_target(
     s: Settings,
     equity: i64,
@@ -99,6 +99,15 @@ pub fn planned_target(
         return passed_over(symbol);
     }
     let gap = gap_of(equity, held, price, weight);
+    let drift = drift_bps_of(gap, equity);
+    if within_band(s, drift) {
+        return PlannedOrder {
+            symbol,
+            quantity: Shares::ZERO,
+            price,
+            drift_bps: drift,
+        };
+    }
     let quantity = size_qty(gap, price, s.quantity_step);
-    ordered(s, symbol, quantity, price, drift_bps_of(gap, equity))
+    ordered(s, symbol, quantity, price, drift)
 }
