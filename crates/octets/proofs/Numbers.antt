@@ -8,7 +8,7 @@ use lib.IntN.{ℤ}
 use lib.Ieee.{Float, nan, inf, fin, binary64, fits, isNan}
 use lib.Ieee.Bits.{ofBits-toBits, toBits-ofBits, toBits-lt}
 use mir.Syntax.{w64}
-use mir.Val.{Fits, SFits}
+use mir.Val.{SFits}
 use mir.ValLaws.{ofZ-toZ, toZ-ofZ, ofZ-fits}
 use Rattle.octets.specs.Numbers.{signedOf, unsignedOf, floatOf, patternOf}
 

@@ -5,8 +5,8 @@ use native.Mathlib.Omega.{arith}
 use mathlib.Core.Bool.{Bool, true, false, cond}
 use mathlib.Core.List.{List, [], _∷_, _++_, reverse}
 use lib.Dec.{ltb}
-use lib.ListN.{length, getD, take, drop, set, length-drop, length-append, take-append-drop, List·getD-eq-default}
-use lib.Seq.{sets, length-sets, sets-eq, take-set-le, drop-set-add, take-at, drop-at, drop-cons, getD-set-same, getD-set-other, set-out, take-all, drop-drop, length-take-le}
+use lib.ListN.{length, getD, take, drop, set, length-drop, take-append-drop, List·getD-eq-default}
+use lib.Seq.{sets, length-sets, sets-eq, take-set-le, drop-set-add, drop-cons, getD-set-same, getD-set-other, set-out, take-all, drop-drop, length-take-le}
 use borrow.Author.Tests.{lt-ltb, le-ltb, ltb-true, ltb-false}
 use Rattle.octets.specs.Words.{little, big, digits, wordsIn, wordsOf, bytesOf, wordAt, putWord, turned, symbolAt, putSymbol, eightAt}
 

@@ -15,9 +15,10 @@ use Rattle.position.specs.Rows.{fresh, keyOf}
 use Rattle.table.specs.Keyed.{pick}
 use Rattle.table.specs.Rows.{isZero}
 use Rattle.account.specs.Account.{padded}
+use Rattle.queries.specs.declared.answered.Weighed.{Weighed}
 use Rattle.queries.specs.Queries.{Weight, openOnes, weightOf, weigh}
 use Rattle.queries.specs.Answers.{weighed}
-use Rattle.queries.specs.Places.{Priced, Columns, columns, laid, addedTo}
+use Rattle.queries.specs.Places.{Priced, columns, addedTo}
 
 -- ---- a column
 module _ {A : Type 0} (z x : A) (l : List A) (h : length l < 64) where
@@ -33,21 +34,17 @@ map-append : {A B : Type 0} (f : A → B) (l m : List A) → map f (l ++ m) ≡ 
 map-append f [] m = refl
 map-append f (x ∷ l) m = ap (λ k. f x ∷ k) (map-append f l m)
 
+column-more : {A : Type 0} (f : Weight → A) (z : A) (l : List Weight) (w : Weight) → length l < 64 → set (padded z (map f l)) (length l) (f w) ≡ padded z (map f (l ++ (w ∷ [])))
+column-more f z l w h =
+    let n : length (map f l) ≡ length l = length-map l f in
+    ap (λ k. set (padded z (map f l)) k (f w)) (sym n) ∙ next-place z (f w) (map f l) (omega arith) ∙ ap (padded z) (sym (map-append f l (w ∷ [])))
+
 -- one weight more
-pub laid-more : (l : List Weight) (w : Weight) → length l < 64
-    → columns (length l + 1) (set (laid l .symbol) (length l) (w .symbol)) (set (laid l .weight) (length l) (w .weight)) ≡ laid (l ++ (w ∷ []))
+weighed-more : (l : List Weight) (w : Weight) → length l < 64
+    → columns (weighed l .count + 1) (set (weighed l .symbol) (weighed l .count) (w .symbol)) (set (weighed l .weight) (weighed l .count) (w .weight)) ≡ weighed (l ++ (w ∷ []))
 unfolding weighed
-laid-more l w h =
-    let ks = map (λ (v : Weight). v .symbol) l in
-    let ws = map (λ (v : Weight). v .weight) l in
-    let z : Float = fin false 0 (pos 0) in
-    let a : length ks ≡ length l = length-map l (λ (v : Weight). v .symbol) in
-    let b : length ws ≡ length l = length-map l (λ (v : Weight). v .weight) in
-    let e : set (padded 0 ks) (length l) (w .symbol) ≡ padded 0 (map (λ (v : Weight). v .symbol) (l ++ (w ∷ []))) =
-    ap (λ n. set (padded 0 ks) n (w .symbol)) (sym a) ∙ next-place 0 (w .symbol) ks (omega arith) ∙ ap (padded 0) (sym (map-append (λ (v : Weight). v .symbol) l (w ∷ []))) in
-    let f : set (padded z ws) (length l) (w .weight) ≡ padded z (map (λ (v : Weight). v .weight) (l ++ (w ∷ []))) =
-    ap (λ n. set (padded z ws) n (w .weight)) (sym b) ∙ next-place z (w .weight) ws (omega arith) ∙ ap (padded z) (sym (map-append (λ (v : Weight). v .weight) l (w ∷ []))) in
-    rw (e, f) (ap (λ n. columns n (padded 0 (map (λ (v : Weight). v .symbol) (l ++ (w ∷ [])))) (padded z (map (λ (v : Weight). v .weight) (l ++ (w ∷ []))))) (sym (length-append l (w ∷ []))))
+weighed-more l w h =
+    simp (column-more (λ v. v .symbol) 0 l w h, column-more (λ v. v .weight) (fin false 0 (pos 0)) l w h, length-append)
 
 -- ---- the open ones of a list
 open-append : (ps qs : List Position) → openOnes (ps ++ qs) ≡ openOnes ps ++ openOnes qs
@@ -83,38 +80,38 @@ module _ (price : ℕ → ℤ) (equity : ℤ) where
   weights ps = weigh price equity (openOnes ps)
 
   added-last : (ps : List Position) (p : Position) → length ps < 64 → (z : Bool) → isZero (p .quantity .0) ≡ z
-      → addedTo p (price (keyOf p)) (ofI64 equity) (laid (weights ps)) ≡ laid (weights (ps ++ (p ∷ [])))
+      → addedTo p (price (keyOf p)) (ofI64 equity) (weighed (weights ps)) ≡ weighed (weights (ps ++ (p ∷ [])))
   unfolding addedTo weightOf openOnes weigh weighed
   added-last ps p h true e =
       let o : openOnes (ps ++ (p ∷ [])) ≡ openOnes ps ++ [] = open-append ps (p ∷ []) ∙ rw e in
-      rw e (sym (ap (λ l. laid (weigh price equity l)) (o ∙ append-nil (openOnes ps))))
+      rw e (sym (ap (λ l. weighed (weigh price equity l)) (o ∙ append-nil (openOnes ps))))
   added-last ps p h false e =
       let s : length (weights ps) < 64 = omega (arith, weigh-length (openOnes ps), open-most ps) in
       let o : openOnes (ps ++ (p ∷ [])) ≡ openOnes ps ++ (p ∷ []) = open-append ps (p ∷ []) ∙ rw e in
-      rw e (laid-more (weights ps) (weightOf price equity p) s ∙ sym (ap laid (ap (weigh price equity) o ∙ weigh-append (openOnes ps) (p ∷ []))))
+      rw e (weighed-more (weights ps) (weightOf price equity p) s ∙ sym (ap weighed (ap (weigh price equity) o ∙ weigh-append (openOnes ps) (p ∷ []))))
 
 -- the weight of the position at place i
 pub added-at : (price : ℕ → ℤ) (equity : ℤ) (ps : List Position) (i : ℕ) → i < length ps → i < 64 → let p = getD ps i (fresh 0) in
-    addedTo p (price (keyOf p)) (ofI64 equity) (laid (weigh price equity (openOnes (take i ps)))) ≡ laid (weigh price equity (openOnes (take (i + 1) ps)))
+    addedTo p (price (keyOf p)) (ofI64 equity) (weighed (weigh price equity (openOnes (take i ps)))) ≡ weighed (weigh price equity (openOnes (take (i + 1) ps)))
 added-at price equity ps i h k =
     let l : length (take i ps) < 64 = omega (arith, length-take-le i ps (omega arith)) in
     added-last price equity (take i ps) (getD ps i (fresh 0)) l _ refl
-    ∙ sym (ap (λ qs. laid (weigh price equity (openOnes qs))) (rw (add-one, take-suc ps i (fresh 0))))
+    ∙ sym (ap (λ qs. weighed (weigh price equity (openOnes qs))) (rw (add-one, take-suc ps i (fresh 0))))
 
 -- the same, as the walk finds the position p and its price
 pub added-on : (price : ℕ → ℤ) (equity : ℤ) (ps : List Position) (ls : List ℤ) (i : ℕ) → i < length ps → i < 64 → (p : Position) → p ≡ getD ps i (fresh 0) → Priced price ps ls
-    → (c : Columns) → c ≡ laid (weigh price equity (openOnes (take i ps))) → addedTo p (getD ls i (pos 0)) (ofI64 equity) c ≡ laid (weigh price equity (openOnes (take (i + 1) ps)))
+    → (c : Weighed) → c ≡ weighed (weigh price equity (openOnes (take i ps))) → addedTo p (getD ls i (pos 0)) (ofI64 equity) c ≡ weighed (weigh price equity (openOnes (take (i + 1) ps)))
 added-on price equity ps ls i h k p e listed c l = rw (l, e, listed i h) (added-at price equity ps i h k)
 
--- "weights" start with none, and each position adds one at most
-pub laid-none : laid [] ≡ columns 0 (replicate 64 0) (replicate 64 (fin false 0 (pos 0)))
+-- no weights; and each position adds one at most
+pub none-weighed : weighed [] ≡ columns 0 (replicate 64 0) (replicate 64 (fin false 0 (pos 0)))
 unfolding weighed
-laid-none = refl
+none-weighed = refl
 
-pub added-most : (p : Position) (price : ℤ) (equity : Float) (c : Columns) → addedTo p price equity c .count ≤ c .count + 1
+pub added-most : (p : Position) (price : ℤ) (equity : Float) (c : Weighed) → addedTo p price equity c .count ≤ c .count + 1
 unfolding addedTo
 added-most p price equity c = go (isZero (p .quantity .0)) _ refl
   where
-    go : (z : Bool) (d : Columns) → d .count ≡ c .count + 1 → pick z c d .count ≤ c .count + 1
+    go : (z : Bool) (d : Weighed) → d .count ≡ c .count + 1 → pick z c d .count ≤ c .count + 1
     go true d e = omega arith
     go false d e = omega arith

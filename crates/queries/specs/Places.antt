@@ -17,7 +17,7 @@ use Rattle.planning.specs.Equity.{worthFrom}
 use Rattle.queries.specs.declared.answered.Weighed.{Weighed}
 use Rattle.queries.specs.declared.sum.Sums.{Sums}
 use Rattle.queries.specs.declared.answered.Unpriced.{Unpriced}
-use Rattle.queries.specs.Queries.{Weight, openOnes, weigh, weightsOf, firstUnpriced, profitFrom}
+use Rattle.queries.specs.Queries.{openOnes, weigh, weightsOf, firstUnpriced, profitFrom}
 use Rattle.queries.specs.Answers.{weighed, answeredUnpriced}
 
 -- ---- a column of prices
@@ -43,23 +43,11 @@ pub record Adds (ps : List Position) (ls : List ℤ) (r : Sums) : Type 0 where
   pub profit : r .profit ≡ profitFrom (pos 0) ps
 
 -- ---- weights in two columns
-pub record Columns : Type 0 where
-  pub count : ℕ
-  pub symbol : List ℕ
-  pub weight : List Float
-
-abbrev pub columns : ℕ → List ℕ → List Float → Columns
+abbrev pub columns : ℕ → List ℕ → List Float → Weighed
 columns n ks ws = record { count = n; symbol = ks; weight = ws }
 
-abbrev pub weighedBy : Columns → Weighed
-weighedBy c = record { count = c .count; symbol = c .symbol; weight = c .weight }
-
--- weights in the first places, unused places zero
-abbrev pub laid : List Weight → Columns
-laid l = columns (weighed l .count) (weighed l .symbol) (weighed l .weight)
-
 -- the weight of a position at a price goes to the next place; a flat one has none
-unfoldable pub addedTo : Position → ℤ → Float → Columns → Columns
+unfoldable pub addedTo : Position → ℤ → Float → Weighed → Weighed
 unfolding div
 addedTo p price equity c =
     pick (isZero (p .quantity .0)) c

@@ -85,7 +85,7 @@ fn agrees(fill: &Fill) -> bool {
 }
 
 /// The next fill of a run: of an everyday size, of any size, at the ends of i64, or around what is held.
-fn next(random: &mut Random, sort: u64, [held, average, ..]: Numbers) -> (i64, i64) {
+pub fn next(random: &mut Random, sort: u64, [held, average, ..]: Numbers) -> (i64, i64) {
     const ENDS: [i64; 8] = [i64::MAX, i64::MIN, i64::MAX - 1, i64::MIN + 1, 1, -1, 1_000_000, i64::MAX / 2];
     let any_price = random.i64() & i64::MAX;
     let (quantity, price) = match sort {

@@ -9,12 +9,13 @@ mod leaf;
 mod port;
 mod sample;
 mod series;
+mod single;
 mod table;
 
 const USAGE: &str =
-    "usage: harness leaves [SEED [COUNT]] | fills [SEED [COUNT]] | figures [SEED [COUNT]] | accounts [SEED [COUNT]]
-    | damage [SEED [COUNT]] | full | bench | bench figures | bench accounts | scenarios [SEED [COUNT]]
-    | spoiled [SEED [COUNT]] | table | sample write FILE | sample check FILE";
+    "usage: harness leaves [SEED [COUNT]] | fills [SEED [COUNT]] | single [SEED [COUNT]] | figures [SEED [COUNT]]
+    | accounts [SEED [COUNT]] | damage [SEED [COUNT]] | full | bench | bench figures | bench accounts
+    | scenarios [SEED [COUNT]] | spoiled [SEED [COUNT]] | table | sample write FILE | sample check FILE";
 
 const SEED: u64 = 20261115;
 
@@ -24,6 +25,7 @@ fn main() {
     let agreed = match words[..] {
         ["leaves", ref rest @ ..] => seeded(rest, 200_000, differ::run),
         ["fills", ref rest @ ..] => seeded(rest, 500_000, fills::run),
+        ["single", ref rest @ ..] => seeded(rest, 2_000_000, single::run),
         ["figures", ref rest @ ..] => seeded(rest, 120_000, series::run),
         ["full"] => full(),
         ["bench"] => series::bench(SEED) && bench::run(),
@@ -57,10 +59,11 @@ fn seeded(words: &[&str], count: u64, run: fn(u64, u64) -> bool) -> bool {
 fn full() -> bool {
     let leaves = differ::run(SEED + 1, 2_000_000);
     let fills = fills::run(SEED + 1, 20_000_000);
+    let single = single::run(SEED + 1, 20_000_000);
     let figures = series::run(SEED + 1, 1_000_000);
     let accounts = account::run(SEED + 1, 90_000);
     let damage = damage::run(SEED + 1, 400_000);
-    leaves && fills && figures && accounts && damage
+    leaves && fills && single && figures && accounts && damage
 }
 
 fn number(word: &str) -> u64 {

@@ -1,6 +1,7 @@
 //! The Rust's account, answering a scenario's calls.
 
-use crate::portfolio::{CostModel, ExecutionKind, ExecutionRecord, Portfolio, Position, probe};
+use crate::portfolio::{CostModel, ExecutionKind, ExecutionRecord, Portfolio, Position, Shares, probe};
+use crate::single::{Ask, Filled, Single};
 use crate::types::Symbol as Name;
 use scenario::{
     Account, Context, Costs, Held, Kind, Opening, Outcome, Prices, Record, Reply, Setting, Settings, Step, Symbol, View,
@@ -183,6 +184,38 @@ impl Nanobook {
             _ => false,
         }
     }
+}
+
+/// One fill by the Rust's own `execute_fill`, on an account that holds nothing else; None where its search runs for ever,
+/// and where it might.
+pub fn fill_alone(ask: &Ask, found: &Single) -> Option<Filled> {
+    if ask.quantity == i64::MAX && ask.quantity_step == 1 && found.cash > 0 {
+        return None;
+    }
+    let symbol = name(&ask.symbol);
+    let [quantity, avg_entry_price, realized_pnl, total_cost] = found.position;
+    let position = (found.position != [0; 4]).then(|| Position {
+        quantity: Shares::from_raw(quantity),
+        avg_entry_price,
+        realized_pnl,
+        total_cost,
+        ..Position::new(symbol)
+    });
+    let mut account = probe::holding(found.cash, model(ask.costs), position, found.trimmed, found.shortfall);
+    account.set_quantity_step(ask.quantity_step);
+    probe::set_recording(&mut account, true);
+    let mut book = Nanobook { account, recorded_before: found.records };
+    let reply = book.filled(&ask.context, |account| probe::execute_fill(account, symbol, ask.quantity, ask.price));
+    let Reply::Filled(records) = reply else { return None };
+    let p = book.account.position(&symbol).map(held);
+    let after = Single {
+        cash: book.account.cash(),
+        shortfall: book.account.trimmed_shortfall_cents(),
+        position: p.map_or([0; 4], |p| [p.quantity, p.avg_entry_price, p.realized_pnl, p.total_cost]),
+        trimmed: book.account.trimmed_fill_count(),
+        records: found.records.saturating_add(records.len() as u64),
+    };
+    Some(Filled { after, record: records.first().copied() })
 }
 
 pub fn name(s: &Symbol) -> Name {

@@ -1,4 +1,4 @@
-//! The C interface of the proved crate threshcoil. Each leaf takes and gives numbers, or slices of numbers as a pointer and
+//! The C interface of the proved crates. Each leaf takes and gives numbers, or slices of numbers as a pointer and
 //! a count, is total, and touches nothing but the slices lent to it, so each is safe to call; nothing checks a declaration
 //! here against its Rattle source but the differential runs.
 
@@ -87,6 +87,25 @@ mod lent {
             counts: *mut u64,
             count_count: usize,
         ) -> u64;
+        pub fn tc_fill(
+            commission_bps: f64,
+            slippage_bps: f64,
+            min_commission: i64,
+            quantity_step: i64,
+            period: u64,
+            kind: u64,
+            symbol: u64,
+            quantity: i64,
+            price: i64,
+            money: *mut i64,
+            money_count: usize,
+            tallies: *mut u64,
+            tally_count: usize,
+            words: *mut u64,
+            word_count: usize,
+            ints: *mut i64,
+            int_count: usize,
+        ) -> u64;
     }
 }
 
@@ -109,6 +128,49 @@ pub fn tc_figures(returns: &[f64], rates: &mut [f64], counts: &mut [u64]) -> u64
             rates.len(),
             counts.as_mut_ptr(),
             counts.len(),
+        )
+    }
+}
+
+/// One fill as an account of at most one position makes it. The money is cash, shortfall and the position's quantity,
+/// average, realized profit and total cost; the tallies are the counts of trimmed fills and of records, before and after;
+/// a record takes four words and eight numbers. The answer is document 01's number; a refusal leaves all as found.
+#[allow(clippy::too_many_arguments)]
+pub fn tc_fill(
+    commission_bps: f64,
+    slippage_bps: f64,
+    min_commission: i64,
+    quantity_step: i64,
+    period: u64,
+    kind: u64,
+    symbol: u64,
+    quantity: i64,
+    price: i64,
+    money: &mut [i64],
+    tallies: &mut [u64],
+    words: &mut [u64],
+    ints: &mut [i64],
+) -> u64 {
+    // SAFETY: each pointer and count are a slice's, and no two of the slices overlap.
+    unsafe {
+        lent::tc_fill(
+            commission_bps,
+            slippage_bps,
+            min_commission,
+            quantity_step,
+            period,
+            kind,
+            symbol,
+            quantity,
+            price,
+            money.as_mut_ptr(),
+            money.len(),
+            tallies.as_mut_ptr(),
+            tallies.len(),
+            words.as_mut_ptr(),
+            words.len(),
+            ints.as_mut_ptr(),
+            ints.len(),
         )
     }
 }

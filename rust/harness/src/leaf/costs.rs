@@ -61,10 +61,14 @@ fn first(i: &Inputs) -> Costs {
     costs([i[0], i[1], i[2]])
 }
 
+/// What a fill pays or is paid, in Rust's own arithmetic.
+pub fn paid(c: Costs, quantity: i64, price: i64) -> i64 {
+    let sign = if quantity > 0 { 1.0 } else { -1.0 };
+    (price as f64 * (1.0 + sign * c.slippage_bps / 10_000.0)).round() as i64
+}
+
 fn effective_price(i: &Inputs) -> i64 {
-    let sign = if i[3] as i64 > 0 { 1.0 } else { -1.0 };
-    let factor = 1.0 + sign * first(i).slippage_bps / 10_000.0;
-    (i[4] as i64 as f64 * factor).round() as i64
+    paid(first(i), i[3] as i64, i[4] as i64)
 }
 
 pub const LEAVES: &[Leaf] = &[

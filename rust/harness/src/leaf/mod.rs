@@ -11,8 +11,10 @@ mod shares;
 mod sizes;
 mod wide;
 
+pub use costs::{are_good, costs as costs_of, draw as draw_costs, paid};
 pub use figures::expected as expected_figures;
-pub use positions::{Numbers, is_sound, refusal};
+pub use positions::{Numbers, is_sound, refusal, symbol as draw_symbol};
+pub use sizes::{largest, need};
 
 use oracle::Leaves;
 use scenario::Random;

@@ -41,7 +41,7 @@ pub fn refusal(symbol: u64, numbers: Numbers, price: i64) -> u64 {
 }
 
 /// Eight bytes, most of them a good symbol's.
-fn symbol(random: &mut Random) -> u64 {
+pub fn symbol(random: &mut Random) -> u64 {
     let length = random.below(9) as usize;
     let mut bytes = [0; 8];
     for b in &mut bytes[..length] {

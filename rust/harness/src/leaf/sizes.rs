@@ -34,7 +34,7 @@ fn last(i: &Inputs) -> Costs {
 }
 
 /// The cash that the request itself needs, in Rust's own arithmetic.
-fn need(requested: i64, price: i64, c: Costs) -> i64 {
+pub fn need(requested: i64, price: i64, c: Costs) -> i64 {
     if requested <= 0 || price <= 0 {
         return 0;
     }
@@ -45,15 +45,14 @@ fn need(requested: i64, price: i64, c: Costs) -> i64 {
 
 /// "the largest step multiple, not above the request, whose need fits cash": halved for over unsigned counts of steps, so
 /// that no midpoint overflows.
-fn largest(i: &Inputs) -> i64 {
-    let [requested, cash, step, price] = [i[0], i[1], i[2], i[3]].map(|n| n as i64);
-    if cash < 1 || step < 1 || requested < 1 || !costs::are_good(last(i)) {
+pub fn largest(requested: i64, cash: i64, step: i64, price: i64, c: Costs) -> i64 {
+    if cash < 1 || step < 1 || requested < 1 || !costs::are_good(c) {
         return 0;
     }
     let (mut fits, mut over) = (0, (requested / step) as u64 + 1);
     while over - fits > 1 {
         let count = fits + (over - fits) / 2;
-        if need(count as i64 * step, price, last(i)) <= cash { fits = count } else { over = count }
+        if need(count as i64 * step, price, c) <= cash { fits = count } else { over = count }
     }
     fits as i64 * step
 }
@@ -167,7 +166,7 @@ pub const LEAVES: &[Leaf] = &[
             let [c, s] = [i[4], i[5]].map(f64::from_bits);
             port::tc_largest_affordable_buy_qty(requested, cash, step, price, c, s, floor) as u64
         },
-        rust: Some(|i| largest(i) as u64),
+        rust: Some(|i| largest(i[0] as i64, i[1] as i64, i[2] as i64, i[3] as i64, last(i)) as u64),
         nanobook: Some(|n, i| {
             let [requested, cash, step, price] = [i[0], i[1], i[2], i[3]].map(|n| n as i64);
             (n.largest_affordable_buy_qty)(requested, cash, step, price, last(i)) as u64

@@ -1,6 +1,6 @@
 //! The private functions of nanobook's portfolio/mod.rs, on plain numbers.
 
-use super::{CostModel, ExecutionKind, ExecutionRecord, Portfolio, Shares};
+use super::{CostModel, ExecutionKind, ExecutionRecord, Portfolio, Position, Shares, Symbol};
 
 pub fn notional_of(quantity: i64, price: i64) -> i64 {
     super::notional_of(Shares::from_raw(quantity), price)
@@ -50,4 +50,17 @@ pub fn set_context(account: &mut Portfolio, period: u64, kind: ExecutionKind) {
 /// The ledger so far, taken from a copy: taking it turns recording off.
 pub fn executions(account: &Portfolio) -> Vec<ExecutionRecord> {
     account.clone().take_executions().unwrap_or_default()
+}
+
+/// An account with one position, or none, and the counters that fills change.
+pub fn holding(cash: i64, costs: CostModel, position: Option<Position>, trimmed: u64, shortfall: i64) -> Portfolio {
+    let mut account = Portfolio::new(cash, costs);
+    account.positions.extend(position.map(|p| (p.symbol, p)));
+    account.trimmed_fill_count = trimmed;
+    account.trimmed_shortfall_cents = shortfall;
+    account
+}
+
+pub fn execute_fill(account: &mut Portfolio, symbol: Symbol, quantity: i64, price: i64) {
+    account.execute_fill(symbol, Shares::from_raw(quantity), price);
 }

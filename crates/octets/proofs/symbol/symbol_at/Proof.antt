@@ -2,7 +2,6 @@
 use borrow.Author.Needs.{needs}
 use native.Mathlib.Omega.{arith}
 use mathlib.Core.Path.{sym, ap, _∙_}
-use lib.ListN.{getD}
 use Rattle.octets.specs.Words.{turned}
 use Rattle.octets.proofs.Words.{octets, symbol-at, word-past}
 use Rattle.octets.proofs.symbol.symbol_at.Statement.{statement}

@@ -1,6 +1,5 @@
 -- The word at a place is that of the eight bytes that the code reads.
 use borrow.Author.Needs.{needs}
-use native.Mathlib.Omega.{arith}
 use mathlib.Core.Path.{sym, _∙_}
 use Rattle.octets.proofs.Words.{word-at, word-past}
 use Rattle.octets.proofs.word.word_at.Statement.{statement}

@@ -107,8 +107,13 @@ loop-again c =
     let fp = price-fits (c .before .before .before .before .before .before) in
     let ev = simp (toZ-ofZ fq, toZ-ofZ fp) at (v .ensures) in
     let ew = (simp (toZ-ofZ fv) at (w .ensures)) ∙ ap (satAdd (toZ w64 (l .loop .worth))) ev in
-    let eg = simp (toZ-ofZ fr) at (g .ensures) in
-    (omega arith, omega (arith, one c), λ listed e. simp (toZ-ofZ fw) (rw ew (worth-on (positions s) ls i k (h .held .result) p listed _ e ∙ l .loop .inv .2 listed e)), omega (arith, o .ensures, open-on (positions s) ls i k (h .held .result) p, l .loop .inv .3), simp (toZ-ofZ fg) (rw eg (profit-on (positions s) ls i k (h .held .result) p _ ∙ l .loop .inv .4)))
+    let eg = simp (toZ-ofZ fr) at (g .ensures) in (
+      omega arith,
+      omega (arith, one c),
+      λ listed e. simp (toZ-ofZ fw) (rw ew (worth-on (positions s) ls i k (h .held .result) p listed _ e ∙ l .loop .inv .2 listed e)),
+      omega (arith, o .ensures, open-on (positions s) ls i k (h .held .result) p, l .loop .inv .3),
+      simp (toZ-ofZ fg) (rw eg (profit-on (positions s) ls i k (h .held .result) p _ ∙ l .loop .inv .4)),
+    )
 
 returns : tie.Need-returns Inv-loop μ-loop
 returns c =

@@ -15,9 +15,11 @@ use Rattle.position.specs.declared.position.Position.{Position}
 use Rattle.table.specs.Rows.{Cols, cols, rows}
 use Rattle.account.proofs.Holdings.{place-holds}
 use Rattle.account.proofs.Columns.{rows-length}
+use Rattle.queries.specs.declared.answered.Weighed.{Weighed}
 use Rattle.queries.specs.Queries.{openOnes, weigh}
-use Rattle.queries.specs.Places.{Priced, Columns, columns, weighedBy, laid}
-use Rattle.queries.proofs.Columns.{laid-none, added-on, added-most}
+use Rattle.queries.specs.Answers.{weighed}
+use Rattle.queries.specs.Places.{Priced, columns}
+use Rattle.queries.proofs.Columns.{none-weighed, added-on, added-most}
 use Rattle.queries.proofs.weight.weigh.Statement.{statement}
 use Rattle.queries.proofs.weight.weigh.Tie as tie
 
@@ -25,7 +27,7 @@ abbrev Inv-loop : tie.InvT-loop
 Inv-loop symbol quantity average realized total n price equity whole keys₀ weights₀ count₀ i₀ keys weights count i =
     let ps = rows n (cols symbol quantity average realized total) in
     (i ≤ n) × (count ≤ i)
-    × ((listed : ℕ → ℤ) → Priced listed ps price → columns count keys weights ≡ laid (weigh listed (toZ w64 equity) (openOnes (take i ps))))
+    × ((listed : ℕ → ℤ) → Priced listed ps price → columns count keys weights ≡ weighed (weigh listed (toZ w64 equity) (openOnes (take i ps))))
 
 abbrev μ-loop : tie.MeasureT-loop
 μ-loop symbol quantity average realized total n price equity whole keys₀ weights₀ count₀ i₀ keys weights count i = n - i
@@ -44,7 +46,7 @@ i64-to-f64-requires c κs = search needs
 
 loop-holds : tie.Need-loop-holds Inv-loop μ-loop
 unfolding ofBits openOnes weigh
-loop-holds c = (omega arith, omega arith, λ listed e. sym laid-none)
+loop-holds c = (omega arith, omega arith, λ listed e. sym none-weighed)
 
 held-requires : tie.Need-held-requires Inv-loop μ-loop
 held-requires c κs = search needs
@@ -80,7 +82,7 @@ loop-again c =
     let p = h .held .ensures ∙ place-holds (s .args .n) i (table s) (s .pre) (omega arith) in
     let old = columns (l .loop .count) (l .loop .keys) (l .loop .weights) in
     let e = simp (toZ-ofZ (price-fits (c .before)), x .i64-to-f64 .ensures) at (a .ensures) in
-    let few : a .result ≤ l .loop .count + 1 = rw (ap (λ (d : Columns). d .count) e) (added-most (h .held .result) (getD (s .args .price .now) i (pos 0)) _ old) in (
+    let few : a .result ≤ l .loop .count + 1 = rw (ap (λ (d : Weighed). d .count) e) (added-most (h .held .result) (getD (s .args .price .now) i (pos 0)) _ old) in (
       omega arith,
       omega (arith, few, l .loop .inv .1),
       λ listed g. e ∙ added-on listed _ (positions s) (s .args .price .now) i k m (h .held .result) p g old (l .loop .inv .2 listed g),
@@ -91,7 +93,7 @@ returns c =
     let l = c .before in
     let s = l .before .before in
     let t : take (l .loop .i) (positions s) ≡ positions s = take-all (l .loop .i) (positions s) (omega (arith, size s)) in
-    record { settled = λ listed g. ap weighedBy (simp (t, toZ-ofZ (s .fits .equity)) at (l .loop .inv .2 listed g)) }
+    record { settled = λ listed g. simp (t, toZ-ofZ (s .fits .equity)) at (l .loop .inv .2 listed g) }
 
 pub weigh-spec : {M : Type 1} → statement M
 weigh-spec =

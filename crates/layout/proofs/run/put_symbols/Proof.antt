@@ -1,0 +1,76 @@
+-- What is left to write gives, from the bytes as they are, what the whole gives from the bytes as found.
+use borrow.Author.Needs.{needs}
+use native.Mathlib.Omega.{arith}
+use mathlib.Core.Path.{_≡_, refl, sym, _∙_}
+use Prim.Native.Nat.{_+_, _≤_, _-_}
+use lib.ListN.{length, getD, drop, length-map, List·getD-map}
+use lib.Seq.{sets}
+use Rattle.octets.specs.Words.{wordsOf, turned}
+use mathlib.Core.List.{map}
+use Rattle.octets.proofs.Words.{turned-lt}
+use Rattle.layout.proofs.Runs.{write-starts, write-on, write-ends}
+use Rattle.layout.proofs.run.put_symbols.Statement.{statement}
+use Rattle.layout.proofs.run.put_symbols.Tie as tie
+
+abbrev Inv-loop : tie.InvT-loop
+Inv-loop bytes₀ from column i₀ bytes i = (i ≤ length column) × (length bytes ≡ length bytes₀) × (sets (wordsOf bytes) (from + i) (drop i (map turned column)) ≡ sets (wordsOf bytes₀) from (map turned column))
+
+abbrev μ-loop : tie.MeasureT-loop
+μ-loop bytes₀ from column i₀ bytes i = length column - i
+
+loop-holds : tie.Need-loop-holds Inv-loop μ-loop
+loop-holds c =
+    let s = c .before .before .args in
+    (omega arith, refl, write-starts (s .bytes .now) (map turned (s .column .now)) (s .from))
+
+add-put-symbol : tie.Need-add-put-symbol Inv-loop μ-loop
+add-put-symbol c = search needs
+
+mul-put-symbol : tie.Need-mul-put-symbol Inv-loop μ-loop
+mul-put-symbol c = search needs
+
+shared-slice-read-put-symbol : tie.Need-shared-slice-read-put-symbol Inv-loop μ-loop
+shared-slice-read-put-symbol c = search needs
+
+put-symbol-requires : tie.Need-put-symbol-requires Inv-loop μ-loop
+put-symbol-requires c κs = search needs
+
+add-i : tie.Need-add-i Inv-loop μ-loop
+add-i c = search needs
+
+loop-less : tie.Need-loop-less Inv-loop μ-loop
+loop-less c = search needs
+
+loop-again : tie.Need-loop-again Inv-loop μ-loop
+unfolding turned
+loop-again c =
+    let p = c .before .before in
+    let l = p .before .before .before .before in
+    let s = l .before .before .before .args in
+    (omega arith, omega (arith, p .put-symbol .kept .0), write-on (l .loop .bytes) (p .put-symbol .last .0) (map turned (s .column .now)) (s .from) (l .loop .i) (turned (getD (s .column .now) (l .loop .i) 0)) (simp length-map (omega arith)) (p .put-symbol .ensures) (sym (List·getD-map turned (s .column .now) (l .loop .i) 0)) (turned-lt (getD (s .column .now) (l .loop .i) 0)) ∙ l .loop .inv .2)
+
+same-length : tie.Need-same-length Inv-loop μ-loop
+same-length c = search needs
+
+returns : tie.Need-returns Inv-loop μ-loop
+returns c =
+    let l = c .before in
+    let s = l .before .before .before .args in
+    write-ends (l .loop .bytes) (map turned (s .column .now)) _ _ (l .loop .i) (simp length-map (omega arith)) (l .loop .inv .2)
+
+pub put-symbols-spec : {M : Type 1} → statement M
+put-symbols-spec =
+    tie.close
+    (tie.spec
+    Inv-loop
+    μ-loop
+    loop-holds
+    add-put-symbol
+    mul-put-symbol
+    shared-slice-read-put-symbol
+    put-symbol-requires
+    add-i
+    loop-less
+    loop-again
+    same-length
+    returns)

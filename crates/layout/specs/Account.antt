@@ -1,0 +1,96 @@
+-- An account as 342 words, 2,736 bytes. Definitions only.
+use Prim.Native.Nat.{ℕ}
+use mathlib.Core.Bool.{true, false}
+use mathlib.Core.List.{List, [], _∷_, _++_, map}
+use lib.Dec.{eqb}
+use lib.ListN.{length, getD, take, drop}
+use lib.IntN.{ℤ}
+use Rattle.octets.specs.Words.{wordsOf, bytesOf, turned}
+use Rattle.octets.specs.Numbers.{signedOf, unsignedOf}
+use Rattle.table.specs.Keyed.{pick, both}
+use Rattle.table.specs.declared.table.Table.{Table}
+use Rattle.account.specs.declared.account.Account.{Account}
+use Rattle.account.specs.declared.account.Counters.{Counters}
+use Rattle.account.specs.declared.account.Series.{Series}
+use Rattle.account.specs.Calls.{series, zeroAccount}
+use Rattle.layout.specs.declared.account_words.ReadAccount.{ReadAccount}
+use Rattle.layout.specs.Settings.{settingsWords, settingsAt, areSettings}
+
+-- ---- words 13 to 21: counters, series and the count of positions
+unfoldable pub countWords : Counters → Series → ℕ → List ℕ
+countWords k s n =
+    k .«last_rebalance_order_count»
+    ∷ unsignedOf (k .«last_rebalance_notional»)
+    ∷ k .«trimmed_fill_count»
+    ∷ unsignedOf (k .«trimmed_shortfall_cents»)
+    ∷ k .«record_count»
+    ∷ s .«equity_count»
+    ∷ s .«return_count»
+    ∷ unsignedOf (s .«prev_equity»)
+    ∷ n
+    ∷ []
+
+abbrev pub countersOf : List ℕ → Counters
+countersOf ws = record {
+  «last_rebalance_order_count» = getD ws 13 0;
+  «last_rebalance_notional» = signedOf (getD ws 14 0);
+  «trimmed_fill_count» = getD ws 15 0;
+  «trimmed_shortfall_cents» = signedOf (getD ws 16 0);
+  «record_count» = getD ws 17 0;
+}
+
+abbrev pub seriesOf : List ℕ → Series
+seriesOf ws = series (getD ws 18 0) (getD ws 19 0) (signedOf (getD ws 20 0))
+
+-- ---- words 22 to 341: five columns of 64 places
+abbrev pub symbolsAt : ℕ → List ℕ → List ℕ
+symbolsAt from ws = map turned (take 64 (drop from ws))
+
+abbrev pub numbersAt : ℕ → List ℕ → List ℤ
+numbersAt from ws = map signedOf (take 64 (drop from ws))
+
+unfoldable pub columnWords : Table → List ℕ
+columnWords t =
+    map turned (t .symbol)
+    ++ (map unsignedOf (t .quantity)
+    ++ (map unsignedOf (t .«avg_entry_price»)
+    ++ (map unsignedOf (t .«realized_pnl»)
+    ++ map unsignedOf (t .«total_cost»))))
+
+unfoldable pub tableFrom : List ℕ → Table
+tableFrom ws = record {
+  count = getD ws 21 0;
+  symbol = symbolsAt 22 ws;
+  quantity = numbersAt 86 ws;
+  «avg_entry_price» = numbersAt 150 ws;
+  «realized_pnl» = numbersAt 214 ws;
+  «total_cost» = numbersAt 278 ws;
+}
+
+-- ---- the account
+unfoldable pub accountWords : Account → List ℕ
+accountWords a = unsignedOf (a .cash) ∷ (settingsWords (a .settings) ++ (countWords (a .counters) (a .series) (a .positions .count) ++ columnWords (a .positions)))
+
+unfoldable pub accountOf : List ℕ → Account
+accountOf ws = record {
+  cash = signedOf (getD ws 0 0);
+  settings = settingsAt 1 ws;
+  counters = countersOf ws;
+  series = seriesOf ws;
+  positions = tableFrom ws;
+}
+
+abbrev pub gotAccount : Account → ReadAccount
+gotAccount a = record { good = true; account = a }
+
+abbrev pub noAccount : ReadAccount
+noAccount = record { good = false; account = zeroAccount }
+
+-- ---- bytes
+-- "good exactly when the length is 2,736, marks and flags are 0 or 1, an absent cap's number is 0 and no f64 is a NaN"
+unfoldable pub readAccount : List ℕ → ReadAccount
+readAccount l = pick (both (eqb (length l) 2736) (areSettings 1 (wordsOf l))) (gotAccount (accountOf (wordsOf l))) noAccount
+
+-- as found where the length is another
+unfoldable pub writtenAccount : Account → List ℕ → List ℕ
+writtenAccount a l = pick (eqb (length l) 2736) (bytesOf (accountWords a)) l

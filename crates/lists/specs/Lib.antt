@@ -1,0 +1,5 @@
+-- What the contracts of this crate cite.
+pub mod Entries
+pub mod Lists
+pub mod Records
+pub mod Weights

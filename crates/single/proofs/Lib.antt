@@ -1,0 +1,4 @@
+-- Laws of a fill asked by itself.
+pub mod Places
+pub mod Alone
+pub mod Refusals

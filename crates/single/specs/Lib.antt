@@ -1,0 +1,2 @@
+-- What a fill asked by itself means.
+pub mod Single
