@@ -6,8 +6,9 @@ use super::{Entry, Entry::*, Given};
 pub fn expected(entry: Entry, g: &Given) -> u64 {
     match entry {
         Open => first(&[
-            (11, g.account.len() != 2_736),
             (1, g.settings.len() != 96 || g.number < 0 || !good_settings(&words(&g.settings))),
+            // At opening the account is a place to write.
+            (6, g.account.len() != 2_736),
             (10, g.equities.is_empty()),
         ]),
         Figures => first(&[
