@@ -1,3 +1,6 @@
 -- The laws of this crate.
 pub mod Runs
 pub mod Writing
+pub mod Lists
+pub mod SettingsKept
+pub mod AccountKept

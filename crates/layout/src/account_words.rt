@@ -1,4 +1,4 @@
-// An account as 342 words.
+// An account as 342 words: cash, twelve of settings, nine of counters, series and count, and five columns of 64.
 ghost use mathlib.Core.Path.{_≡_};
 ghost use Prim.Native.Nat.{_≤_, _/_};
 ghost use lib.ListN.{length};
@@ -30,6 +30,7 @@ pub struct ReadAccount {
     pub account: Account,
 }
 
+// Words 13 to 17.
 fn counters_of(bytes: &[u8]) -> Counters
     ensures { λ r. ⌜ r ≡ countersOf (wordsOf (now (bytes .entry))) ⌝ }
 {
@@ -42,6 +43,7 @@ fn counters_of(bytes: &[u8]) -> Counters
     }
 }
 
+// Words 18 to 20.
 fn series_of(bytes: &[u8]) -> Series
     ensures { λ r. ⌜ r ≡ seriesOf (wordsOf (now (bytes .entry))) ⌝ }
 {
@@ -52,6 +54,7 @@ fn series_of(bytes: &[u8]) -> Series
     }
 }
 
+// Words 21 to 341: the count, and five columns.
 fn table_of(bytes: &[u8]) -> Table
     requires { ⌜ 342 ≤ length (now bytes) / 8 ⌝ }
     ensures { λ r. ⌜ r ≡ tableFrom (wordsOf (now (bytes .entry))) ⌝ }
@@ -116,6 +119,7 @@ fn zero_account() -> Account
     }
 }
 
+// Words 13 to 21: counters, series and the count of positions.
 fn count_words(k: Counters, s: Series, n: usize) -> [u64; 9]
     ensures { λ r. ⌜ r ≡ countWords k s n ⌝ }
 {
@@ -132,6 +136,7 @@ fn count_words(k: Counters, s: Series, n: usize) -> [u64; 9]
     ]
 }
 
+// Words 22 to 341: five columns.
 fn put_columns(bytes: &mut [u8], t: Table)
     ensures { λ _. ⌜ wordsOf (now (bytes .exit)) ≡ sets (wordsOf (now (bytes .entry))) 22 (columnWords t) ⌝ }
 {
@@ -142,6 +147,7 @@ fn put_columns(bytes: &mut [u8], t: Table)
     put_numbers(bytes, 278, &t.total_cost[..]);
 }
 
+// The account that 2,736 bytes hold. Whether it is sound is for the calls to refuse.
 pub fn read_account(bytes: &[u8]) -> ReadAccount
     ensures { λ r. ⌜ r ≡ readAccount (now (bytes .entry)) ⌝ }
 {
@@ -159,7 +165,7 @@ pub fn read_account(bytes: &[u8]) -> ReadAccount
     }
 }
 
-// Nothing is written where the length is not that of an account.
+// The account into 2,736 bytes. Nothing is written where the length is another.
 pub fn write_account(a: Account, bytes: &mut [u8])
     ensures { λ _. ⌜ now (bytes .exit) ≡ writtenAccount a (now (bytes .entry)) ⌝ }
 {

@@ -2,7 +2,7 @@
 ghost use mathlib.Core.Path.{_≡_};
 ghost use mathlib.Core.List.{map};
 ghost use Prim.Native.Nat.{_+_, _≤_, _/_};
-ghost use lib.ListN.{length, take, drop};
+ghost use lib.ListN.{length};
 ghost use lib.Seq.{sets};
 ghost use Rattle.octets.specs.Words.{wordsOf, wordAt, turned};
 ghost use Rattle.octets.specs.Numbers.{signedOf, unsignedOf, floatOf};
@@ -15,19 +15,21 @@ use octets::symbol_at;
 use octets::unsigned;
 use octets::word_at;
 
+// The signed number at place i.
 pub(crate) fn number_at(bytes: &[u8], i: usize) -> i64
     ensures { λ r. ⌜ r ≡ signedOf (wordAt (now (bytes .entry)) i) ⌝ }
 {
     signed(word_at(bytes, i))
 }
 
+// The double at place i.
 pub(crate) fn rate_at(bytes: &[u8], i: usize) -> f64
     ensures { λ r. ⌜ r ≡ floatOf (wordAt (now (bytes .entry)) i) ⌝ }
 {
     float(word_at(bytes, i))
 }
 
-// A column of symbols.
+// A column of 64 symbols, from a place on.
 pub(crate) fn symbols_at(bytes: &[u8], from: usize) -> [u64; 64]
     requires { ⌜ from + 64 ≤ length (now bytes) / 8 ⌝ }
     ensures { λ r. ⌜ r ≡ symbolsAt from (wordsOf (now (bytes .entry))) ⌝ }
@@ -41,7 +43,7 @@ pub(crate) fn symbols_at(bytes: &[u8], from: usize) -> [u64; 64]
     column
 }
 
-// A column of signed numbers.
+// A column of 64 signed numbers, from a place on.
 pub(crate) fn numbers_at(bytes: &[u8], from: usize) -> [i64; 64]
     requires { ⌜ from + 64 ≤ length (now bytes) / 8 ⌝ }
     ensures { λ r. ⌜ r ≡ numbersAt from (wordsOf (now (bytes .entry))) ⌝ }
@@ -55,6 +57,7 @@ pub(crate) fn numbers_at(bytes: &[u8], from: usize) -> [i64; 64]
     column
 }
 
+// Words, from a place on.
 pub(crate) fn put_words(bytes: &mut [u8], from: usize, words: &[u64])
     requires { ⌜ from + length (now words) ≤ 342 ⌝ }
     ensures { λ _. ⌜ wordsOf (now (bytes .exit)) ≡ sets (wordsOf (now (bytes .entry))) from (now (words .entry)) ⌝ }
@@ -66,6 +69,7 @@ pub(crate) fn put_words(bytes: &mut [u8], from: usize, words: &[u64])
     }
 }
 
+// A column of symbols, each as its text.
 pub(crate) fn put_symbols(bytes: &mut [u8], from: usize, column: &[u64])
     requires { ⌜ from + length (now column) ≤ 342 ⌝ }
     ensures { λ _. ⌜ wordsOf (now (bytes .exit)) ≡ sets (wordsOf (now (bytes .entry))) from (map turned (now (column .entry))) ⌝ }
@@ -77,6 +81,7 @@ pub(crate) fn put_symbols(bytes: &mut [u8], from: usize, column: &[u64])
     }
 }
 
+// A column of signed numbers.
 pub(crate) fn put_numbers(bytes: &mut [u8], from: usize, column: &[i64])
     requires { ⌜ from + length (now column) ≤ 342 ⌝ }
     ensures { λ _. ⌜ wordsOf (now (bytes .exit)) ≡ sets (wordsOf (now (bytes .entry))) from (map unsignedOf (now (column .entry))) ⌝ }

@@ -19,6 +19,7 @@ pub struct ReadSettings {
     pub settings: Settings,
 }
 
+// A flag is 0 or 1.
 fn flag_word(on: bool) -> u64
     ensures { λ r. ⌜ r ≡ flagWord on ⌝ }
 {
@@ -32,6 +33,7 @@ fn is_number(w: u64) -> bool
     w % 0x8000_0000_0000_0000 <= 0x7ff0_0000_0000_0000
 }
 
+// The trade cap is two words: 1 where it is present, and its count, 0 where it is absent.
 fn cap_mark(cap: TradeCap) -> u64
     ensures { λ r. ⌜ r ≡ capMark cap ⌝ }
 {
@@ -90,6 +92,7 @@ pub(crate) fn are_settings(bytes: &[u8], from: usize) -> bool
     word_at(bytes, from + 11) < 2
 }
 
+// The settings of the twelve words from a place on.
 pub(crate) fn settings_at(bytes: &[u8], from: usize) -> Settings
     requires { ⌜ from ≤ 1 ⌝ }
     ensures { λ r. ⌜ r ≡ settingsAt from (wordsOf (now (bytes .entry))) ⌝ }
@@ -112,6 +115,7 @@ pub(crate) fn settings_at(bytes: &[u8], from: usize) -> Settings
     }
 }
 
+// The twelve words of settings.
 pub(crate) fn settings_words(s: Settings) -> [u64; 12]
     ensures { λ r. ⌜ r ≡ settingsWords s ⌝ }
 {
@@ -148,6 +152,7 @@ pub(crate) fn zero_settings() -> Settings
     }
 }
 
+// The settings that 96 bytes hold.
 pub fn read_settings(bytes: &[u8]) -> ReadSettings
     ensures { λ r. ⌜ r ≡ readSettings (now (bytes .entry)) ⌝ }
 {
@@ -165,7 +170,7 @@ pub fn read_settings(bytes: &[u8]) -> ReadSettings
     }
 }
 
-// Nothing is written where the length is not that of settings.
+// The settings into 96 bytes. Nothing is written where the length is another.
 pub fn write_settings(s: Settings, bytes: &mut [u8])
     ensures { λ _. ⌜ now (bytes .exit) ≡ writtenSettings s (now (bytes .entry)) ⌝ }
 {

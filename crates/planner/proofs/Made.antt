@@ -16,7 +16,7 @@ use Rattle.admission.specs.Running.{cashFirst, inRunningOrder, notionalFrom}
 use Rattle.admission.specs.Runs.{Runs}
 use Rattle.admission.proofs.Plans.{plans-few, shorter-le}
 use Rattle.planner.specs.Adding.{addedAllTo, Admitted}
-use Rattle.planner.specs.Planning.{Planning}
+use Rattle.planner.specs.Planning.{Stands}
 use Rattle.planner.proofs.Adding.{Added, all-lists, added-append}
 
 module _ (s : Settings) (closes targets : List PlannedOrder) (c : Cols) (f : Full c) (h : orderCount (closes ++ targets) ≤ 64) where
@@ -44,10 +44,10 @@ module _ (s : Settings) (wanted : List PlannedOrder) (n : ℕ) (c : Cols) (g : A
   total : v ≡ notionalFrom (pos 0) (admitted s (addedAll s wanted []))
   total = sum ∙ ap (notionalFrom (pos 0)) (g .same)
 
-  pub plan-stands : (d : Cols) → s .«cash_first» ≡ false → Planning s wanted c d (record { count = n; notional = v })
+  pub plan-stands : (d : Cols) → s .«cash_first» ≡ false → Stands s (admitted s (addedAll s wanted [])) c d (record { count = n; notional = v })
   unfolding inRunningOrder
   plan-stands d e = record { full = simp e (g .full); few = g .few; same = simp e (g .same); notional = total }
 
-  pub plan-runs : (b d : Cols) (r : ℕ) → s .«cash_first» ≡ true → Full b → Runs n c b r d → Planning s wanted c d (record { count = r; notional = v })
+  pub plan-runs : (b d : Cols) (r : ℕ) → s .«cash_first» ≡ true → Full b → Runs n c b r d → Stands s (admitted s (addedAll s wanted [])) c d (record { count = r; notional = v })
   unfolding inRunningOrder
   plan-runs b d r e f w = record { full = simp e (w .full f); few = omega (arith, w .count, shorter-le n 64); same = simp e (w .same f ∙ ap (λ l. cashFirst l []) (g .same)); notional = total }

@@ -27,18 +27,19 @@ use Rattle.planning.proofs.Room.{count-append, count-most, orders-at-most}
 use Rattle.fills.specs.declared.record.ExecutionKind.{ExecutionKind}
 use Rattle.fills.specs.Runs.{orders}
 use Rattle.fills.proofs.Running.{next-order, no-order}
+use Rattle.admission.specs.Admission.{addedAll, admitted}
 use Rattle.admission.specs.Running.{cashFirst, inRunningOrder, notionalFrom}
 use Rattle.admission.specs.Columns.{Cols, Full, from, orderAt, plans}
 use Rattle.admission.proofs.Plans.{plans-few, plans-length, shorter-same}
 use Rattle.admission.proofs.Kept.{running-length}
 use Rattle.planner.specs.declared.plan.Planned.{Planned}
 use Rattle.planner.specs.Adding.{wantedAt}
-use Rattle.planner.specs.Planning as planner
+use Rattle.planner.specs.Planning.{Stands}
 use Rattle.planner.proofs.Held.{wanted-of-rows, plan-of-rows}
 use Rattle.portfolio.specs.Answers.{hasRoom, notHeld}
 use Rattle.portfolio.specs.Rebalance.{orderOf, admittedPlan, afterPlan, afterRebalance}
 use Rattle.portfolio.specs.Trades.{afterOrders}
-use Rattle.portfolio.specs.Planned.{equityAt, planAt, Stands, Plans, Ready}
+use Rattle.portfolio.specs.Planned.{equityAt, planAt, Plans, Ready}
 use Rattle.portfolio.proofs.Worths.{equity-of-places}
 
 -- ---- the plan of the places
@@ -68,9 +69,9 @@ module _ (s : Settings) (cash : ℤ) (price : ℕ → ℤ) (n : ℕ) (ks : List 
       go false = f
 
   pub plan-some : (c d : Cols) (r : Planned) → leZ (equityAt price cash n ks qs) (pos 0) ≡ false
-      → planner.Planning s (wantedAt s (equityAt price cash n ks qs) price n ks qs targets weights) c d r → Stands s (planAt s cash price n ks qs targets weights) c d r
+      → Stands s (admitted s (addedAll s (wantedAt s (equityAt price cash n ks qs) price n ks qs targets weights) [])) c d r → Stands s (planAt s cash price n ks qs targets weights) c d r
   unfolding planAt
-  plan-some c d r e p = rw e (record { full = p .full; few = p .few; same = p .same; notional = p .notional })
+  plan-some c d r e p = rw e p
 
 -- ---- of an account
 module _ (a : Account) (ts : List ℕ) (ws : List Float) (ps : List ℕ) (room : ℕ) (y : Ready a ts ws ps room) (f : table.Full (columnsOf (a .positions))) (price : ℕ → ℤ) where

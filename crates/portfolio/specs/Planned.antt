@@ -23,10 +23,10 @@ use Rattle.planning.specs.declared.plan.PlannedOrder.{PlannedOrder}
 use Rattle.planning.specs.Plan.{orderCount}
 use Rattle.planning.specs.Equity.{worthPlaces}
 use Rattle.admission.specs.Admission.{addedAll, admitted}
-use Rattle.admission.specs.Running.{inRunningOrder, notionalFrom}
-use Rattle.admission.specs.Columns.{Cols, Full, plans}
+use Rattle.admission.specs.Columns.{Cols, Full}
 use Rattle.planner.specs.declared.plan.Planned.{Planned}
 use Rattle.planner.specs.Adding.{wantedAt}
+use Rattle.planner.specs.Planning.{Stands}
 use Rattle.portfolio.specs.Answers.{hasRoom, notHeld}
 
 -- ---- targets that are not held
@@ -53,13 +53,6 @@ unfoldable pub planAt : Settings → ℤ → (ℕ → ℤ) → ℕ → List ℕ 
 planAt s cash price n ks qs targets weights =
     let equity = equityAt price cash n ks qs in
     pick (leZ equity (pos 0)) [] (admitted s (addedAll s (wantedAt s equity price n ks qs targets weights) []))
-
--- the plan stands in the columns d of the run in cash-first mode, else in the columns c
-pub record Stands (s : Settings) (plan : List PlannedOrder) (c d : Cols) (r : Planned) : Type 0 where
-  pub full : Full (pick (s .«cash_first») d c)
-  pub few : r .count ≤ 64
-  pub same : plans (r .count) (pick (s .«cash_first») d c) ≡ inRunningOrder s plan
-  pub notional : r .notional ≡ notionalFrom (pos 0) plan
 
 -- what a plan is made under: symbols that ascend, full columns, and room for its orders
 pub record Room (s : Settings) (cash : ℤ) (ks : List ℕ) (qs : List ℤ) (n : ℕ) (targets : List ℕ) (weights : List Float) (symbols : List ℕ) (prices : List ℤ) (a b : Cols) : Type 0 where

@@ -77,7 +77,7 @@ fn plan_at<'a>(
     )
 }
 
-// The count of places in use.
+// The count of places in use. A table by value tells that its columns have 64 places; columns that are lent do not.
 fn used(positions: Table) -> usize
     ensures { λ r. ⌜ Used positions r ⌝ }
 {
@@ -140,7 +140,7 @@ fn rebalance_at(
     run(&os, &oq, &op, m, period, kind, n, v, words, ints, a)
 }
 
-// Prices whose symbols ascend are used in place; others are sorted first.
+// Moves the account to its targets at the listed prices. Prices whose symbols ascend are used in place; others are sorted first.
 pub fn rebalance_simple(
     a: Account,
     targets: &[u64],

@@ -77,6 +77,7 @@ pub(crate) fn has_room(a: Account, asked: usize, room: usize) -> bool
     true
 }
 
+// 1 for a symbol that a search did not find: a sum in the loop below needs no branch there.
 fn lacked_by(f: Found) -> usize
     ensures { λ r. ⌜ r ≡ lackedBy f ⌝ }
 {
@@ -109,6 +110,7 @@ fn has_places(positions: Table, targets: &[u64]) -> bool
     n + count_not_held(&positions.symbol, n, targets) <= 64
 }
 
+// In the order 11, then 6, 2, 3, 5, 4 for the lists, then 8 and 7.
 pub(crate) fn rebalance_answer(
     a: Account,
     targets: &[u64],

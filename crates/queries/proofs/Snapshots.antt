@@ -3,7 +3,7 @@ use Prim.Native.Nat.{ℕ}
 use mathlib.Core.Path.{_≡_, refl, ap, _∙_}
 use mathlib.Core.Bool.{Bool, true, false}
 use mathlib.Core.List.{List, []}
-use lib.IntN.{ℤ}
+use lib.IntN.{ℤ, pos}
 use Rattle.answer.specs.declared.Answer.the-variants.{Done}
 use Rattle.words.specs.Sums.{satAdd}
 use Rattle.table.specs.Keyed.{pick}
@@ -12,6 +12,7 @@ use Rattle.account.specs.declared.account.Account.{Account}
 use Rattle.account.specs.Account.{heldIn}
 use Rattle.planning.specs.Equity.{equityOf}
 use Rattle.portfolio.specs.Answers.{isDone, queryAnswer}
+use Rattle.portfolio.specs.Queries.{answeredCents, toldEquity}
 use Rattle.queries.specs.declared.answered.Weighed.{Weighed}
 use Rattle.queries.specs.declared.answered.Snapshot.{Snapshot}
 use Rattle.queries.specs.declared.sum.Sums.{Sums}
@@ -44,5 +45,15 @@ weights-told a ps vs = go (isDone (queryAnswer a ps vs))
   where
     go : (b : Bool) → let s = pick b (snapshotOf (priceOf ps vs) a) (noSnapshot (queryAnswer a ps vs)) in
         answeredWeights (s .answer) (s .weights) ≡ pick b (answeredWeights Done (weighed (weightsNow (priceOf ps vs) a))) (answeredWeights (queryAnswer a ps vs) (weighed []))
+    go true = refl
+    go false = refl
+
+-- the equity of a snapshot is the equity alone
+pub equity-told : (a : Account) (ps : List ℕ) (vs : List ℤ) → answeredCents (toldSnapshot a ps vs .answer) (toldSnapshot a ps vs .equity) ≡ toldEquity a ps vs
+unfolding toldSnapshot toldEquity snapshotOf noSnapshot
+equity-told a ps vs = go (isDone (queryAnswer a ps vs))
+  where
+    go : (b : Bool) → let s = pick b (snapshotOf (priceOf ps vs) a) (noSnapshot (queryAnswer a ps vs)) in
+        answeredCents (s .answer) (s .equity) ≡ pick b (answeredCents Done (equityOf (priceOf ps vs) (a .cash) (heldIn (a .positions)))) (answeredCents (queryAnswer a ps vs) (pos 0))
     go true = refl
     go false = refl

@@ -11,9 +11,9 @@ use borrow.Author.Needs.{needs}
 use Rattle.feeds.specs.Lists.{priceOf}
 use Rattle.planning.specs.declared.plan.PlannedOrder.{PlannedOrder}
 use Rattle.admission.specs.Columns.{Cols, cols, Full}
+use Rattle.planner.specs.Planning.{Stands}
 use Rattle.portfolio.specs.Rebalance.{admittedPlan}
 use Rattle.portfolio.specs.Trades.{filed}
-use Rattle.portfolio.specs.Planned.{Stands}
 use Rattle.portfolio.proofs.Plans.{account-stands, room-for, run-rebalances}
 use Rattle.portfolio.proofs.rebalance.rebalance_at.Statement.{statement}
 use Rattle.portfolio.proofs.rebalance.rebalance_at.Tie as tie
