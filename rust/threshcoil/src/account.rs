@@ -306,7 +306,16 @@ fn position_of(out: &[u8]) -> Option<Position> {
 
 impl fmt::Debug for Account {
     fn fmt(&self, f: &mut fmt::Formatter<'_>) -> fmt::Result {
-        let positions: Vec<Position> = self.positions().collect();
-        f.debug_struct("Account").field("cash", &self.cash()).field("positions", &positions).finish_non_exhaustive()
+        let (cash, positions) = (self.cash(), Positions(self));
+        f.debug_struct("Account").field("cash", &cash).field("positions", &positions).finish_non_exhaustive()
+    }
+}
+
+/// The positions as they are shown.
+struct Positions<'a>(&'a Account);
+
+impl fmt::Debug for Positions<'_> {
+    fn fmt(&self, f: &mut fmt::Formatter<'_>) -> fmt::Result {
+        f.debug_list().entries(self.0.positions()).finish()
     }
 }
