@@ -198,10 +198,8 @@ fn timed(row: &Row, n: usize) -> Option<[f64; 3]> {
 }
 
 pub fn run() -> bool {
-    println!(
-        "accounts: nanoseconds a call, median of {BATCHES} batches of {CALLS} calls; nanobook walks the ordered map of"
-    );
-    println!("the differential runs, and with a hash map it takes from a third less (64 symbols) to a tenth less (8)");
+    println!("accounts: nanoseconds a call, median of {BATCHES} batches of {CALLS} calls;");
+    println!("nanobook walks the ordered map of the differential runs, which is slower than its own hash map");
     for n in [8, 32, 64] {
         for row in &ROWS {
             let Some([rust, bytes, safe]) = timed(row, n) else {
