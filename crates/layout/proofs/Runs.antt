@@ -1,15 +1,15 @@
 -- One turn of a loop that reads a run of words or writes one.
-use mathlib.Core.Path.{_≡_, sym, _∙_, ap}
-use Prim.Native.Nat.{ℕ, suc, _+_, _<_, _≤_, _^_}
+use mathlib.Core.Path.{_≡_, refl, sym, _∙_, ap}
+use Prim.Native.Nat.{ℕ, zero, suc, _+_, _*_, _/_, _<_, _≤_, _^_}
 use native.Mathlib.Omega.{arith}
 use mathlib.Core.List.{List, [], _∷_, _++_, map}
 use lib.ListN.{length, getD, take, drop, set, List·getD-map, length-map, length-drop, drop-of-length-le}
-use lib.Seq.{sets, take-suc, take-suc-set, drop-cons, getD-take, getD-drop, take-all, length-take-le}
+use lib.Seq.{sets, take-suc, take-suc-set, drop-cons, getD-take, getD-drop, take-all, take-take, length-take-le}
 use lib.IntN.{ℤ}
 use mir.Syntax.{w64}
 use mir.Val.{toZ, ofZ, SFits}
 use mir.ValLaws.{toZ-ofZ}
-use Rattle.octets.specs.Words.{wordsOf, putWord}
+use Rattle.octets.specs.Words.{little, wordsIn, wordsOf, putWord}
 use Rattle.octets.proofs.Words.{words-put}
 
 -- the first i + 1 places of a column that is read, one more of them set
@@ -54,3 +54,32 @@ kept {r = r} f e = toZ-ofZ w64 r f ∙ e
 -- the word of a signed number that a call was given, through the bits that hold it
 pub stored : {r : ℕ} {z : ℤ} → SFits w64 z → r ≡ ofZ w64 (toZ w64 (ofZ w64 z)) → r ≡ ofZ w64 z
 stored {z = z} f e = e ∙ ap (ofZ w64) (toZ-ofZ w64 z f)
+
+-- ---- words in the first bytes
+drop-take : {A : Type 0} (a b n : ℕ) (l : List A) → n ≡ a + b → drop a (take n l) ≡ take b (drop a l)
+drop-take zero b n l e = let z : n ≡ b = omega arith in ap (λ (k : ℕ). take k l) z
+drop-take (suc a) b zero l e = absurd (omega arith)
+drop-take (suc a) zero (suc n) [] e = refl
+drop-take (suc a) (suc b) (suc n) [] e = refl
+drop-take (suc a) b (suc n) (x ∷ l) e = drop-take a b n l (omega arith)
+
+words-part : (m k : ℕ) (l : List ℕ) → m ≤ k → wordsIn m (take (8 * m) l) ≡ take m (wordsIn k l)
+unfolding wordsIn
+words-part zero k l h = refl
+words-part (suc m) zero l h = absurd (omega arith)
+words-part (suc m) (suc k) l h =
+    let f : take 8 (take (8 * suc m) l) ≡ take 8 l = take-take 8 (8 * suc m) l (omega arith) in
+    let r : drop 8 (take (8 * suc m) l) ≡ take (8 * m) (drop 8 l) = drop-take 8 (8 * m) (8 * suc m) l (omega arith) in
+    ap (λ (v : List ℕ). little v ∷ wordsIn m (drop 8 (take (8 * suc m) l))) f
+    ∙ ap (λ (v : List ℕ). little (take 8 l) ∷ wordsIn m v) r
+    ∙ ap (λ (v : List ℕ). little (take 8 l) ∷ v) (words-part m k (drop 8 l) (omega arith))
+
+-- a run of words in the bytes that end with it
+pub run-part : (n from : ℕ) (l : List ℕ) → from + n ≤ length l / 8 → take n (drop from (wordsOf (take (8 * (from + n)) l))) ≡ take n (drop from (wordsOf l))
+run-part n from l h =
+    let z : length (take (8 * (from + n)) l) ≡ 8 * (from + n) = length-take-le (8 * (from + n)) l (omega arith) in
+    let q : length (take (8 * (from + n)) l) / 8 ≡ from + n = omega (arith, z) in
+    let w : wordsOf (take (8 * (from + n)) l) ≡ take (from + n) (wordsOf l) = ap (λ (k : ℕ). wordsIn k (take (8 * (from + n)) l)) q ∙ words-part (from + n) (length l / 8) l h in
+    ap (λ (v : List ℕ). take n (drop from v)) w
+    ∙ ap (take n) (drop-take from n (from + n) (wordsOf l) refl)
+    ∙ take-take n n (drop from (wordsOf l)) (omega arith)

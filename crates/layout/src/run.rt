@@ -30,7 +30,7 @@ pub(crate) fn rate_at(bytes: &[u8], i: usize) -> f64
 }
 
 // A column of 64 symbols, from a place on.
-pub(crate) fn symbols_at(bytes: &[u8], from: usize) -> [u64; 64]
+fn symbols_of(bytes: &[u8], from: usize) -> [u64; 64]
     requires { ⌜ from + 64 ≤ length (now bytes) / 8 ⌝ }
     ensures { λ r. ⌜ r ≡ symbolsAt from (wordsOf (now (bytes .entry))) ⌝ }
 {
@@ -43,8 +43,17 @@ pub(crate) fn symbols_at(bytes: &[u8], from: usize) -> [u64; 64]
     column
 }
 
+// The same from the bytes that end with it: they have a word at each of its places, and the loop compiles to one with no test of that.
+pub(crate) fn symbols_at(bytes: &[u8], from: usize) -> [u64; 64]
+    requires { ⌜ from + 64 ≤ length (now bytes) / 8 ⌝ }
+    ensures { λ r. ⌜ r ≡ symbolsAt from (wordsOf (now (bytes .entry))) ⌝ }
+{
+    let end = 8 * (from + 64);
+    symbols_of(&bytes[..end], from)
+}
+
 // A column of 64 signed numbers, from a place on.
-pub(crate) fn numbers_at(bytes: &[u8], from: usize) -> [i64; 64]
+fn numbers_of(bytes: &[u8], from: usize) -> [i64; 64]
     requires { ⌜ from + 64 ≤ length (now bytes) / 8 ⌝ }
     ensures { λ r. ⌜ r ≡ numbersAt from (wordsOf (now (bytes .entry))) ⌝ }
 {
@@ -55,6 +64,15 @@ pub(crate) fn numbers_at(bytes: &[u8], from: usize) -> [i64; 64]
         i += 1;
     }
     column
+}
+
+// The same from the bytes that end with it.
+pub(crate) fn numbers_at(bytes: &[u8], from: usize) -> [i64; 64]
+    requires { ⌜ from + 64 ≤ length (now bytes) / 8 ⌝ }
+    ensures { λ r. ⌜ r ≡ numbersAt from (wordsOf (now (bytes .entry))) ⌝ }
+{
+    let end = 8 * (from + 64);
+    numbers_of(&bytes[..end], from)
 }
 
 // Words, from a place on.

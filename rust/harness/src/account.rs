@@ -1,7 +1,49 @@
-//! Whole accounts: random scenarios played by the Rust, written as text for another implementation to play.
+//! Whole accounts: random scenarios played by the Rust and by the port, and written as text for the model to play.
 
-use scenario::{Covered, Random, asked, scenario, spoiled, written};
+use crate::port::Port;
+use scenario::{Covered, Played, Random, Scenario, play, scenario, spoiled, written};
 use std::io::Write;
+
+/// Plays `count` scenarios on the Rust and on the port, and compares every answer, every figure and the whole account
+/// after every call, bit for bit.
+pub fn run(seed: u64, count: u64) -> bool {
+    if !oracle::PRESENT {
+        println!("accounts: SKIPPED, since nanobook's source is not at hand");
+        return true;
+    }
+    let mut covered = Covered::default();
+    let mut differences = 0u64;
+    for k in 0..count {
+        let mut scenario = scenario(&mut Random::new(seed.wrapping_add(k)));
+        let theirs = oracle::play(&scenario).expect("the oracle is present");
+        covered.add(&scenario, &theirs);
+        scenario.steps.truncate(theirs.calls.len());
+        let ours = play::<Port>(&scenario);
+        if written(&scenario, &ours) != written(&scenario, &theirs) {
+            differences += 1;
+            if differences <= 3 {
+                differs(seed.wrapping_add(k), &scenario, &ours, &theirs);
+            }
+        }
+    }
+    println!("accounts: seed {seed}; {covered}; {differences} scenarios differ");
+    differences == 0
+}
+
+/// The first line in which two answers to a scenario differ, with the call that it answers.
+fn differs(seed: u64, scenario: &Scenario, ours: &Played, theirs: &Played) {
+    let [ours, theirs] = [ours, theirs].map(|played| written(scenario, played));
+    let mut asked = "";
+    for (our, their) in ours.lines().zip(theirs.lines()) {
+        if our.starts_with('>') {
+            asked = our;
+        }
+        if our != their {
+            println!("DIFFERS in scenario {seed}\n  asked: {asked}\n  port: {our}\n  Rust: {their}");
+            return;
+        }
+    }
+}
 
 /// Writes `count` scenarios with the Rust's answers to standard output, and what they cover to standard error.
 pub fn emit(seed: u64, count: u64) -> bool {
@@ -24,14 +66,15 @@ pub fn emit(seed: u64, count: u64) -> bool {
     true
 }
 
-/// Writes the calls of `count` scenarios outside the domain to standard output, with nobody's answers: the Rust refuses
-/// nothing, so each implementation that does answers them, and the answers are compared.
+/// Writes `count` scenarios outside the domain to standard output, with the port's answers: the Rust refuses nothing, so
+/// the model is held to them.
 pub fn emit_spoiled(seed: u64, count: u64) -> bool {
     let mut out = std::io::stdout().lock();
     (0..count).all(|k| {
         let seed = seed.wrapping_add(k);
         let mut random = Random::new(seed);
         let good = scenario(&mut random);
-        write!(out, "# spoiled {seed}\n{}", asked(&spoiled(&mut random, good))).is_ok()
+        let scenario = spoiled(&mut random, good);
+        write!(out, "# spoiled {seed}\n{}", written(&scenario, &play::<Port>(&scenario))).is_ok()
     })
 }

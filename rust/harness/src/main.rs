@@ -1,9 +1,12 @@
 //! The harness: `harness COMMAND`. Exit status 1 where the port and the Rust differ.
 
 mod account;
+mod bench;
+mod damage;
 mod differ;
 mod fills;
 mod leaf;
+mod port;
 mod sample;
 mod series;
 mod single;
@@ -11,7 +14,8 @@ mod table;
 
 const USAGE: &str =
     "usage: harness leaves [SEED [COUNT]] | fills [SEED [COUNT]] | single [SEED [COUNT]] | figures [SEED [COUNT]]
-    | full | bench | scenarios [SEED [COUNT]] | spoiled SEED COUNT | table | sample write FILE | sample check FILE";
+    | accounts [SEED [COUNT]] | damage [SEED [COUNT]] | full | bench | bench figures | bench accounts
+    | scenarios [SEED [COUNT]] | spoiled [SEED [COUNT]] | table | sample write FILE | sample check FILE";
 
 const SEED: u64 = 20261115;
 
@@ -24,9 +28,13 @@ fn main() {
         ["single", ref rest @ ..] => seeded(rest, 2_000_000, single::run),
         ["figures", ref rest @ ..] => seeded(rest, 120_000, series::run),
         ["full"] => full(),
-        ["bench"] => series::bench(SEED),
+        ["bench"] => series::bench(SEED) && bench::run(),
+        ["bench", "figures"] => series::bench(SEED),
+        ["bench", "accounts"] => bench::run(),
+        ["accounts", ref rest @ ..] => seeded(rest, 8_000, account::run),
+        ["damage", ref rest @ ..] => seeded(rest, 20_000, damage::run),
         ["scenarios", ref rest @ ..] => seeded(rest, 1_000, account::emit),
-        ["spoiled", seed, count] => account::emit_spoiled(number(seed), number(count)),
+        ["spoiled", ref rest @ ..] => seeded(rest, 1_000, account::emit_spoiled),
         ["table"] => table::run(),
         ["sample", "write", path] => sample::write(path),
         ["sample", "check", path] => sample::check(path),
@@ -53,7 +61,9 @@ fn full() -> bool {
     let fills = fills::run(SEED + 1, 20_000_000);
     let single = single::run(SEED + 1, 20_000_000);
     let figures = series::run(SEED + 1, 1_000_000);
-    leaves && fills && single && figures
+    let accounts = account::run(SEED + 1, 90_000);
+    let damage = damage::run(SEED + 1, 400_000);
+    leaves && fills && single && figures && accounts && damage
 }
 
 fn number(word: &str) -> u64 {

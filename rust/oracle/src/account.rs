@@ -19,8 +19,8 @@ pub fn model(costs: Costs) -> CostModel {
 }
 
 impl Account for Nanobook {
-    fn open(opening: &Opening) -> Nanobook {
-        Nanobook { account: Portfolio::new(opening.cash, model(opening.costs)), recorded_before: 0 }
+    fn open(opening: &Opening) -> (u64, Nanobook) {
+        (0, Nanobook { account: Portfolio::new(opening.cash, model(opening.costs)), recorded_before: 0 })
     }
 
     fn call(&mut self, step: &Step) -> Option<Outcome> {
@@ -218,7 +218,7 @@ pub fn fill_alone(ask: &Ask, found: &Single) -> Option<Filled> {
     Some(Filled { after, record: records.first().copied() })
 }
 
-fn name(s: &Symbol) -> Name {
+pub fn name(s: &Symbol) -> Name {
     let length = s.0.iter().position(|b| *b == 0).unwrap_or(8);
     Name::new(std::str::from_utf8(&s.0[..length]).expect("a symbol's bytes are 33 to 126"))
 }
@@ -229,7 +229,7 @@ fn symbol(n: &Name) -> Symbol {
     Symbol(bytes)
 }
 
-fn named(prices: &Prices) -> Vec<(Name, i64)> {
+pub fn named(prices: &Prices) -> Vec<(Name, i64)> {
     prices.iter().map(|(s, p)| (name(s), *p)).collect()
 }
 

@@ -18,9 +18,11 @@ mod account;
 mod figures;
 mod leaves;
 mod single;
+mod timed;
 pub use figures::{Figures, figures};
 pub use leaves::{Leaves, leaves};
 pub use single::{Ask, Filled, Single, fill_alone};
+pub use timed::Timed;
 
 /// Whether this build has nanobook's files in it.
 pub const PRESENT: bool = cfg!(nanobook);

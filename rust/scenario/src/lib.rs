@@ -73,13 +73,14 @@ pub struct Context {
 }
 
 pub type Prices = Vec<(Symbol, i64)>;
+pub type Targets = Vec<(Symbol, f64)>;
 
 #[derive(Clone, Debug, PartialEq)]
 pub enum Step {
     Set(Setting),
     /// `places` is how many records the lent run has room for, here and in a close.
     Rebalance {
-        targets: Vec<(Symbol, f64)>,
+        targets: Targets,
         prices: Prices,
         context: Context,
         places: u64,
@@ -172,25 +173,28 @@ pub struct View {
 /// What one implementation made of a scenario: the account as opened, then each call's outcome and the account after it.
 #[derive(Clone, Debug, PartialEq)]
 pub struct Played {
+    /// What the opening answered.
+    pub answer: u64,
     pub opened: View,
     /// Fewer than the scenario's steps where the implementation is no oracle for the next one.
     pub calls: Vec<(Outcome, View)>,
 }
 
 pub fn play<A: Account>(scenario: &Scenario) -> Played {
-    let mut account = A::open(&scenario.opening);
+    let (answer, mut account) = A::open(&scenario.opening);
     let opened = account.view();
     let mut calls = Vec::new();
     for step in &scenario.steps {
         let Some(outcome) = account.call(step) else { break };
         calls.push((outcome, account.view()));
     }
-    Played { opened, calls }
+    Played { answer, opened, calls }
 }
 
 /// An implementation of the account.
 pub trait Account: Sized {
-    fn open(opening: &Opening) -> Self;
+    /// The answer and the account: "all zeros from a refused opening".
+    fn open(opening: &Opening) -> (u64, Self);
 
     /// None where this implementation is no oracle for the call; the account is then worth nothing more.
     fn call(&mut self, step: &Step) -> Option<Outcome>;

@@ -8,7 +8,8 @@ use std::fmt::{Display, Write};
 
 /// A scenario as far as it was played.
 pub fn written(scenario: &Scenario, played: &Played) -> String {
-    let mut text = format!("> {}\n< answer 0\n{}", opening(&scenario.opening), account(&played.opened));
+    let Played { answer, opened, .. } = played;
+    let mut text = format!("> {}\n< answer {answer}\n{}", opening(&scenario.opening), account(opened));
     for (step, (outcome, view)) in scenario.steps.iter().zip(&played.calls) {
         text += &format!("> {}\n< answer {}\n{}{}", call(step), outcome.answer, reply(&outcome.reply), account(view));
     }

@@ -2,6 +2,9 @@
 //! a count, is total, and touches nothing but the slices lent to it, so each is safe to call; nothing checks a declaration
 //! here against its Rattle source but the differential runs.
 
+mod accounts;
+pub use accounts::*;
+
 unsafe extern "C" {
     pub safe fn tc_mul_high(a: u64, b: u64) -> u64;
     pub safe fn tc_mul_low(a: u64, b: u64) -> u64;

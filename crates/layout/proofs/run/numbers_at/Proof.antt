@@ -1,78 +1,35 @@
--- After i turns the first i places hold what the words say.
-use borrow.Author.Needs.{needs}
+-- The column stands in the bytes that end with it.
+use mathlib.Core.Path.{sym, ap, _∙_}
+use mathlib.Core.List.{map}
+use Prim.Native.Nat.{_+_, _*_}
 use native.Mathlib.Omega.{arith}
-use mathlib.Core.Path.{_≡_, refl, sym, _∙_}
-use Prim.Native.Nat.{_≤_, _<_, _-_}
-use lib.ListN.{length, take, getD, length-set}
-use lib.IntN.{pos}
-use mir.Syntax.{w64}
-use mir.Val.{toZ, ofZ}
-use mir.ValLaws.{toZ-ofZ}
-use Rattle.octets.specs.Words.{wordsOf}
+use borrow.Author.Needs.{needs}
+use lib.Seq.{length-take-le}
 use Rattle.octets.specs.Numbers.{signedOf}
-use Rattle.octets.proofs.Words.{length-words}
-use Rattle.layout.specs.Account.{numbersAt}
-use Rattle.layout.proofs.Runs.{read-on, read-all, at-run, length-run}
+use Rattle.layout.proofs.Runs.{run-part}
 use Rattle.layout.proofs.run.numbers_at.Statement.{statement}
 use Rattle.layout.proofs.run.numbers_at.Tie as tie
 
-abbrev Inv-loop : tie.InvT-loop
-Inv-loop bytes from column₀ i₀ column i = (i ≤ 64) × (length column ≡ 64) × (take i column ≡ take i (numbersAt from (wordsOf bytes)))
+add-end : tie.Need-add-end
+add-end c = search needs
 
-abbrev μ-loop : tie.MeasureT-loop
-μ-loop bytes from column₀ i₀ column i = 64 - i
+mul-end : tie.Need-mul-end
+mul-end c = search needs
 
-loop-holds : tie.Need-loop-holds Inv-loop μ-loop
-loop-holds c = (omega arith, refl, refl)
+slice-aggregate-numbers-of : tie.Need-slice-aggregate-numbers-of
+slice-aggregate-numbers-of c =
+    let a = c .before .before .args in
+    sym (length-take-le (8 * (a .from + 64)) (a .bytes .now) (omega arith))
 
-add-number-at : tie.Need-add-number-at Inv-loop μ-loop
-add-number-at c = search needs
+numbers-of-requires : tie.Need-numbers-of-requires
+numbers-of-requires c κs =
+    let a = c .before .before .args in
+    simp (length-take-le (8 * (a .from + 64)) (a .bytes .now) (omega arith)) (omega arith)
 
-number-at-requires : tie.Need-number-at-requires Inv-loop μ-loop
-number-at-requires c κs = search needs
-
-mul-column : tie.Need-mul-column Inv-loop μ-loop
-mul-column c = search needs
-
-array-set-from-column : tie.Need-array-set-from-column Inv-loop μ-loop
-array-set-from-column c = search needs
-
-add-i : tie.Need-add-i Inv-loop μ-loop
-add-i c = search needs
-
-loop-less : tie.Need-loop-less Inv-loop μ-loop
-loop-less c = search needs
-
-loop-again : tie.Need-loop-again Inv-loop μ-loop
-loop-again c =
-    let l = c .before .before in
-    let s = l .before .before .args in
-    let ws = wordsOf (s .bytes .now) in
-    let n : length (numbersAt (s .from) ws) ≡ 64 = length-run signedOf 64 (s .from) ws (simp length-words (omega arith)) in
-    let i = l .loop .i in
-    let t : i < 64 = omega arith in
-    let e : (toZ w64 (ofZ w64 (c .number-at .result))) ≡ getD (numbersAt (s .from) ws) i (pos 0) = toZ-ofZ w64 (c .number-at .result) (record { sfits = c .number-at .ok }) ∙ c .number-at .ensures ∙ sym (at-run signedOf 64 (s .from) i ws t) in
-    (omega arith, simp length-set (l .loop .inv .1), read-on (l .loop .column) (numbersAt (s .from) ws) i (pos 0) (toZ w64 (ofZ w64 (c .number-at .result))) (omega arith) (omega arith) e (l .loop .inv .2))
-
-returns : tie.Need-returns Inv-loop μ-loop
+returns : tie.Need-returns
 returns c =
-    let l = c .before in
-    let s = l .before .before .args in
-    let ws = wordsOf (s .bytes .now) in
-    read-all (l .loop .column) (numbersAt (s .from) ws) 64 (l .loop .i) (l .loop .inv .1) (length-run signedOf 64 (s .from) ws (simp length-words (omega arith))) (omega arith) (l .loop .inv .2)
+    let a = c .before .before .before .args in
+    c .numbers-of .ensures ∙ ap (map signedOf) (run-part 64 (a .from) (a .bytes .now) (omega arith))
 
 pub numbers-at-spec : {M : Type 1} → statement M
-numbers-at-spec =
-    tie.close
-    (tie.spec
-    Inv-loop
-    μ-loop
-    loop-holds
-    add-number-at
-    number-at-requires
-    mul-column
-    array-set-from-column
-    add-i
-    loop-less
-    loop-again
-    returns)
+numbers-at-spec = tie.close (tie.spec add-end mul-end slice-aggregate-numbers-of numbers-of-requires returns)
