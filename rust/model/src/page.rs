@@ -27,8 +27,8 @@ pub fn page(plan: &Plan, history: &History) -> String {
     trades(&mut out, history);
     refused(&mut out, history);
     out.push_str(
-        "<footer>Every figure on this page is computed by code that is proved to meet its definition. \
-         A model portfolio is no advice, and past returns promise nothing.</footer>\n</main>\n</body>\n</html>\n",
+        "<footer>Equity, fills, holdings, weights and figures come from code that is proved to meet its definition; the curves \
+         are drawn from them. A model portfolio is no advice, and past returns promise nothing.</footer>\n</main>\n</body>\n</html>\n",
     );
     out
 }
@@ -108,7 +108,7 @@ fn holdings(out: &mut String, history: &History) {
     );
     for p in open {
         let weight = history.weight_of(p.symbol).unwrap_or(0.0);
-        let width = if widest > 0.0 { weight.abs() / widest * 100.0 } else { 0.0 };
+        let width = if widest > 0.0 { weight.abs() / widest * 60.0 } else { 0.0 };
         let side = if p.quantity.0 < 0 { "short" } else { "long" };
         let _ = writeln!(
             out,
@@ -132,11 +132,11 @@ fn trades(out: &mut String, history: &History) {
         let cut = if told.trimmed > 0 { format!(", {} cut to the cash at hand", told.trimmed) } else { String::new() };
         let _ = write!(
             out,
-            "<details{}>\n<summary>{}: {} fills{cut}</summary>\n<div class=\"scroll\"><table>\n\
+            "<details{}>\n<summary>{}: {}{cut}</summary>\n<div class=\"scroll\"><table>\n\
              <tr><th>Symbol</th><th>Shares</th><th>Price</th><th>Cost</th><th>Cash after</th></tr>\n",
             if k == 0 { " open" } else { "" },
             escaped(&told.label),
-            told.fills.len()
+            if told.fills.len() == 1 { "1 fill".into() } else { format!("{} fills", told.fills.len()) }
         );
         for r in &told.fills {
             let exit = if r.kind == ExecutionKind::StopExit { " <em>stop exit</em>" } else { "" };
