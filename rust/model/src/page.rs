@@ -103,8 +103,8 @@ fn holdings(out: &mut String, history: &History) {
     }
     let widest = open.iter().filter_map(|p| history.weight_of(p.symbol)).fold(0.0, |w: f64, x| w.max(x.abs()));
     out.push_str(
-        "<div class=\"scroll\"><table>\n<tr><th>Symbol</th><th>Shares</th><th>Average price</th><th>Realized</th>\
-         <th class=\"bar\">Weight</th></tr>\n",
+        "<div class=\"scroll\"><table>\n<tr><th>Symbol</th><th class=\"bar\">Weight</th><th>Shares</th>\
+         <th>Average price</th><th>Realized</th></tr>\n",
     );
     for p in open {
         let weight = history.weight_of(p.symbol).unwrap_or(0.0);
@@ -112,14 +112,14 @@ fn holdings(out: &mut String, history: &History) {
         let side = if p.quantity.0 < 0 { "short" } else { "long" };
         let _ = writeln!(
             out,
-            "<tr><td>{}{}</td><td>{}</td><td>{}</td><td>{}</td><td class=\"bar\"><i class=\"{side}\" style=\"width:{width:.1}%\"></i>\
-             <span>{}</span></td></tr>",
+            "<tr><td>{}{}</td><td class=\"bar\"><i class=\"{side}\" style=\"width:{width:.1}%\"></i><span>{}</span></td>\
+             <td>{}</td><td>{}</td><td>{}</td></tr>",
             escaped(&p.symbol.to_string()),
             if side == "short" { " <em>short</em>" } else { "" },
+            percent(weight),
             shares(p.quantity),
             money(p.avg_entry_price),
-            money(p.realized_pnl),
-            percent(weight)
+            money(p.realized_pnl)
         );
     }
     out.push_str("</table></div>\n</section>\n");
