@@ -14,7 +14,7 @@ const EXAMPLE: &str = include_str!("../example.txt");
 
 const USAGE: &str = "usage: threshcoil [FILE] [--page PAGE.html] [--stop] [--example]
   FILE          a model portfolio; without one, the built-in example is run
-  --page PAGE   where the page goes (else target/model.html)
+  --page PAGE   where the page goes
   --stop        end at the first line that is refused or can't be read; else such a line is told and passed over
   --example     print the built-in example, to begin a file of one's own from";
 
@@ -26,7 +26,7 @@ struct Asked {
 }
 
 fn asked() -> Result<Asked, String> {
-    let mut asked = Asked { file: None, page: "target/model.html".into(), stop: false, example: false };
+    let mut asked = Asked { file: None, page: "model.html".into(), stop: false, example: false };
     let mut words = std::env::args_os().skip(1);
     while let Some(word) = words.next() {
         match word.to_str() {
