@@ -1,7 +1,7 @@
 """Plays the scenarios on standard input on the model and holds its answers to those written beside them.
 
-usage: harness scenarios SEED COUNT | python3 tools/model/compare.py
-       harness spoiled SEED COUNT | python3 tools/model/compare.py
+usage: harness scenarios SEED COUNT | python3 tools/model/compare.py      the Rust's answers
+       harness spoiled SEED COUNT | python3 tools/model/compare.py        the port's, refusals and cash-first mode among them
 
 The text is that of rust/scenario: a call after '>', what it gave and the account after it after '<'. A call with no
 answer beside it is played and its answer number counted. Exit status 1 where an answer differs, or nothing was played.

@@ -1,6 +1,8 @@
 //! The harness: `harness COMMAND`. Exit status 1 where the port and the Rust differ.
 
 mod account;
+mod bench;
+mod damage;
 mod differ;
 mod fills;
 mod leaf;
@@ -10,8 +12,9 @@ mod series;
 mod table;
 
 const USAGE: &str =
-    "usage: harness leaves [SEED [COUNT]] | fills [SEED [COUNT]] | figures [SEED [COUNT]] | full | bench
-    | accounts [SEED [COUNT]] | scenarios [SEED [COUNT]] | spoiled [SEED [COUNT]] | table | sample write FILE | sample check FILE";
+    "usage: harness leaves [SEED [COUNT]] | fills [SEED [COUNT]] | figures [SEED [COUNT]] | accounts [SEED [COUNT]]
+    | damage [SEED [COUNT]] | full | bench | bench figures | bench accounts | scenarios [SEED [COUNT]]
+    | spoiled [SEED [COUNT]] | table | sample write FILE | sample check FILE";
 
 const SEED: u64 = 20261115;
 
@@ -23,8 +26,11 @@ fn main() {
         ["fills", ref rest @ ..] => seeded(rest, 500_000, fills::run),
         ["figures", ref rest @ ..] => seeded(rest, 120_000, series::run),
         ["full"] => full(),
-        ["bench"] => series::bench(SEED),
+        ["bench"] => series::bench(SEED) && bench::run(),
+        ["bench", "figures"] => series::bench(SEED),
+        ["bench", "accounts"] => bench::run(),
         ["accounts", ref rest @ ..] => seeded(rest, 8_000, account::run),
+        ["damage", ref rest @ ..] => seeded(rest, 20_000, damage::run),
         ["scenarios", ref rest @ ..] => seeded(rest, 1_000, account::emit),
         ["spoiled", ref rest @ ..] => seeded(rest, 1_000, account::emit_spoiled),
         ["table"] => table::run(),
@@ -52,7 +58,9 @@ fn full() -> bool {
     let leaves = differ::run(SEED + 1, 2_000_000);
     let fills = fills::run(SEED + 1, 20_000_000);
     let figures = series::run(SEED + 1, 1_000_000);
-    leaves && fills && figures
+    let accounts = account::run(SEED + 1, 90_000);
+    let damage = damage::run(SEED + 1, 400_000);
+    leaves && fills && figures && accounts && damage
 }
 
 fn number(word: &str) -> u64 {

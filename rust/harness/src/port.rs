@@ -49,6 +49,11 @@ impl scenario::Account for Port {
 }
 
 impl Port {
+    /// The account as it is saved; none after a refused opening.
+    pub fn bytes(&self) -> Vec<u8> {
+        self.account.as_ref().map_or(Vec::new(), |account| account.as_bytes().to_vec())
+    }
+
     /// None where a lent place was touched that was to stay as found.
     fn answer(&mut self, step: &Step) -> Result<Option<Reply>, Refusal> {
         let Some(account) = &mut self.account else {

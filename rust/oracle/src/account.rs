@@ -185,7 +185,7 @@ impl Nanobook {
     }
 }
 
-fn name(s: &Symbol) -> Name {
+pub fn name(s: &Symbol) -> Name {
     let length = s.0.iter().position(|b| *b == 0).unwrap_or(8);
     Name::new(std::str::from_utf8(&s.0[..length]).expect("a symbol's bytes are 33 to 126"))
 }
@@ -196,7 +196,7 @@ fn symbol(n: &Name) -> Symbol {
     Symbol(bytes)
 }
 
-fn named(prices: &Prices) -> Vec<(Name, i64)> {
+pub fn named(prices: &Prices) -> Vec<(Name, i64)> {
     prices.iter().map(|(s, p)| (name(s), *p)).collect()
 }
 

@@ -17,8 +17,10 @@ pub use types::{Price, Symbol};
 mod account;
 mod figures;
 mod leaves;
+mod timed;
 pub use figures::{Figures, figures};
 pub use leaves::{Leaves, leaves};
+pub use timed::Timed;
 
 /// Whether this build has nanobook's files in it.
 pub const PRESENT: bool = cfg!(nanobook);

@@ -73,13 +73,14 @@ pub struct Context {
 }
 
 pub type Prices = Vec<(Symbol, i64)>;
+pub type Targets = Vec<(Symbol, f64)>;
 
 #[derive(Clone, Debug, PartialEq)]
 pub enum Step {
     Set(Setting),
     /// `places` is how many records the lent run has room for, here and in a close.
     Rebalance {
-        targets: Vec<(Symbol, f64)>,
+        targets: Targets,
         prices: Prices,
         context: Context,
         places: u64,

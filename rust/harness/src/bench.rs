@@ -1,0 +1,217 @@
+//! Calls on accounts, timed beside the Rust's: through the C interface on bytes that are ready, and through the safe crate.
+
+use oracle::Timed;
+use scenario::{Costs, Prices, Setting, Symbol, Targets};
+use std::hint::black_box;
+use std::time::Instant;
+use threshcoil::{Account, Context, CostModel, ExecutionKind, ExecutionRecord, Price, Settings, Target};
+use threshcoil_sys as port;
+
+const CASH: i64 = 10_000_000_007;
+const COSTS: Costs = Costs { commission_bps: 5.0, slippage_bps: 2.0, min_commission: 100 };
+const CONTEXT: Context = Context { period_index: 0, kind: ExecutionKind::Rebalance };
+
+/// Batches, of which the median is told, and calls of a batch.
+const BATCHES: usize = 301;
+const CALLS: usize = 50;
+
+#[derive(Clone, Copy, PartialEq)]
+enum Call {
+    Rebalance,
+    Return,
+    Snapshot,
+}
+
+struct Row {
+    name: &'static str,
+    call: Call,
+    setting: fn(usize) -> Option<Setting>,
+    /// Weights of the two target lists, by symbol: a call moves the account from one to the other.
+    weights: [fn(usize) -> f64; 2],
+}
+
+/// Parts of equity around a hundredth, the second list the other way round.
+fn up(k: usize) -> f64 {
+    if k % 2 == 0 { 0.011 } else { 0.009 }
+}
+
+fn down(k: usize) -> f64 {
+    up(k + 1)
+}
+
+const ROWS: [Row; 7] = [
+    Row { name: "all filled", call: Call::Rebalance, setting: |_| None, weights: [up, down] },
+    Row {
+        name: "filled and recorded",
+        call: Call::Rebalance,
+        setting: |_| Some(Setting::Recording(true)),
+        weights: [up, down],
+    },
+    Row {
+        name: "under a cap",
+        call: Call::Rebalance,
+        setting: |n| Some(Setting::MaxTrades(Some(n as u64 / 2))),
+        weights: [up, down],
+    },
+    Row {
+        name: "all skipped",
+        call: Call::Rebalance,
+        setting: |_| Some(Setting::NoTradeBandBps(5_000.0)),
+        weights: [up, down],
+    },
+    Row { name: "all trimmed", call: Call::Rebalance, setting: |_| None, weights: [|_| 10.0, |_| 10.0] },
+    Row { name: "return", call: Call::Return, setting: |_| None, weights: [up, down] },
+    Row { name: "snapshot", call: Call::Snapshot, setting: |_| None, weights: [up, down] },
+];
+
+/// The port's account with its lists, as bytes and as the safe crate takes them.
+#[derive(Clone)]
+struct Ours {
+    account: Account,
+    bytes: Vec<u8>,
+    targets: [Vec<Target>; 2],
+    prices: Vec<Price>,
+    target_bytes: [Vec<u8>; 2],
+    price_bytes: Vec<u8>,
+    records: Vec<ExecutionRecord>,
+    record_bytes: Vec<u8>,
+    equity: Vec<i64>,
+    returns: Vec<f64>,
+}
+
+fn symbol(k: usize) -> Symbol {
+    Symbol([b'S', b'0' + (k / 10) as u8, b'0' + (k % 10) as u8, 0, 0, 0, 0, 0])
+}
+
+impl Ours {
+    fn new(targets: &[Targets; 2], prices: &Prices) -> Ours {
+        let Costs { commission_bps, slippage_bps, min_commission } = COSTS;
+        let settings = Settings::new(CostModel { commission_bps, slippage_bps, min_commission });
+        let named = |s: &Symbol| threshcoil::Symbol::from_padded(s.0);
+        let mut equity = vec![0; CALLS + 8];
+        let account = Account::open(CASH, &settings, &mut equity).expect("good settings");
+        let entry = |s: &Symbol, word: [u8; 8]| [s.0, word].concat();
+        Ours {
+            account,
+            bytes: account.as_bytes().to_vec(),
+            targets: targets.clone().map(|l| l.iter().map(|(s, w)| Target { symbol: named(s), weight: *w }).collect()),
+            prices: prices.iter().map(|(s, p)| Price { symbol: named(s), price: *p }).collect(),
+            target_bytes: targets.clone().map(|l| l.iter().flat_map(|(s, w)| entry(s, w.to_le_bytes())).collect()),
+            price_bytes: prices.iter().flat_map(|(s, p)| entry(s, p.to_le_bytes())).collect(),
+            records: vec![ExecutionRecord::EMPTY; 64],
+            record_bytes: vec![0; 64 * 96],
+            equity,
+            returns: vec![0.0; CALLS + 8],
+        }
+    }
+
+    fn set(&mut self, setting: Setting) {
+        let account = &mut self.account;
+        let done = match setting {
+            Setting::MaxTrades(cap) => account.set_max_trades_per_rebalance(cap),
+            Setting::NoTradeBandBps(x) => account.set_no_trade_band_bps(x),
+            Setting::Recording(on) => account.set_recording(on),
+            _ => Ok(()),
+        };
+        assert!(done.is_ok());
+        self.bytes = account.as_bytes().to_vec();
+    }
+
+    /// The k-th call on the bytes.
+    fn on_bytes(&mut self, call: Call, k: usize) {
+        let (account, prices) = (&mut self.bytes, &self.price_bytes);
+        let answer = match call {
+            Call::Rebalance => {
+                port::tc_rebalance_simple(account, &self.target_bytes[k % 2], prices, 0, 0, &mut self.record_bytes)
+            }
+            Call::Return => port::tc_record_return(account, prices, &mut self.equity, &mut self.returns),
+            Call::Snapshot => {
+                let (figures, weights) = self.record_bytes.split_at_mut(40);
+                port::tc_snapshot(account, prices, figures, &mut weights[..1_024])
+            }
+        };
+        assert_eq!(answer % 256, 0);
+    }
+
+    /// The k-th call through the safe crate.
+    fn on_account(&mut self, call: Call, k: usize) {
+        let (account, prices) = (&mut self.account, &self.prices);
+        let done = match call {
+            Call::Rebalance => {
+                account.rebalance_simple(&self.targets[k % 2], prices, CONTEXT, &mut self.records).is_ok()
+            }
+            Call::Return => account.record_return(prices, &mut self.equity, &mut self.returns).is_ok(),
+            Call::Snapshot => black_box(account.snapshot(prices)).is_ok(),
+        };
+        assert!(done);
+    }
+}
+
+fn theirs(rust: &mut Timed, call: Call, k: usize) {
+    match call {
+        Call::Rebalance => rust.rebalance(k),
+        Call::Return => rust.record_return(),
+        Call::Snapshot => _ = black_box(rust.snapshot()),
+    }
+}
+
+/// Nanoseconds a call of one batch.
+fn batch(mut call: impl FnMut(usize)) -> f64 {
+    let start = Instant::now();
+    (0..CALLS).for_each(&mut call);
+    start.elapsed().as_secs_f64() / CALLS as f64 * 1e9
+}
+
+fn median(mut times: Vec<f64>) -> f64 {
+    times.sort_by(f64::total_cmp);
+    times[times.len() / 2]
+}
+
+/// Every batch starts from the same account; the three take turns, so that what else the machine does falls on all.
+fn timed(row: &Row, n: usize) -> Option<[f64; 3]> {
+    let list = |weight: fn(usize) -> f64| (0..n).map(|k| (symbol(k), weight(k))).collect::<Targets>();
+    let targets = row.weights.map(list);
+    let prices: Prices = (0..n).map(|k| (symbol(k), 1_000 + 37 * k as i64)).collect();
+    let mut rust = Timed::new(CASH, COSTS, &targets, &prices)?;
+    let mut ours = Ours::new(&targets, &prices);
+    for k in 0..2 {
+        rust.rebalance(k);
+        ours.on_bytes(Call::Rebalance, k);
+        ours.on_account(Call::Rebalance, k);
+    }
+    assert_eq!(ours.bytes, ours.account.as_bytes());
+    if let Some(setting) = (row.setting)(n) {
+        rust.set(setting);
+        ours.set(setting);
+    }
+    let a = &ours.account;
+    let figures = [a.cash(), a.last_rebalance_order_count() as i64, a.trimmed_fill_count() as i64];
+    assert_eq!(rust.figures(), figures, "both are the same account");
+    let mut times = [const { Vec::new() }; 3];
+    for _ in 0..BATCHES {
+        let (mut theirs_now, mut ours_now) = (rust.clone(), ours.clone());
+        times[0].push(batch(|k| theirs(&mut theirs_now, row.call, k)));
+        times[1].push(batch(|k| ours_now.on_bytes(row.call, k)));
+        times[2].push(batch(|k| ours_now.on_account(row.call, k)));
+    }
+    Some(times.map(median))
+}
+
+pub fn run() -> bool {
+    println!("accounts: nanoseconds a call, median of {BATCHES} batches of {CALLS} calls");
+    for n in [8, 32, 64] {
+        for row in &ROWS {
+            let Some([rust, bytes, safe]) = timed(row, n) else {
+                println!("accounts: SKIPPED, since nanobook's source is not at hand");
+                return true;
+            };
+            let name = row.name;
+            println!(
+                "  {n:>2} symbols, {name:<20} Rust {rust:>6.0}, port on bytes {bytes:>5.0} ({:.2}), by the crate {safe:>5.0} ({:.2})",
+                bytes / rust,
+                safe / rust
+            );
+        }
+    }
+    true
+}

@@ -1,0 +1,320 @@
+//! Random, truncated and damaged bytes at every entry of the C interface. The answer is held to `expected`, which reads the
+//! same bytes by document 01's table; after a refusal every lent byte is as found, and after 0 only those that were to be
+//! written differ.
+
+mod expected;
+
+use crate::port::Port;
+use expected::expected;
+use scenario::{Account, Random, Scenario, Step, scenario};
+use std::collections::BTreeMap;
+use threshcoil_sys as port;
+
+/// All that the entries are lent and given; each takes its part. The slices' bytes, words and doubles alike.
+#[derive(Clone, PartialEq)]
+pub struct Given {
+    pub account: Vec<u8>,
+    pub settings: Vec<u8>,
+    pub targets: Vec<u8>,
+    pub prices: Vec<u8>,
+    pub out: Vec<u8>,
+    pub weights: Vec<u8>,
+    pub records: Vec<u8>,
+    pub equities: Vec<i64>,
+    pub returns: Vec<f64>,
+    pub rates: Vec<f64>,
+    pub counts: Vec<u64>,
+    pub number: i64,
+    pub rate: f64,
+    pub mark: u64,
+    pub count: u64,
+    pub symbol: u64,
+    pub kind: u64,
+}
+
+#[derive(Clone, Copy, Debug, PartialEq, Eq)]
+pub enum Entry {
+    Open,
+    QuantityStep,
+    MinOrderValue,
+    MaxOrderValue,
+    NoTradeBand,
+    MaxTrades,
+    MaxRebalanceNotional,
+    Recording,
+    CashFirst,
+    Cash,
+    Settings,
+    Counters,
+    Series,
+    Position,
+    PositionAt,
+    TotalEquity,
+    UnpricedHolding,
+    CurrentWeights,
+    Snapshot,
+    Rebalance,
+    Close,
+    RecordReturn,
+    Figures,
+}
+
+use Entry::*;
+
+/// Each with the length that its place for an answer has.
+const ENTRIES: [(Entry, usize); 23] = [
+    (Open, 0),
+    (QuantityStep, 0),
+    (MinOrderValue, 0),
+    (MaxOrderValue, 0),
+    (NoTradeBand, 0),
+    (MaxTrades, 0),
+    (MaxRebalanceNotional, 0),
+    (Recording, 0),
+    (CashFirst, 0),
+    (Cash, 8),
+    (Settings, 96),
+    (Counters, 40),
+    (Series, 24),
+    (Position, 48),
+    (PositionAt, 48),
+    (TotalEquity, 8),
+    (UnpricedHolding, 16),
+    (CurrentWeights, 0),
+    (Snapshot, 40),
+    (Rebalance, 0),
+    (Close, 0),
+    (RecordReturn, 0),
+    (Figures, 0),
+];
+
+fn call(entry: Entry, g: &mut Given) -> u64 {
+    let (a, p) = (&mut g.account, &g.prices);
+    match entry {
+        Open => port::tc_open(g.number, &g.settings, a, &mut g.equities),
+        QuantityStep => port::tc_set_quantity_step(a, g.number),
+        MinOrderValue => port::tc_set_min_order_value(a, g.number),
+        MaxOrderValue => port::tc_set_max_order_value(a, g.number),
+        NoTradeBand => port::tc_set_no_trade_band_bps(a, g.rate),
+        MaxTrades => port::tc_set_max_trades_per_rebalance(a, g.mark, g.count),
+        MaxRebalanceNotional => port::tc_set_max_rebalance_notional(a, g.number),
+        Recording => port::tc_set_recording(a, g.mark),
+        CashFirst => port::tc_set_cash_first(a, g.mark),
+        Cash => port::tc_cash(a, &mut g.out),
+        Settings => port::tc_settings(a, &mut g.out),
+        Counters => port::tc_counters(a, &mut g.out),
+        Series => port::tc_series(a, &mut g.out),
+        Position => port::tc_position(a, g.symbol, &mut g.out),
+        PositionAt => port::tc_position_at(a, g.count, &mut g.out),
+        TotalEquity => port::tc_total_equity(a, p, &mut g.out),
+        UnpricedHolding => port::tc_unpriced_holding(a, p, &mut g.out),
+        CurrentWeights => port::tc_current_weights(a, p, &mut g.weights),
+        Snapshot => port::tc_snapshot(a, p, &mut g.out, &mut g.weights),
+        Rebalance => port::tc_rebalance_simple(a, &g.targets, p, g.count, g.kind, &mut g.records),
+        Close => port::tc_close_position_at(a, g.symbol, g.number, g.count, g.kind, &mut g.records),
+        RecordReturn => port::tc_record_return(a, p, &mut g.equities, &mut g.returns),
+        Figures => port::tc_figures(&g.returns, &mut g.rates, &mut g.counts),
+    }
+}
+
+/// Whether what was lent is as it may be: all as found after a refusal; after 0 the account sound where it was lent to be
+/// written, and the places past those filled as found.
+fn kept(entry: Entry, before: &Given, after: &Given, answer: u64) -> bool {
+    let count = (answer / 256) as usize;
+    if answer % 256 != 0 {
+        return count == 0 && same(before, after);
+    }
+    let mut allowed = before.clone();
+    if matches!(entry, Open | QuantityStep | MinOrderValue | MaxOrderValue | NoTradeBand | MaxTrades)
+        || matches!(entry, MaxRebalanceNotional | Recording | CashFirst | Rebalance | Close | RecordReturn)
+    {
+        allowed.account.clone_from(&after.account);
+        if port::tc_cash(&after.account, &mut [0; 8]) != 0 {
+            return false;
+        }
+    }
+    let word = |i: usize| u64::from_le_bytes(before.account[8 * i..8 * i + 8].try_into().unwrap()) as usize;
+    match entry {
+        Open => allowed.equities[0] = after.equities[0],
+        CurrentWeights => allowed.weights[..16 * count].copy_from_slice(&after.weights[..16 * count]),
+        Snapshot => {
+            allowed.weights[..16 * count].copy_from_slice(&after.weights[..16 * count]);
+            allowed.out.clone_from(&after.out);
+        }
+        Rebalance | Close => allowed.records[..96 * count].copy_from_slice(&after.records[..96 * count]),
+        RecordReturn => {
+            allowed.equities[word(18)] = after.equities[word(18)];
+            allowed.returns[word(19)] = after.returns[word(19)];
+        }
+        Figures => (allowed.rates, allowed.counts) = (after.rates.clone(), after.counts.clone()),
+        _ => allowed.out.clone_from(&after.out),
+    }
+    same(&allowed, after)
+}
+
+/// Bit for bit, NaNs too.
+fn same(a: &Given, b: &Given) -> bool {
+    let bits = |list: &[f64]| list.iter().map(|x| x.to_bits()).collect::<Vec<u64>>();
+    let doubles = |g: &Given| Given { returns: Vec::new(), rates: Vec::new(), rate: 0.0, ..g.clone() };
+    bits(&a.returns) == bits(&b.returns) && bits(&a.rates) == bits(&b.rates) && doubles(a) == doubles(b)
+}
+
+pub fn run(seed: u64, count: u64) -> bool {
+    let mut random = Random::new(seed);
+    let mut met: BTreeMap<u64, u64> = BTreeMap::new();
+    let mut wrong = 0u64;
+    for _ in 0..count {
+        let (mut good, rest) = played(&mut random);
+        lists(&mut good, &rest);
+        for _ in 0..8 {
+            // Those that trade have the most to refuse.
+            let (entry, length) = if random.one_in(4) { (Rebalance, 0) } else { random.pick(&ENTRIES) };
+            let mut given = good.clone();
+            given.out = vec![0x5a; length];
+            spoil(&mut random, &mut given);
+            let before = given.clone();
+            let answer = call(entry, &mut given);
+            *met.entry(answer % 256).or_default() += 1;
+            if answer % 256 != expected(entry, &before) || !kept(entry, &before, &given, answer) {
+                wrong += 1;
+                if wrong <= 3 {
+                    println!("WRONG: {entry:?} answers {answer}, expected {}", expected(entry, &before));
+                }
+            }
+        }
+    }
+    let told: Vec<String> = met.iter().map(|(number, times)| format!("{number} {times} times")).collect();
+    let all = (0..=12).all(|number| met.contains_key(&number));
+    println!(
+        "damage: seed {seed}, {} calls at {} entries, {wrong} wrong; answers {}",
+        count * 8,
+        ENTRIES.len(),
+        told.join(", ")
+    );
+    wrong == 0 && all
+}
+
+/// The account of a scenario that was played for a while, and the call that comes next.
+fn played(random: &mut Random) -> (Given, Step) {
+    let Scenario { opening, steps } = scenario(random);
+    let (_, mut account) = Port::open(&opening);
+    let stop = random.below(steps.len() as u64) as usize;
+    for step in &steps[..stop] {
+        account.call(step);
+    }
+    let account = account.bytes();
+    let settings = account.get(8..104).unwrap_or(&[]).to_vec();
+    let returns = vec![0.25; random.below(30) as usize];
+    let given = Given {
+        account,
+        settings,
+        targets: Vec::new(),
+        prices: Vec::new(),
+        out: Vec::new(),
+        weights: vec![0x5a; 1_024],
+        records: vec![0x5a; 96 * (60 + random.below(8) as usize)],
+        equities: vec![7; random.below(30) as usize],
+        returns,
+        rates: vec![7.0; 6],
+        counts: vec![7; 3],
+        number: random.i64() & i64::MAX,
+        rate: random.below(1_000) as f64,
+        mark: random.below(2),
+        count: 0,
+        symbol: 0,
+        kind: random.below(2),
+    };
+    (given, steps[stop].clone())
+}
+
+/// The lists and the symbol of the next call, as far as it has them.
+fn lists(given: &mut Given, step: &Step) {
+    let entry = |symbol: [u8; 8], word: [u8; 8]| [symbol, word].concat();
+    match step {
+        Step::Rebalance { targets, prices, .. } => {
+            given.targets = targets.iter().flat_map(|(s, w)| entry(s.0, w.to_le_bytes())).collect();
+            given.prices = prices.iter().flat_map(|(s, p)| entry(s.0, p.to_le_bytes())).collect();
+        }
+        Step::RecordReturn { prices, .. } | Step::TotalEquity(prices) | Step::Snapshot(prices) => {
+            given.prices = prices.iter().flat_map(|(s, p)| entry(s.0, p.to_le_bytes())).collect();
+        }
+        Step::Close { symbol, .. } | Step::Position(symbol) => given.symbol = u64::from_be_bytes(symbol.0),
+        _ => {}
+    }
+    if given.symbol == 0 && given.account.len() > 184 {
+        given.symbol = u64::from_be_bytes(given.account[176..184].try_into().unwrap());
+    }
+}
+
+/// Nothing, or one to three things.
+fn spoil(random: &mut Random, g: &mut Given) {
+    for _ in 0..random.below(4) {
+        match random.below(14) {
+            0 | 1 => damage(random, &mut g.account),
+            2 => damage(random, &mut g.settings),
+            3 => damage(random, &mut g.targets),
+            4 => damage(random, &mut g.prices),
+            5 => lengthen(random, &mut g.targets),
+            6 => lengthen(random, &mut g.prices),
+            7 => cut(random, &mut g.out),
+            8 => cut(random, &mut g.weights),
+            9 => cut(random, &mut g.records),
+            10 => {
+                (g.number, g.rate, g.mark) = (random.i64(), random.f64(), random.u64());
+                (g.count, g.symbol, g.kind) = (random.u64(), random.u64(), random.u64());
+            }
+            11 => {
+                g.equities.truncate(random.below(4) as usize);
+                g.returns.truncate(random.below(4) as usize);
+            }
+            12 => g.returns.push(random.f64()),
+            _ => g.counts.truncate(random.below(8) as usize),
+        }
+    }
+}
+
+/// A byte or a word changed, two words swapped, bytes cut off or added, or all of them any bytes.
+fn damage(random: &mut Random, bytes: &mut Vec<u8>) {
+    const WORDS: [u64; 9] =
+        [0, 1, 2, u64::MAX, 1 << 63, (1 << 63) - 1, 0x7ff0 << 48, 0x7ff8 << 48, u64::from_be_bytes(*b"A\0B\0\0\0\0\0")];
+    let words = bytes.len() / 8;
+    if words == 0 || random.one_in(6) {
+        return cut(random, bytes);
+    }
+    // Half of the time among the first words, where the scalars of an account are.
+    let span = if random.one_in(2) { words } else { words.min(24) };
+    let at = 8 * random.below(span as u64) as usize;
+    match random.below(8) {
+        0 => bytes[at] ^= 1 << random.below(8),
+        1 => bytes[at + 7] ^= 1 << random.below(8),
+        2 => {
+            let other = 8 * random.below(words as u64) as usize;
+            for k in 0..8 {
+                bytes.swap(at + k, other + k);
+            }
+        }
+        3 => bytes[at..at + 8].copy_from_slice(&random.u64().to_le_bytes()),
+        4 if random.one_in(4) => bytes.iter_mut().for_each(|byte| *byte = random.word() as u8),
+        _ => bytes[at..at + 8].copy_from_slice(&random.pick(&WORDS).to_le_bytes()),
+    }
+}
+
+fn cut(random: &mut Random, bytes: &mut Vec<u8>) {
+    let length = match random.below(4) {
+        0 => random.below(bytes.len() as u64 + 1) as usize,
+        1 => bytes.len().saturating_sub(1 + random.below(16) as usize),
+        2 => bytes.len() + 1 + random.below(200) as usize,
+        _ => 96 * random.below(3) as usize,
+    };
+    bytes.resize(length, 0x41);
+}
+
+/// More entries, of symbols of their own: past the bound of a list, or past 64 symbols together.
+fn lengthen(random: &mut Random, list: &mut Vec<u8>) {
+    let to_bound = 64u64.saturating_sub(list.len() as u64 / 16);
+    let more = if random.one_in(2) { to_bound } else { random.below(140) };
+    for k in 0..more {
+        let symbol = [b'z', b'0' + (k / 26) as u8, b'a' + (k % 26) as u8, 0, 0, 0, 0, 0];
+        list.extend([symbol, 1u64.to_le_bytes()].concat());
+    }
+}
