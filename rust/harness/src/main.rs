@@ -10,12 +10,13 @@ mod port;
 mod sample;
 mod series;
 mod single;
+mod stack;
 mod table;
 
 const USAGE: &str =
     "usage: harness leaves [SEED [COUNT]] | fills [SEED [COUNT]] | single [SEED [COUNT]] | figures [SEED [COUNT]]
     | accounts [SEED [COUNT]] | damage [SEED [COUNT]] | full | bench | bench figures | bench accounts
-    | scenarios [SEED [COUNT]] | spoiled [SEED [COUNT]] | table | sample write FILE | sample check FILE";
+    | scenarios [SEED [COUNT]] | spoiled [SEED [COUNT]] | stack | table | sample write FILE | sample check FILE";
 
 const SEED: u64 = 20261115;
 
@@ -35,6 +36,7 @@ fn main() {
         ["damage", ref rest @ ..] => seeded(rest, 20_000, damage::run),
         ["scenarios", ref rest @ ..] => seeded(rest, 1_000, account::emit),
         ["spoiled", ref rest @ ..] => seeded(rest, 1_000, account::emit_spoiled),
+        ["stack"] => stack::run(),
         ["table"] => table::run(),
         ["sample", "write", path] => sample::write(path),
         ["sample", "check", path] => sample::check(path),

@@ -1,0 +1,169 @@
+/* The C interface of Threshcoil. A slice is a pointer and a count of elements; docs/LAYOUT.md has the bytes.
+ *
+ * Every function ends with an answer for all inputs, uses no heap, keeps nothing between calls and touches nothing but the
+ * slices lent to it, so any thread may make any call. A slice's pointer must be valid for its count (never null, even at
+ * count 0) and a slice that is written must overlap no other. */
+#ifndef THRESHCOIL_H
+#define THRESHCOIL_H
+
+#include <stdbool.h>
+#include <stddef.h>
+#include <stdint.h>
+
+#ifdef __cplusplus
+extern "C" {
+#endif
+
+/* ---- bounds and sizes */
+#define TC_SCALE 1000000 /* micro-shares a share */
+#define TC_MAX_POSITIONS 64
+#define TC_MAX_TARGETS 64
+#define TC_MAX_PRICES 128
+#define TC_MAX_RETURNS 4096
+
+#define TC_ACCOUNT_BYTES 2736
+#define TC_SETTINGS_BYTES 96
+#define TC_COUNTERS_BYTES 40
+#define TC_SERIES_BYTES 24
+#define TC_TARGET_BYTES 16
+#define TC_PRICE_BYTES 16
+#define TC_WEIGHT_BYTES 16
+#define TC_RECORD_BYTES 96
+#define TC_POSITION_BYTES 48
+#define TC_SNAPSHOT_BYTES 40
+#define TC_UNPRICED_BYTES 16
+#define TC_CENTS_BYTES 8
+
+/* A rebalance that records asks for this many record places, a close for one; weights always take this many. */
+#define TC_RECORD_PLACES 64
+#define TC_WEIGHT_PLACES 64
+
+/* ---- answers: the low eight bits of what an entry returns; above them a count of records or weights */
+enum tc_answer {
+    TC_DONE = 0,
+    TC_BAD_SETTING = 1,     /* a setting or opening cash is bad, or a kind is unknown */
+    TC_BAD_SYMBOL = 2,      /* a symbol is bad */
+    TC_TWICE = 3,           /* a symbol stands twice in one list */
+    TC_BAD_PRICE = 4,       /* a price is below 1 */
+    TC_BAD_WEIGHT = 5,      /* a weight is not finite */
+    TC_TOO_LONG = 6,        /* a list or return series is over its bound, or no whole number of entries */
+    TC_TOO_MANY = 7,        /* held symbols and target symbols together exceed 64 */
+    TC_NO_RECORD_ROOM = 8,  /* recording is on and the record buffer has too few places */
+    TC_NOT_HELD = 9,        /* a close names an absent or flat position */
+    TC_BUFFER_FULL = 10,    /* the equity or return buffer has no free place */
+    TC_UNSOUND = 11,        /* the account is not sound */
+    TC_BAD_SERIES = 12      /* a return series is empty or has a non-finite member */
+};
+#define TC_ANSWER(r) ((r) & 0xff)
+#define TC_COUNT(r) ((r) >> 8)
+
+enum tc_kind { TC_REBALANCE = 0, TC_STOP_EXIT = 1 };
+
+/* ---- the account, as TC_ACCOUNT_BYTES bytes. A refusal leaves every lent place as found. */
+
+/* Opening: settings are TC_SETTINGS_BYTES bytes; the cash becomes the first equity. */
+uint64_t tc_open(int64_t cash, const uint8_t *settings, size_t settings_bytes, uint8_t *account, size_t account_bytes,
+                 int64_t *equities, size_t equity_places);
+
+/* Setters. A mark or a flag is 0 or 1. */
+uint64_t tc_set_quantity_step(uint8_t *account, size_t account_bytes, int64_t micro_shares);
+uint64_t tc_set_min_order_value(uint8_t *account, size_t account_bytes, int64_t cents);
+uint64_t tc_set_max_order_value(uint8_t *account, size_t account_bytes, int64_t cents);
+uint64_t tc_set_no_trade_band_bps(uint8_t *account, size_t account_bytes, double bps);
+uint64_t tc_set_max_trades_per_rebalance(uint8_t *account, size_t account_bytes, uint64_t mark, uint64_t cap);
+uint64_t tc_set_max_rebalance_notional(uint8_t *account, size_t account_bytes, int64_t cents);
+uint64_t tc_set_recording(uint8_t *account, size_t account_bytes, uint64_t flag);
+uint64_t tc_set_cash_first(uint8_t *account, size_t account_bytes, uint64_t flag);
+
+/* Queries: out has exactly the bytes of what is told. */
+uint64_t tc_cash(const uint8_t *account, size_t account_bytes, uint8_t *out, size_t out_bytes);
+uint64_t tc_settings(const uint8_t *account, size_t account_bytes, uint8_t *out, size_t out_bytes);
+uint64_t tc_counters(const uint8_t *account, size_t account_bytes, uint8_t *out, size_t out_bytes);
+uint64_t tc_series(const uint8_t *account, size_t account_bytes, uint8_t *out, size_t out_bytes);
+uint64_t tc_position(const uint8_t *account, size_t account_bytes, uint64_t symbol, uint8_t *out, size_t out_bytes);
+uint64_t tc_position_at(const uint8_t *account, size_t account_bytes, uint64_t index, uint8_t *out, size_t out_bytes);
+uint64_t tc_total_equity(const uint8_t *account, size_t account_bytes, const uint8_t *prices, size_t price_bytes,
+                         uint8_t *out, size_t out_bytes);
+uint64_t tc_unpriced_holding(const uint8_t *account, size_t account_bytes, const uint8_t *prices, size_t price_bytes,
+                             uint8_t *out, size_t out_bytes);
+uint64_t tc_current_weights(const uint8_t *account, size_t account_bytes, const uint8_t *prices, size_t price_bytes,
+                            uint8_t *weights, size_t weight_bytes);
+uint64_t tc_snapshot(const uint8_t *account, size_t account_bytes, const uint8_t *prices, size_t price_bytes,
+                     uint8_t *figures, size_t figure_bytes, uint8_t *weights, size_t weight_bytes);
+
+/* Calls that trade, and the return of a period. */
+uint64_t tc_rebalance_simple(uint8_t *account, size_t account_bytes, const uint8_t *targets, size_t target_bytes,
+                             const uint8_t *prices, size_t price_bytes, uint64_t period, uint64_t kind,
+                             uint8_t *records, size_t record_bytes);
+uint64_t tc_close_position_at(uint8_t *account, size_t account_bytes, uint64_t symbol, int64_t price, uint64_t period,
+                              uint64_t kind, uint8_t *records, size_t record_bytes);
+uint64_t tc_record_return(uint8_t *account, size_t account_bytes, const uint8_t *prices, size_t price_bytes,
+                          int64_t *equities, size_t equity_places, double *returns, size_t return_places);
+
+/* ---- the figures of a return series: six rates (total return, maximum drawdown, win rate, profit factor, payoff ratio,
+ * Kelly) and three counts (all, winning and losing returns) */
+uint64_t tc_figures(const double *returns, size_t return_count, double *rates, size_t rate_places, uint64_t *counts,
+                    size_t count_places);
+
+/* ---- leaves */
+
+/* A symbol as a number: its bytes, the first one highest. */
+bool tc_good_symbol(uint64_t symbol);
+
+/* Two-word products and quotients, values and prices. */
+uint64_t tc_mul_high(uint64_t a, uint64_t b);
+uint64_t tc_mul_low(uint64_t a, uint64_t b);
+uint64_t tc_div_high(uint64_t high, uint64_t low, uint64_t divisor);
+uint64_t tc_div_low(uint64_t high, uint64_t low, uint64_t divisor);
+uint64_t tc_snap_high(uint64_t high, uint64_t low, uint64_t step);
+uint64_t tc_snap_low(uint64_t high, uint64_t low, uint64_t step);
+int64_t tc_value(int64_t quantity, int64_t price);
+int64_t tc_price_at(int64_t cost, int64_t quantity);
+
+/* Casts and rounding of doubles. */
+bool tc_is_finite(double x);
+int64_t tc_to_i64(double x);
+double tc_i64_to_f64(int64_t n);
+double tc_u64_to_f64(uint64_t n);
+double tc_round(double x);
+int64_t tc_round_to_i64(double x);
+
+/* Share counts, in micro-shares. */
+int64_t tc_shares_add(int64_t a, int64_t b);
+int64_t tc_shares_sub(int64_t a, int64_t b);
+int64_t tc_shares_neg(int64_t a);
+int64_t tc_shares_abs(int64_t a);
+uint64_t tc_shares_unsigned_abs(int64_t a);
+int64_t tc_shares_from_whole(int64_t n);
+int64_t tc_shares_whole(int64_t a);
+double tc_shares_to_f64(int64_t a);
+
+/* Costs. */
+bool tc_good_costs(double commission_bps, double slippage_bps, int64_t min_commission);
+int64_t tc_compute_cost(double commission_bps, double slippage_bps, int64_t min_commission, int64_t notional);
+int64_t tc_effective_price(double commission_bps, double slippage_bps, int64_t min_commission, int64_t quantity,
+                           int64_t price);
+
+/* One position; numbers are quantity, average, realized profit and total cost. */
+bool tc_sound_position(uint64_t symbol, int64_t quantity, int64_t average, int64_t realized, int64_t total);
+int64_t tc_market_value(uint64_t symbol, int64_t quantity, int64_t average, int64_t realized, int64_t total,
+                        int64_t price);
+int64_t tc_unrealized_pnl(uint64_t symbol, int64_t quantity, int64_t average, int64_t realized, int64_t total,
+                          int64_t price);
+uint64_t tc_apply_fill(uint64_t symbol, int64_t *numbers, size_t number_count, int64_t quantity, int64_t price);
+
+/* Sizing. */
+int64_t tc_notional_of(int64_t quantity, int64_t price);
+int64_t tc_size_qty(int64_t gap, int64_t price, int64_t step);
+int64_t tc_truncate_qty_to_max_value(int64_t quantity, int64_t price, int64_t step, int64_t max_value);
+double tc_drift_bps_of(int64_t value, int64_t equity);
+int64_t tc_buy_cash_required(int64_t quantity, int64_t price, double commission_bps, double slippage_bps,
+                             int64_t min_commission);
+int64_t tc_largest_affordable_buy_qty(int64_t requested, int64_t cash, int64_t step, int64_t price, double commission_bps,
+                                      double slippage_bps, int64_t min_commission);
+
+#ifdef __cplusplus
+}
+#endif
+
+#endif

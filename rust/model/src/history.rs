@@ -1,0 +1,142 @@
+//! A plan run through the library, period by period.
+
+use crate::plan::{Period, Plan, Said};
+use threshcoil::{
+    Account, Context, ExecutionKind, ExecutionRecord, Figures, Position, Price, Refusal, Symbol, Target, Weight,
+    figures,
+};
+
+/// Something the library did not accept, and the line that asked for it.
+#[derive(Clone, Debug)]
+pub struct Refused {
+    pub line: usize,
+    pub what: String,
+    pub refusal: Refusal,
+}
+
+#[derive(Clone, Debug, Default)]
+pub struct Told {
+    pub label: String,
+    pub fills: Vec<ExecutionRecord>,
+    /// Buys that the cash cut down in this period.
+    pub trimmed: u64,
+    /// None where the period's prices were refused.
+    pub equity: Option<i64>,
+    pub gain: Option<f64>,
+    pub refused: Vec<Refused>,
+}
+
+pub struct History {
+    pub account: Account,
+    pub periods: Vec<Told>,
+    /// The opening's cash, then the equity of each period whose prices were accepted.
+    pub equities: Vec<i64>,
+    pub returns: Vec<f64>,
+    pub figures: Result<Figures, Refusal>,
+    /// As of the last period with prices.
+    pub weights: Vec<Weight>,
+    pub positions: Vec<Position>,
+    pub stopped: bool,
+}
+
+/// Runs the plan. `told` hears each period as it ends; where `stop` is set, the first refusal ends the run.
+pub fn run(plan: &Plan, stop: bool, mut told: impl FnMut(usize, &Told)) -> Result<History, Refused> {
+    let opening = |refusal| Refused { line: plan.line, what: "the opening".into(), refusal };
+    let mut equities = vec![0; plan.periods.len() + 1];
+    let mut returns = vec![0.0; plan.periods.len() + 1];
+    let mut account = Account::open(plan.cash, &plan.settings, &mut equities).map_err(opening)?;
+    let (mut periods, mut weights, mut stopped) = (Vec::new(), Vec::new(), false);
+    for (k, period) in plan.periods.iter().enumerate() {
+        let (trims, gains) = (account.trimmed_fill_count(), account.return_count());
+        let mut now = Told { label: period.label.clone(), ..Told::default() };
+        trade(&mut account, k as u64, period, &mut now);
+        let prices = period.all_prices();
+        match account.record_return(&prices, &mut equities, &mut returns) {
+            Ok(()) => {
+                now.equity = Some(account.previous_equity());
+                now.gain = (account.return_count() > gains).then(|| returns[gains as usize]);
+                weights = account.current_weights(&prices).map(|w| w.to_vec()).unwrap_or_default();
+            }
+            Err(refusal) => {
+                let line = bad_prices(&account, period).unwrap_or(period.line);
+                now.refused.push(Refused { line, what: "the period's return".into(), refusal });
+            }
+        }
+        now.trimmed = account.trimmed_fill_count() - trims;
+        told(k, &now);
+        stopped = stop && !now.refused.is_empty();
+        periods.push(now);
+        if stopped {
+            break;
+        }
+    }
+    equities.truncate(account.equity_count() as usize);
+    returns.truncate(account.return_count() as usize);
+    let positions = account.positions().collect();
+    let figures = figures(&returns);
+    Ok(History { account, periods, equities, returns, figures, weights, positions, stopped })
+}
+
+/// The period's closes, as they stand in the file, then its rebalance.
+fn trade(account: &mut Account, index: u64, period: &Period, now: &mut Told) {
+    let prices = period.all_prices();
+    let mut records = [ExecutionRecord::EMPTY; 64];
+    for Said { line, what } in &period.closes {
+        let listed = prices.iter().find(|p| p.symbol == what.symbol).map(|p| p.price);
+        let context = Context { period_index: index, kind: ExecutionKind::StopExit };
+        match account.close_position_at(what.symbol, what.price.or(listed).unwrap_or(0), context, &mut records) {
+            Ok(filled) => now.fills.extend(&records[..filled]),
+            Err(refusal) => {
+                now.refused.push(Refused { line: *line, what: format!("the close of {}", what.symbol), refusal })
+            }
+        }
+    }
+    let Some(lines) = &period.targets else { return };
+    let context = Context { period_index: index, kind: ExecutionKind::Rebalance };
+    match account.rebalance_simple(&period.all_targets(), &prices, context, &mut records) {
+        Ok(filled) => now.fills.extend(&records[..filled]),
+        Err(refusal) => {
+            let first = lines.first().map_or(period.line, |said| said.line);
+            let line = bad_targets(account, lines).or(bad_prices(account, period)).unwrap_or(first);
+            now.refused.push(Refused { line, what: "the rebalance".into(), refusal });
+        }
+    }
+}
+
+/// The first line whose prices are refused by themselves; none where the fault is between lines.
+fn bad_prices(account: &Account, period: &Period) -> Option<usize> {
+    let refused = |prices: &[Price]| account.total_equity(prices).is_err();
+    period.prices.iter().find(|said| refused(&said.what)).map(|said| said.line)
+}
+
+/// The same of targets, asked of a copy of the account without prices, which plans nothing.
+fn bad_targets(account: &Account, lines: &[Said<Vec<Target>>]) -> Option<usize> {
+    let context = Context { period_index: 0, kind: ExecutionKind::Rebalance };
+    let mut records = [ExecutionRecord::EMPTY; 64];
+    let mut refused =
+        |targets: &[Target]| account.clone().rebalance_simple(targets, &[], context, &mut records).is_err();
+    lines.iter().find(|said| refused(&said.what)).map(|said| said.line)
+}
+
+impl History {
+    /// The drawdown at each equity: how far below the highest so far, as a share of it.
+    pub fn drawdowns(&self) -> Vec<f64> {
+        let mut peak = i64::MIN;
+        let below = |peak: i64, e: i64| if peak > 0 { (peak as f64 - e as f64) / peak as f64 } else { 0.0 };
+        self.equities
+            .iter()
+            .map(|e| {
+                peak = peak.max(*e);
+                below(peak, *e)
+            })
+            .collect()
+    }
+
+    pub fn weight_of(&self, symbol: Symbol) -> Option<f64> {
+        self.weights.iter().find(|w| w.symbol == symbol).map(|w| w.weight)
+    }
+
+    pub fn refusals(&self) -> impl Iterator<Item = (&str, &Refused)> {
+        self.periods.iter().flat_map(|p| p.refused.iter().map(move |r| (p.label.as_str(), r)))
+    }
+}

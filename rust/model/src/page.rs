@@ -1,0 +1,176 @@
+//! The page of a run: one file that stands alone, without a script or the network.
+
+use crate::chart::Chart;
+use crate::history::{History, Told};
+use crate::plan::Plan;
+use crate::text::{figures, money, percent, shares};
+use std::fmt::Write;
+use threshcoil::{ExecutionKind, Position};
+
+const STYLE: &str = include_str!("page.css");
+
+pub fn escaped(text: &str) -> String {
+    text.replace('&', "&amp;").replace('<', "&lt;").replace('>', "&gt;").replace('"', "&quot;")
+}
+
+pub fn page(plan: &Plan, history: &History) -> String {
+    let name = escaped(&plan.name);
+    let mut out = format!(
+        "<!doctype html>\n<html lang=\"en\">\n<head>\n<meta charset=\"utf-8\">\n\
+         <meta name=\"viewport\" content=\"width=device-width, initial-scale=1\">\n<title>{name}</title>\n\
+         <style>\n{STYLE}</style>\n</head>\n<body>\n<main>\n"
+    );
+    head(&mut out, &name, history);
+    tiles(&mut out, history);
+    curves(&mut out, history);
+    holdings(&mut out, history);
+    trades(&mut out, history);
+    refused(&mut out, history);
+    out.push_str(
+        "<footer>Equity, fills, holdings, weights and figures come from code that is proved to meet its definition; the curves \
+         are drawn from them. A model portfolio is no advice, and past returns promise nothing.</footer>\n</main>\n</body>\n</html>\n",
+    );
+    out
+}
+
+fn head(out: &mut String, name: &str, history: &History) {
+    let ends = |p: Option<&Told>| p.map_or(String::new(), |p| escaped(&p.label));
+    let (first, last) = (ends(history.periods.first()), ends(history.periods.last()));
+    let equity = history.equities.last().copied().unwrap_or(0);
+    let opening = history.equities.first().copied().unwrap_or(0);
+    let _ = write!(
+        out,
+        "<header>\n<h1>{name}</h1>\n<p class=\"span\">{first} to {last}, {} periods</p>\n\
+         <p class=\"equity\">{}</p>\n<p class=\"span\">from {} at opening; cash {}</p>\n</header>\n",
+        history.periods.len(),
+        money(equity),
+        money(opening),
+        money(history.account.cash())
+    );
+}
+
+fn tiles(out: &mut String, history: &History) {
+    out.push_str("<section class=\"tiles\">\n");
+    match &history.figures {
+        Ok(f) => {
+            for (name, value) in figures(f) {
+                let _ = writeln!(out, "<div><span>{name}</span><b>{value}</b></div>");
+            }
+        }
+        Err(refusal) => {
+            let _ = writeln!(out, "<p class=\"none\">No figures, {}: {refusal}.</p>", refusal.number());
+        }
+    }
+    out.push_str("</section>\n");
+}
+
+fn curves(out: &mut String, history: &History) {
+    let mut labels = vec!["opening".to_string()];
+    labels.extend(history.periods.iter().filter(|p| p.equity.is_some()).map(|p| p.label.clone()));
+    let equity: Vec<f64> = history.equities.iter().map(|e| *e as f64 / 100.0).collect();
+    let drawdown: Vec<f64> = history.drawdowns().iter().map(|d| -d * 100.0).collect();
+    let charts = [
+        Chart {
+            class: "equity",
+            title: "Equity",
+            height: 260.0,
+            values: &equity,
+            labels: &labels,
+            tick: |v| money((v * 100.0) as i64).trim_end_matches(".00").into(),
+            filled: false,
+        },
+        Chart {
+            class: "drawdown",
+            title: "Drawdown",
+            height: 150.0,
+            values: &drawdown,
+            labels: &labels,
+            tick: |v| format!("{}%", if v == 0.0 { 0.0 } else { (v * 100.0).round() / 100.0 }),
+            filled: true,
+        },
+    ];
+    for chart in charts {
+        let _ = writeln!(out, "<section>\n<h2>{}</h2>\n{}\n</section>", chart.title, chart.svg());
+    }
+}
+
+fn holdings(out: &mut String, history: &History) {
+    let open: Vec<&Position> = history.positions.iter().filter(|p| p.quantity.0 != 0).collect();
+    out.push_str("<section>\n<h2>Holdings</h2>\n");
+    if open.is_empty() {
+        out.push_str("<p class=\"none\">All in cash.</p>\n</section>\n");
+        return;
+    }
+    let widest = open.iter().filter_map(|p| history.weight_of(p.symbol)).fold(0.0, |w: f64, x| w.max(x.abs()));
+    out.push_str(
+        "<div class=\"scroll\"><table>\n<tr><th>Symbol</th><th class=\"bar\">Weight</th><th>Shares</th>\
+         <th>Average price</th><th>Realized</th></tr>\n",
+    );
+    for p in open {
+        let weight = history.weight_of(p.symbol).unwrap_or(0.0);
+        let width = if widest > 0.0 { weight.abs() / widest * 60.0 } else { 0.0 };
+        let side = if p.quantity.0 < 0 { "short" } else { "long" };
+        let _ = writeln!(
+            out,
+            "<tr><td>{}{}</td><td class=\"bar\"><i class=\"{side}\" style=\"width:{width:.1}%\"></i><span>{}</span></td>\
+             <td>{}</td><td>{}</td><td>{}</td></tr>",
+            escaped(&p.symbol.to_string()),
+            if side == "short" { " <em>short</em>" } else { "" },
+            percent(weight),
+            shares(p.quantity),
+            money(p.avg_entry_price),
+            money(p.realized_pnl)
+        );
+    }
+    out.push_str("</table></div>\n</section>\n");
+}
+
+/// The fills of every period, the newest first; long ones are folded away.
+fn trades(out: &mut String, history: &History) {
+    out.push_str("<section>\n<h2>Trades</h2>\n");
+    for (k, told) in history.periods.iter().rev().filter(|t| !t.fills.is_empty()).enumerate() {
+        let cut = if told.trimmed > 0 { format!(", {} cut to the cash at hand", told.trimmed) } else { String::new() };
+        let _ = write!(
+            out,
+            "<details{}>\n<summary>{}: {}{cut}</summary>\n<div class=\"scroll\"><table>\n\
+             <tr><th>Symbol</th><th>Shares</th><th>Price</th><th>Cost</th><th>Cash after</th></tr>\n",
+            if k == 0 { " open" } else { "" },
+            escaped(&told.label),
+            if told.fills.len() == 1 { "1 fill".into() } else { format!("{} fills", told.fills.len()) }
+        );
+        for r in &told.fills {
+            let exit = if r.kind == ExecutionKind::StopExit { " <em>stop exit</em>" } else { "" };
+            let _ = writeln!(
+                out,
+                "<tr><td>{}{exit}</td><td>{}</td><td>{}</td><td>{}</td><td>{}</td></tr>",
+                escaped(&r.symbol.to_string()),
+                shares(r.quantity),
+                money(r.price),
+                money(r.cost),
+                money(r.cash_after)
+            );
+        }
+        out.push_str("</table></div>\n</details>\n");
+    }
+    out.push_str("</section>\n");
+}
+
+fn refused(out: &mut String, history: &History) {
+    let all: Vec<_> = history.refusals().collect();
+    if all.is_empty() {
+        return;
+    }
+    out.push_str("<section>\n<h2>Refused</h2>\n<p class=\"span\">What the feed gave and the engine did not take; the account stayed as it was.</p>\n<ul class=\"refused\">\n");
+    for (label, r) in all {
+        let _ = writeln!(
+            out,
+            "<li><b>{}</b>, line {}: {} &mdash; {}: {}</li>",
+            escaped(label),
+            r.line,
+            escaped(&r.what),
+            r.refusal.number(),
+            r.refusal
+        );
+    }
+    out.push_str("</ul>\n</section>\n");
+}

@@ -1,0 +1,215 @@
+//! A model portfolio as a text file has it: the opening, the settings, and what each period asks for.
+
+use threshcoil::{CostModel, Price, Settings, Shares, Symbol, Target};
+
+/// Something said on a line of the file.
+#[derive(Clone, Debug)]
+pub struct Said<T> {
+    pub line: usize,
+    pub what: T,
+}
+
+#[derive(Clone, Debug)]
+pub struct Close {
+    pub symbol: Symbol,
+    /// The listed price where the line gives none.
+    pub price: Option<i64>,
+}
+
+#[derive(Clone, Debug)]
+pub struct Period {
+    pub line: usize,
+    pub label: String,
+    pub prices: Vec<Said<Vec<Price>>>,
+    /// None where the period asks for no rebalance; a list may be empty.
+    pub targets: Option<Vec<Said<Vec<Target>>>>,
+    pub closes: Vec<Said<Close>>,
+}
+
+impl Period {
+    pub fn all_prices(&self) -> Vec<Price> {
+        self.prices.iter().flat_map(|said| said.what.iter().copied()).collect()
+    }
+
+    pub fn all_targets(&self) -> Vec<Target> {
+        self.targets.iter().flatten().flat_map(|said| said.what.iter().copied()).collect()
+    }
+}
+
+#[derive(Clone, Debug)]
+pub struct Plan {
+    pub name: String,
+    /// The line that opens the account.
+    pub line: usize,
+    pub cash: i64,
+    pub settings: Settings,
+    pub periods: Vec<Period>,
+}
+
+/// A line that says nothing that is known here.
+#[derive(Clone, Debug)]
+pub struct Unread {
+    pub line: usize,
+    pub why: String,
+}
+
+/// Reads the whole text. What can't be read stands in the second list, line by line, and the rest of the file counts.
+pub fn read(text: &str) -> (Plan, Vec<Unread>) {
+    let costs = CostModel { commission_bps: 0.0, slippage_bps: 0.0, min_commission: 0 };
+    let settings = Settings { recording: true, ..Settings::new(costs) };
+    let mut plan = Plan { name: "Model portfolio".into(), line: 1, cash: 0, settings, periods: Vec::new() };
+    let mut unread = Vec::new();
+    for (k, raw) in text.lines().enumerate() {
+        let line = k + 1;
+        let said = raw.split('#').next().unwrap_or("").trim();
+        if said.is_empty() {
+            continue;
+        }
+        let (word, rest) = said.split_once(char::is_whitespace).unwrap_or((said, ""));
+        if let Err(why) = take(&mut plan, line, word, rest.trim()) {
+            unread.push(Unread { line, why });
+        }
+    }
+    (plan, unread)
+}
+
+fn take(plan: &mut Plan, line: usize, word: &str, rest: &str) -> Result<(), String> {
+    if word == "period" {
+        if rest.is_empty() {
+            return Err("a period has a label".into());
+        }
+        plan.periods.push(Period { line, label: rest.into(), prices: Vec::new(), targets: None, closes: Vec::new() });
+        return Ok(());
+    }
+    match plan.periods.last_mut() {
+        Some(period) => take_in_period(period, line, word, rest),
+        None => take_setting(plan, line, word, rest),
+    }
+}
+
+fn take_setting(plan: &mut Plan, line: usize, word: &str, rest: &str) -> Result<(), String> {
+    let settings = &mut plan.settings;
+    match word {
+        "name" => plan.name = rest.into(),
+        "cash" => (plan.line, plan.cash) = (line, cents(rest)?),
+        "commission_bps" => settings.cost_model.commission_bps = number(rest)?,
+        "slippage_bps" => settings.cost_model.slippage_bps = number(rest)?,
+        "min_commission" => settings.cost_model.min_commission = cents(rest)?,
+        "quantity_step" => settings.quantity_step = scaled(rest, 6)?,
+        "min_order_value" => settings.min_order_value = cents(rest)?,
+        "max_order_value" => settings.max_order_value = cents(rest)?,
+        "no_trade_band_bps" => settings.no_trade_band_bps = number(rest)?,
+        "max_trades" => settings.max_trades_per_rebalance = cap(rest)?,
+        "max_rebalance_notional" => settings.max_rebalance_notional = cents(rest)?,
+        "cash_first" => settings.cash_first = flag(rest)?,
+        _ => return Err(format!("'{word}' is no setting, and no period has begun")),
+    }
+    Ok(())
+}
+
+fn take_in_period(period: &mut Period, line: usize, word: &str, rest: &str) -> Result<(), String> {
+    match word {
+        "prices" => {
+            let what = pairs(rest, |symbol, price| Ok(Price { symbol, price: cents(price)? }))?;
+            period.prices.push(Said { line, what });
+        }
+        "targets" => {
+            let what = pairs(rest, |symbol, weight| Ok(Target { symbol, weight: number(weight)? }))?;
+            period.targets.get_or_insert_default().push(Said { line, what });
+        }
+        "close" => {
+            let mut words = rest.split_whitespace();
+            let symbol = symbol(words.next().ok_or("a close names a symbol")?)?;
+            let price = words.next().map(cents).transpose()?;
+            if words.next().is_some() {
+                return Err("a close has a symbol and at most a price".into());
+            }
+            period.closes.push(Said { line, what: Close { symbol, price } });
+        }
+        _ => return Err(format!("'{word}' is neither period, prices, targets nor close")),
+    }
+    Ok(())
+}
+
+fn pairs<T>(rest: &str, entry: impl Fn(Symbol, &str) -> Result<T, String>) -> Result<Vec<T>, String> {
+    let words: Vec<&str> = rest.split_whitespace().collect();
+    if words.len() % 2 != 0 {
+        return Err(format!("'{}' stands without its number", words[words.len() - 1]));
+    }
+    words.chunks_exact(2).map(|pair| entry(symbol(pair[0])?, pair[1])).collect()
+}
+
+/// Any text of one to eight bytes: whether it is a good symbol is the library's to say.
+fn symbol(text: &str) -> Result<Symbol, String> {
+    let bytes = text.as_bytes();
+    if bytes.len() > 8 {
+        return Err(format!("'{text}' has more than the eight bytes of a symbol"));
+    }
+    let mut padded = [0; 8];
+    padded[..bytes.len()].copy_from_slice(bytes);
+    Ok(Symbol::from_padded(padded))
+}
+
+fn number(text: &str) -> Result<f64, String> {
+    text.parse().map_err(|_| format!("'{text}' is no number"))
+}
+
+fn cents(text: &str) -> Result<i64, String> {
+    scaled(text, 2)
+}
+
+/// A decimal number as an integer of so many places.
+fn scaled(text: &str, places: usize) -> Result<i64, String> {
+    let bad = || format!("'{text}' is no number of at most {places} decimals");
+    let (digits, negative) = text.strip_prefix('-').map_or((text, false), |rest| (rest, true));
+    let (whole, part) = digits.split_once('.').unwrap_or((digits, ""));
+    let plain = |s: &str| s.bytes().all(|b| b.is_ascii_digit());
+    if whole.is_empty() || !plain(whole) || !plain(part) || part.len() > places {
+        return Err(bad());
+    }
+    let magnitude: i64 = format!("{whole}{part:0<places$}").parse().map_err(|_| bad())?;
+    Ok(if negative { -magnitude } else { magnitude })
+}
+
+fn cap(text: &str) -> Result<Option<u64>, String> {
+    if text == "none" {
+        return Ok(None);
+    }
+    text.parse().map(Some).map_err(|_| format!("'{text}' is neither a count nor 'none'"))
+}
+
+fn flag(text: &str) -> Result<bool, String> {
+    match text {
+        "on" => Ok(true),
+        "off" => Ok(false),
+        _ => Err(format!("'{text}' is neither 'on' nor 'off'")),
+    }
+}
+
+/// One whole share, for who tells quantities.
+pub const SHARE: i64 = Shares::SCALE;
+
+#[cfg(test)]
+mod tests {
+    use super::*;
+
+    #[test]
+    fn amounts_are_exact() {
+        assert_eq!(cents("182.45"), Ok(18_245));
+        assert_eq!(cents("-0.5"), Ok(-50));
+        assert_eq!(cents("92233720368547758.07"), Ok(i64::MAX));
+        assert_eq!(scaled("0.000001", 6), Ok(1));
+        for bad in ["", ".", "1.234", "1,000", "1e3", "92233720368547758.08", "--1"] {
+            assert!(cents(bad).is_err(), "{bad}");
+        }
+    }
+
+    #[test]
+    fn a_bad_line_is_told_and_the_rest_counts() {
+        let (plan, unread) = read("cash 10.00\nperiod one\nprices A 1.00 B\ntargets A 0.5 # half\nnonsense\n");
+        assert_eq!(plan.cash, 1_000);
+        assert_eq!(unread.iter().map(|u| u.line).collect::<Vec<_>>(), [3, 5]);
+        assert_eq!(plan.periods[0].all_targets().len(), 1);
+        assert!(plan.periods[0].all_prices().is_empty());
+    }
+}

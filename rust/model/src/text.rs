@@ -1,0 +1,128 @@
+//! What a run tells in the terminal, and how amounts are written.
+
+use crate::history::{History, Refused, Told};
+use crate::plan::{Plan, SHARE};
+use std::io::{self, Write};
+use threshcoil::{ExecutionKind, ExecutionRecord, Figures, Shares};
+
+/// Cents as units with two decimals and grouped thousands.
+pub fn money(cents: i64) -> String {
+    let magnitude = cents.unsigned_abs();
+    let sign = if cents < 0 { "-" } else { "" };
+    format!("{sign}{}.{:02}", grouped(magnitude / 100), magnitude % 100)
+}
+
+fn grouped(n: u64) -> String {
+    let digits = n.to_string();
+    let mut out = String::new();
+    for (k, digit) in digits.chars().enumerate() {
+        if k > 0 && (digits.len() - k) % 3 == 0 {
+            out.push(',');
+        }
+        out.push(digit);
+    }
+    out
+}
+
+/// Micro-shares as shares, without zeros at the end.
+pub fn shares(quantity: Shares) -> String {
+    let magnitude = quantity.0.unsigned_abs();
+    let sign = if quantity.0 < 0 { "-" } else { "" };
+    let (whole, part) = (magnitude / SHARE as u64, magnitude % SHARE as u64);
+    let decimals = format!("{part:06}");
+    let decimals = decimals.trim_end_matches('0');
+    if decimals.is_empty() {
+        format!("{sign}{}", grouped(whole))
+    } else {
+        format!("{sign}{}.{decimals}", grouped(whole))
+    }
+}
+
+pub fn percent(x: f64) -> String {
+    format!("{:.2}%", x * 100.0)
+}
+
+/// A ratio, or words where there is no number to show.
+pub fn ratio(x: f64) -> String {
+    if x.is_infinite() { "no losses".into() } else { format!("{x:.2}") }
+}
+
+pub fn refusal(file: &str, r: &Refused) -> String {
+    format!("{file}:{}: {} was refused, {}: {}", r.line, r.what, r.refusal.number(), r.refusal)
+}
+
+fn fill(r: &ExecutionRecord) -> String {
+    let side = if r.quantity.0 < 0 { "sell" } else { "buy" };
+    let why = if r.kind == ExecutionKind::StopExit { ", stop exit" } else { "" };
+    let quantity = shares(Shares(r.quantity.0.saturating_abs()));
+    format!(
+        "  {side:<4} {:<8} {quantity:>14} at {:>12}, cost {}{why}",
+        r.symbol.to_string(),
+        money(r.price),
+        money(r.cost)
+    )
+}
+
+/// One period: its fills, what was cut or refused, and the equity.
+pub fn period(out: &mut impl Write, file: &str, told: &Told) -> io::Result<()> {
+    writeln!(out, "{}", told.label)?;
+    for r in &told.fills {
+        writeln!(out, "{}", fill(r))?;
+    }
+    if told.trimmed > 0 {
+        writeln!(out, "  {} cut down to the cash at hand", told.trimmed)?;
+    }
+    for r in &told.refused {
+        writeln!(out, "  {}", refusal(file, r))?;
+    }
+    match (told.equity, told.gain) {
+        (Some(equity), Some(gain)) => writeln!(out, "  equity {} ({})", money(equity), percent(gain)),
+        (Some(equity), None) => writeln!(out, "  equity {}", money(equity)),
+        (None, _) => writeln!(out, "  no equity for this period"),
+    }
+}
+
+/// The figures with their names, as both the text and the page show them.
+pub fn figures(f: &Figures) -> [(&'static str, String); 8] {
+    [
+        ("Total return", percent(f.total_return)),
+        ("Maximum drawdown", percent(f.max_drawdown)),
+        ("Winning periods", f.winning_periods.to_string()),
+        ("Losing periods", f.losing_periods.to_string()),
+        ("Win rate", percent(f.win_rate)),
+        ("Profit factor", ratio(f.profit_factor)),
+        ("Payoff ratio", ratio(f.payoff_ratio)),
+        ("Kelly fraction", percent(f.kelly)),
+    ]
+}
+
+pub fn summary(out: &mut impl Write, plan: &Plan, history: &History) -> io::Result<()> {
+    writeln!(out, "\n{}: {} periods, {} returns", plan.name, history.periods.len(), history.returns.len())?;
+    match &history.figures {
+        Ok(f) => {
+            for (name, value) in figures(f) {
+                writeln!(out, "  {name:<18} {value:>14}")?;
+            }
+        }
+        Err(refusal) => writeln!(out, "  no figures, {}: {refusal}", refusal.number())?,
+    }
+    writeln!(out, "  {:<18} {:>14}", "Cash", money(history.account.cash()))?;
+    for p in history.positions.iter().filter(|p| p.quantity.0 != 0) {
+        let weight = history.weight_of(p.symbol).map_or("".into(), percent);
+        writeln!(out, "  {:<18} {:>14} shares {weight:>9}", p.symbol.to_string(), shares(p.quantity))?;
+    }
+    Ok(())
+}
+
+#[cfg(test)]
+mod tests {
+    use super::*;
+
+    #[test]
+    fn amounts_read_as_people_write_them() {
+        assert_eq!(money(-123_456_789), "-1,234,567.89");
+        assert_eq!(money(i64::MIN), "-92,233,720,368,547,758.08");
+        assert_eq!(shares(Shares(1_500_000)), "1.5");
+        assert_eq!(shares(Shares(-1_000_000_000)), "-1,000");
+    }
+}

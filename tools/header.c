@@ -1,0 +1,101 @@
+/* Compiled with the header and linked with the archive: some of document 01's cases, asked from C. */
+#include "threshcoil.h"
+
+#include <stdio.h>
+#include <string.h>
+
+static int failures;
+
+static void held(const char *what, int64_t given, int64_t wanted)
+{
+    if (given != wanted) {
+        printf("%s: %lld, not %lld\n", what, (long long)given, (long long)wanted);
+        failures++;
+    }
+}
+
+static void put(uint8_t *bytes, size_t word, uint64_t value)
+{
+    for (int i = 0; i < 8; i++)
+        bytes[8 * word + i] = (uint8_t)(value >> (8 * i));
+}
+
+static uint64_t word(const uint8_t *bytes, size_t word)
+{
+    uint64_t value = 0;
+    for (int i = 7; i >= 0; i--)
+        value = value << 8 | bytes[8 * word + i];
+    return value;
+}
+
+static void put_double(uint8_t *bytes, size_t word, double x)
+{
+    uint64_t pattern;
+    memcpy(&pattern, &x, 8);
+    put(bytes, word, pattern);
+}
+
+static void leaves(void)
+{
+    held("a, 1 at 999,999", tc_value(1, 999999), 0);
+    held("a, 1 at 1,000,000", tc_value(1, 1000000), 1);
+    held("a, -1 at 999,999", tc_value(-1, 999999), 0);
+    held("b, on 1,000,000", tc_compute_cost(10, 0, 100, 1000000), 1000);
+    held("b, on 10,000", tc_compute_cost(10, 0, 100, 10000), 100);
+    held("c, on 5", tc_compute_cost(1000, 0, 0, 5), 1);
+    held("c, on 4", tc_compute_cost(1000, 0, 0, 4), 0);
+    held("h, 1,999", tc_size_qty(1999, 1000, TC_SCALE), 1000000);
+    held("h, -1,999", tc_size_qty(-1999, 1000, TC_SCALE), -1000000);
+    held("h, step 1,000", tc_size_qty(1999, 1000, 1000), 1999000);
+}
+
+/* Case d: cash 100,000, 100 shares at 1,000, 10 bps and a floor of 100: 99 fill, shortfall 1,000, cash 900. */
+static void case_d(void)
+{
+    uint8_t settings[TC_SETTINGS_BYTES] = {0};
+    put_double(settings, 0, 10);
+    put(settings, 2, 100);
+    put(settings, 3, TC_SCALE);
+    put(settings, 10, 1); /* recording */
+    uint8_t account[TC_ACCOUNT_BYTES];
+    int64_t equities[1];
+    held("d, opening", (int64_t)tc_open(100000, settings, sizeof settings, account, sizeof account, equities, 1), TC_DONE);
+    held("d, first equity", equities[0], 100000);
+
+    uint8_t target[TC_TARGET_BYTES] = "AAPL";
+    put_double(target, 1, 1.0);
+    uint8_t price[TC_PRICE_BYTES] = "AAPL";
+    put(price, 1, 1000);
+    static uint8_t records[TC_RECORD_PLACES * TC_RECORD_BYTES];
+    uint64_t r = tc_rebalance_simple(account, sizeof account, target, sizeof target, price, sizeof price, 0, TC_REBALANCE,
+                                     records, sizeof records);
+    held("d, answer", (int64_t)TC_ANSWER(r), TC_DONE);
+    held("d, records", (int64_t)TC_COUNT(r), 1);
+    held("d, filled", (int64_t)word(records, 4), 99 * (int64_t)TC_SCALE);
+
+    uint8_t cash[TC_CENTS_BYTES];
+    held("d, cash query", (int64_t)tc_cash(account, sizeof account, cash, sizeof cash), TC_DONE);
+    held("d, cash", (int64_t)word(cash, 0), 900);
+    uint8_t counters[TC_COUNTERS_BYTES];
+    held("d, counters query", (int64_t)tc_counters(account, sizeof account, counters, sizeof counters), TC_DONE);
+    held("d, trimmed", (int64_t)word(counters, 2), 1);
+    held("d, shortfall", (int64_t)word(counters, 3), 1000);
+
+    r = tc_rebalance_simple(account, sizeof account, target, sizeof target, price, sizeof price, 0, 2, records,
+                            sizeof records);
+    held("an unknown kind", (int64_t)r, TC_BAD_SETTING);
+    r = tc_rebalance_simple(account, sizeof account, target, sizeof target - 1, price, sizeof price, 0, TC_REBALANCE, records,
+                            sizeof records);
+    held("a target cut short", (int64_t)r, TC_TOO_LONG);
+    r = tc_cash(account, sizeof account - 1, cash, sizeof cash);
+    held("an account cut short", (int64_t)r, TC_UNSOUND);
+}
+
+int main(void)
+{
+    leaves();
+    case_d();
+    if (failures == 0)
+        printf("header: the cases asked from C are as document 01 says\n");
+    return failures != 0;
+}
