@@ -152,6 +152,14 @@ int64_t tc_unrealized_pnl(uint64_t symbol, int64_t quantity, int64_t average, in
                           int64_t price);
 uint64_t tc_apply_fill(uint64_t symbol, int64_t *numbers, size_t number_count, int64_t quantity, int64_t price);
 
+/* One fill on an account of at most one position. Money is cash, trimmed shortfall, and the position's quantity, average,
+ * realized profit and total cost; tallies are the counts of trimmed fills and of records; words and ints take the record,
+ * four words and eight numbers. */
+uint64_t tc_fill(double commission_bps, double slippage_bps, int64_t min_commission, int64_t quantity_step, uint64_t period,
+                 uint64_t kind, uint64_t symbol, int64_t quantity, int64_t price, int64_t *money, size_t money_count,
+                 uint64_t *tallies, size_t tally_count, uint64_t *words, size_t word_count, int64_t *ints,
+                 size_t int_count);
+
 /* Sizing. */
 int64_t tc_notional_of(int64_t quantity, int64_t price);
 int64_t tc_size_qty(int64_t gap, int64_t price, int64_t step);
