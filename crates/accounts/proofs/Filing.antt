@@ -14,7 +14,7 @@ use Rattle.answer.specs.declared.Answer.the-variants.{Done, BadSetting, Unsound
 use Rattle.answer.specs.Numbers.{numberOf}
 use Rattle.table.specs.Keyed.{pick, both}
 use Rattle.table.specs.Rows.{emptyTable}
-use Rattle.octets.specs.Words.{wordsOf, bytesOf}
+use Rattle.octets.specs.Words.{wordsOf}
 use Rattle.cost_model.specs.Costs.{free, goodCosts}
 use Rattle.account.specs.declared.account.Account.{Account}
 use Rattle.account.specs.declared.settings.Settings.{Settings}
@@ -22,10 +22,9 @@ use Rattle.account.specs.declared.change.Changed.{Changed}
 use Rattle.account.specs.Settings.{goodSettings}
 use Rattle.account.specs.Account.{soundTable, soundScalars, soundAccount, withSettings}
 use Rattle.account.specs.Calls.{zeroAccount, answered, changed}
-use Rattle.layout.specs.declared.account_words.ReadAccount.{ReadAccount}
 use Rattle.layout.specs.Settings.{areSettings}
-use Rattle.layout.specs.Account.{gotAccount, noAccount, accountOf, accountWords, readAccount, writtenAccount}
-use Rattle.accounts.specs.Entries.{accountIn, soundIn, accountBytes, Told, told, answering, unlessUnsound}
+use Rattle.layout.specs.Account.{gotAccount, noAccount, accountOf, readAccount, writtenAccount}
+use Rattle.accounts.specs.Entries.{accountIn, soundIn, accountBytes, told, answering, unlessUnsound}
 use Rattle.accounts.specs.Setters.{setIn, filed}
 
 -- ---- bytes that hold no account

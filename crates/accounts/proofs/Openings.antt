@@ -4,7 +4,7 @@ use Prim.Native.Nat.{ℕ, _≤_, _<_}
 use mathlib.Core.Bool.{Bool, true, false}
 use mathlib.Core.List.{List}
 use lib.Dec.{eqb}
-use lib.IntN.{ℤ, pos}
+use lib.IntN.{ℤ}
 use lib.ListN.{length, set}
 use borrow.Author.Tests.{eq-eqb, ne-eqb, lt-ltb, le-ltb}
 use Rattle.answer.specs.declared.Answer.the-variants.{Done, BadSetting, TooLong, BufferFull}
@@ -17,7 +17,7 @@ use Rattle.account.specs.Account.{soundScalars}
 use Rattle.layout.specs.Settings.{zeroSettings, gotSettings, noSettings, settingsAt, areSettings, readSettings}
 use Rattle.layout.specs.Account.{accountWords, writtenAccount}
 use Rattle.accounts.specs.Entries.{accountBytes}
-use Rattle.accounts.specs.Opening.{openTold, opening, openAccount, soundOpening, openIn}
+use Rattle.accounts.specs.Opening.{opening, openAccount, soundOpening, openIn}
 
 -- "`quantity_step` at least 1": the settings of zeros have 0
 pub zero-bad : (cash : ℤ) → soundScalars cash zeroSettings ≡ false

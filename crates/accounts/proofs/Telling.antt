@@ -20,7 +20,7 @@ use Rattle.account.specs.declared.account.Account.{Account}
 use Rattle.account.specs.Account.{heldIn, soundAccount}
 use Rattle.account.specs.Calls.{absent, present, presentOr, positionOf, positionAt}
 use Rattle.layout.specs.Settings.{settingsWords, writtenSettings}
-use Rattle.accounts.specs.Entries.{accountIn, settingsIn, soundIn, Told, told, answering, unlessUnsound}
+use Rattle.accounts.specs.Entries.{accountIn, settingsIn, soundIn, told, answering, unlessUnsound}
 use Rattle.accounts.specs.Queries.{queried, heldWords, settingsTold, tellIn}
 use Rattle.accounts.proofs.Filing.{sound-in}
 
