@@ -4,6 +4,7 @@ mod account;
 mod differ;
 mod fills;
 mod leaf;
+mod played;
 mod sample;
 mod series;
 mod single;
@@ -28,6 +29,8 @@ fn main() {
         ["scenarios", ref rest @ ..] => seeded(rest, 1_000, account::emit),
         ["spoiled", seed, count] => account::emit_spoiled(number(seed), number(count)),
         ["table"] => table::run(),
+        ["sample", "accounts", "write", path] => played::write(path),
+        ["sample", "accounts", "check", path] => played::check(path),
         ["sample", "write", path] => sample::write(path),
         ["sample", "check", path] => sample::check(path),
         _ => stop(USAGE),
