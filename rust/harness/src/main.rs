@@ -6,6 +6,7 @@ mod damage;
 mod differ;
 mod fills;
 mod leaf;
+mod played;
 mod port;
 mod sample;
 mod series;
@@ -16,7 +17,8 @@ mod table;
 const USAGE: &str =
     "usage: harness leaves [SEED [COUNT]] | fills [SEED [COUNT]] | single [SEED [COUNT]] | figures [SEED [COUNT]]
     | accounts [SEED [COUNT]] | damage [SEED [COUNT]] | full | bench | bench figures | bench accounts
-    | scenarios [SEED [COUNT]] | spoiled [SEED [COUNT]] | stack | table | sample write FILE | sample check FILE";
+    | scenarios [SEED [COUNT]] | spoiled [SEED [COUNT]] | stack | table | sample write FILE | sample check FILE
+    | sample accounts write FILE | sample accounts check FILE";
 
 const SEED: u64 = 20261115;
 
@@ -38,6 +40,8 @@ fn main() {
         ["spoiled", ref rest @ ..] => seeded(rest, 1_000, account::emit_spoiled),
         ["stack"] => stack::run(),
         ["table"] => table::run(),
+        ["sample", "accounts", "write", path] => played::write(path),
+        ["sample", "accounts", "check", path] => played::check(path),
         ["sample", "write", path] => sample::write(path),
         ["sample", "check", path] => sample::check(path),
         _ => stop(USAGE),
