@@ -4,7 +4,9 @@
 //! Random scenarios within eight symbols, kept while the file stays small; a call past the eighth symbol, or for which the
 //! Rust is no oracle, ends a scenario.
 
-use scenario::{Held, Kind, Opening, Outcome, Played, Prices, Random, Record, Reply, Scenario, Setting, Step, Symbol, View};
+use scenario::{
+    Held, Kind, Opening, Outcome, Played, Prices, Random, Record, Reply, Scenario, Setting, Step, Symbol, View,
+};
 
 const SEED: u64 = 7;
 const SCENARIOS: usize = 60;
@@ -102,7 +104,8 @@ fn asked(row: &mut Row, step: &Step) -> Option<()> {
 }
 
 fn record(r: &Record) -> [u64; 12] {
-    let ints = [r.quantity, r.price, r.reference_price, r.notional, r.reference_notional, r.cost, r.cash_delta, r.cash_after];
+    let ints =
+        [r.quantity, r.price, r.reference_price, r.notional, r.reference_notional, r.cost, r.cash_delta, r.cash_after];
     let mut words = [r.sequence, r.context.period, kind(r.context.kind), text(&r.symbol), 0, 0, 0, 0, 0, 0, 0, 0];
     words[4..].copy_from_slice(&ints.map(|n| n as u64));
     words
@@ -139,15 +142,29 @@ fn told(row: &mut Row, outcome: &Outcome) -> Option<()> {
 /// The account after the call.
 fn account(row: &mut Row, v: &View) -> Option<()> {
     let s = &v.settings;
-    put(row, 144, &[v.cash as u64, s.costs.commission_bps.to_bits(), s.costs.slippage_bps.to_bits(), s.costs.min_commission as u64]);
-    put(row, 148, &[s.quantity_step as u64, s.min_order_value as u64, s.max_order_value as u64, s.no_trade_band_bps.to_bits()]);
+    put(
+        row,
+        144,
+        &[
+            v.cash as u64,
+            s.costs.commission_bps.to_bits(),
+            s.costs.slippage_bps.to_bits(),
+            s.costs.min_commission as u64,
+        ],
+    );
+    put(
+        row,
+        148,
+        &[s.quantity_step as u64, s.min_order_value as u64, s.max_order_value as u64, s.no_trade_band_bps.to_bits()],
+    );
     put(row, 152, &[u64::from(s.max_trades.is_some()), s.max_trades.unwrap_or(0), s.max_rebalance_notional as u64]);
     put(row, 155, &[u64::from(s.recording), u64::from(s.cash_first), v.last_order_count, v.last_notional as u64]);
     put(row, 159, &[v.trimmed_count, v.trimmed_shortfall as u64, v.record_count, v.equity_count, v.return_count]);
     put(row, 164, &[v.previous_equity as u64, v.positions.len() as u64]);
     (v.positions.len() <= MOST).then_some(())?;
     for (k, p) in v.positions.iter().enumerate() {
-        let numbers = [text(&p.symbol), p.quantity as u64, p.avg_entry_price as u64, p.realized_pnl as u64, p.total_cost as u64];
+        let numbers =
+            [text(&p.symbol), p.quantity as u64, p.avg_entry_price as u64, p.realized_pnl as u64, p.total_cost as u64];
         numbers.iter().enumerate().for_each(|(column, n)| row[166 + 8 * column + k] = *n);
     }
     Some(())
@@ -155,7 +172,16 @@ fn account(row: &mut Row, v: &View) -> Option<()> {
 
 fn opening(o: &Opening, opened: &View) -> Option<Row> {
     let mut row = [0; 206];
-    put(&mut row, 2, &[o.cash as u64, o.costs.commission_bps.to_bits(), o.costs.slippage_bps.to_bits(), o.costs.min_commission as u64]);
+    put(
+        &mut row,
+        2,
+        &[
+            o.cash as u64,
+            o.costs.commission_bps.to_bits(),
+            o.costs.slippage_bps.to_bits(),
+            o.costs.min_commission as u64,
+        ],
+    );
     account(&mut row, opened)?;
     Some(row)
 }
