@@ -2,9 +2,12 @@
 //! call, each with the Rust's answer and the account after it. crates/replay_accounts/src/row.rt has the row.
 //!
 //! Random scenarios within eight symbols, kept while the file stays small; a call past the eighth symbol, or for which the
-//! Rust is no oracle, ends a scenario.
+//! Rust is no oracle, ends a scenario. After them a few by hand.
 
-use scenario::{Held, Kind, Opening, Outcome, Played, Prices, Random, Record, Reply, Scenario, Setting, Step, Symbol, View};
+use scenario::{
+    Context, Costs, Held, Kind, Opening, Outcome, Played, Prices, Random, Record, Reply, Scenario, Setting, Step,
+    Symbol, View,
+};
 
 const SEED: u64 = 7;
 const SCENARIOS: usize = 60;
@@ -102,7 +105,8 @@ fn asked(row: &mut Row, step: &Step) -> Option<()> {
 }
 
 fn record(r: &Record) -> [u64; 12] {
-    let ints = [r.quantity, r.price, r.reference_price, r.notional, r.reference_notional, r.cost, r.cash_delta, r.cash_after];
+    let ints =
+        [r.quantity, r.price, r.reference_price, r.notional, r.reference_notional, r.cost, r.cash_delta, r.cash_after];
     let mut words = [r.sequence, r.context.period, kind(r.context.kind), text(&r.symbol), 0, 0, 0, 0, 0, 0, 0, 0];
     words[4..].copy_from_slice(&ints.map(|n| n as u64));
     words
@@ -139,15 +143,29 @@ fn told(row: &mut Row, outcome: &Outcome) -> Option<()> {
 /// The account after the call.
 fn account(row: &mut Row, v: &View) -> Option<()> {
     let s = &v.settings;
-    put(row, 144, &[v.cash as u64, s.costs.commission_bps.to_bits(), s.costs.slippage_bps.to_bits(), s.costs.min_commission as u64]);
-    put(row, 148, &[s.quantity_step as u64, s.min_order_value as u64, s.max_order_value as u64, s.no_trade_band_bps.to_bits()]);
+    put(
+        row,
+        144,
+        &[
+            v.cash as u64,
+            s.costs.commission_bps.to_bits(),
+            s.costs.slippage_bps.to_bits(),
+            s.costs.min_commission as u64,
+        ],
+    );
+    put(
+        row,
+        148,
+        &[s.quantity_step as u64, s.min_order_value as u64, s.max_order_value as u64, s.no_trade_band_bps.to_bits()],
+    );
     put(row, 152, &[u64::from(s.max_trades.is_some()), s.max_trades.unwrap_or(0), s.max_rebalance_notional as u64]);
     put(row, 155, &[u64::from(s.recording), u64::from(s.cash_first), v.last_order_count, v.last_notional as u64]);
     put(row, 159, &[v.trimmed_count, v.trimmed_shortfall as u64, v.record_count, v.equity_count, v.return_count]);
     put(row, 164, &[v.previous_equity as u64, v.positions.len() as u64]);
     (v.positions.len() <= MOST).then_some(())?;
     for (k, p) in v.positions.iter().enumerate() {
-        let numbers = [text(&p.symbol), p.quantity as u64, p.avg_entry_price as u64, p.realized_pnl as u64, p.total_cost as u64];
+        let numbers =
+            [text(&p.symbol), p.quantity as u64, p.avg_entry_price as u64, p.realized_pnl as u64, p.total_cost as u64];
         numbers.iter().enumerate().for_each(|(column, n)| row[166 + 8 * column + k] = *n);
     }
     Some(())
@@ -155,7 +173,16 @@ fn account(row: &mut Row, v: &View) -> Option<()> {
 
 fn opening(o: &Opening, opened: &View) -> Option<Row> {
     let mut row = [0; 206];
-    put(&mut row, 2, &[o.cash as u64, o.costs.commission_bps.to_bits(), o.costs.slippage_bps.to_bits(), o.costs.min_commission as u64]);
+    put(
+        &mut row,
+        2,
+        &[
+            o.cash as u64,
+            o.costs.commission_bps.to_bits(),
+            o.costs.slippage_bps.to_bits(),
+            o.costs.min_commission as u64,
+        ],
+    );
     account(&mut row, opened)?;
     Some(row)
 }
@@ -174,20 +201,89 @@ fn rows(scenario: &Scenario, played: &Played) -> Vec<Row> {
     std::iter::once(opening(&scenario.opening, &played.opened)).chain(calls).map_while(|row| row).collect()
 }
 
+fn symbol(letter: u8) -> Symbol {
+    Symbol([letter, 0, 0, 0, 0, 0, 0, 0])
+}
+
+/// A rebalance of accounts by hand: symbols with their weights, and with their prices.
+fn rebalance(targets: &[(u8, f64)], prices: &[(u8, i64)]) -> Step {
+    Step::Rebalance {
+        targets: targets.iter().map(|(s, weight)| (symbol(*s), *weight)).collect(),
+        prices: prices.iter().map(|(s, price)| (symbol(*s), *price)).collect(),
+        context: Context { period: 1, kind: Kind::Rebalance },
+        places: 64,
+    }
+}
+
+/// An account with no cost but a floor, whose step is one micro-share.
+fn by_hand(cash: i64, min_commission: i64, steps: Vec<Step>) -> Scenario {
+    let costs = Costs { commission_bps: 0.0, slippage_bps: 0.0, min_commission };
+    let step = Step::Set(Setting::QuantityStep(1));
+    Scenario { opening: Opening { cash, costs, equity_places: 1 }, steps: std::iter::once(step).chain(steps).collect() }
+}
+
+/// Points that random accounts miss.
+fn points() -> Vec<Scenario> {
+    let set = Step::Set;
+    vec![
+        // A drift at the band, and just over it.
+        by_hand(
+            20_000,
+            0,
+            vec![
+                set(Setting::NoTradeBandBps(2_500.0)),
+                rebalance(&[(b'A', 0.25)], &[(b'A', 100)]),
+                rebalance(&[(b'A', 0.25005)], &[(b'A', 100)]),
+            ],
+        ),
+        // A holding worth nothing, closed where the band is off.
+        by_hand(10, 0, vec![rebalance(&[(b'A', 0.1)], &[(b'A', 1_000_000)]), rebalance(&[], &[(b'A', 999_999)])]),
+        // Over the order maximum, and cut to less than the minimum.
+        by_hand(
+            20_000,
+            0,
+            vec![
+                set(Setting::MaxOrderValue(1_000)),
+                set(Setting::MinOrderValue(2_000)),
+                rebalance(&[(b'A', 0.25)], &[(b'A', 100)]),
+            ],
+        ),
+        // A buy at cash 0 of which 999,999 micro-shares would need nothing.
+        by_hand(
+            1_000,
+            0,
+            vec![
+                rebalance(&[(b'A', 1.0)], &[(b'A', 1_000)]),
+                rebalance(&[(b'A', 1.0), (b'B', 0.002)], &[(b'A', 1_000), (b'B', 1)]),
+            ],
+        ),
+        // A buy of which the floor leaves nothing.
+        by_hand(50, 100, vec![rebalance(&[(b'A', 0.2)], &[(b'A', 10)])]),
+        // A holding, and nothing that it or the account is worth.
+        by_hand(
+            1,
+            0,
+            vec![rebalance(&[(b'A', 1.0)], &[(b'A', 1_000_000)]), Step::Snapshot(vec![(symbol(b'A'), 999_999)])],
+        ),
+    ]
+}
+
 fn sample() -> Option<Vec<u8>> {
-    let mut bytes = Vec::new();
-    let (mut kept, mut seed) = (0, SEED);
-    while kept < SCENARIOS {
+    let mut kept = Vec::new();
+    let mut seed = SEED;
+    while kept.len() < SCENARIOS {
         let scenario = scenario::scenario(&mut Random::new(seed));
         let rows = rows(&scenario, &oracle::play(&scenario)?);
         seed += 1;
         // An opening alone, or with setters, tells little.
         if rows.iter().any(|row| row[0] == 10) && rows.len() > 3 {
-            bytes.extend(rows.iter().flatten().flat_map(|word| word.to_le_bytes()));
-            kept += 1;
+            kept.push(rows);
         }
     }
-    Some(bytes)
+    for scenario in points() {
+        kept.push(rows(&scenario, &oracle::play(&scenario)?));
+    }
+    Some(kept.iter().flatten().flatten().flat_map(|word| word.to_le_bytes()).collect())
 }
 
 /// Nothing is written where nanobook is not at hand: the sample is its answers and nobody else's.
