@@ -12,8 +12,7 @@ mod table;
 
 const USAGE: &str =
     "usage: harness leaves [SEED [COUNT]] | fills [SEED [COUNT]] | single [SEED [COUNT]] | figures [SEED [COUNT]]
-    | full | bench | scenarios [SEED [COUNT]] | spoiled SEED COUNT | table
-    | sample [accounts] write FILE | sample [accounts] check FILE";
+    | full | bench | scenarios [SEED [COUNT]] | spoiled SEED COUNT | table | sample write FILE | sample check FILE";
 
 const SEED: u64 = 20261115;
 

@@ -5,8 +5,7 @@
 //! Rust is no oracle, ends a scenario. After them a few by hand.
 
 use scenario::{
-    Context, Costs, Held, Kind, Opening, Outcome, Played, Prices, Random, Record, Reply, Scenario, Setting, Step,
-    Symbol, View,
+    Held, Kind, Opening, Outcome, Played, Prices, Random, Record, Reply, Scenario, Setting, Step, Symbol, View,
 };
 
 const SEED: u64 = 7;
@@ -210,14 +209,14 @@ fn rebalance(targets: &[(u8, f64)], prices: &[(u8, i64)]) -> Step {
     Step::Rebalance {
         targets: targets.iter().map(|(s, weight)| (symbol(*s), *weight)).collect(),
         prices: prices.iter().map(|(s, price)| (symbol(*s), *price)).collect(),
-        context: Context { period: 1, kind: Kind::Rebalance },
+        context: scenario::Context { period: 1, kind: Kind::Rebalance },
         places: 64,
     }
 }
 
 /// An account with no cost but a floor, whose step is one micro-share.
 fn by_hand(cash: i64, min_commission: i64, steps: Vec<Step>) -> Scenario {
-    let costs = Costs { commission_bps: 0.0, slippage_bps: 0.0, min_commission };
+    let costs = scenario::Costs { commission_bps: 0.0, slippage_bps: 0.0, min_commission };
     let step = Step::Set(Setting::QuantityStep(1));
     Scenario { opening: Opening { cash, costs, equity_places: 1 }, steps: std::iter::once(step).chain(steps).collect() }
 }
