@@ -2,7 +2,7 @@
 //! call, each with the Rust's answer and the account after it. crates/replay_accounts/src/row.rt has the row.
 //!
 //! Random scenarios within eight symbols, kept while the file stays small; a call past the eighth symbol, or for which the
-//! Rust is no oracle, ends a scenario.
+//! Rust is no oracle, ends a scenario. After them a few by hand.
 
 use scenario::{
     Held, Kind, Opening, Outcome, Played, Prices, Random, Record, Reply, Scenario, Setting, Step, Symbol, View,
@@ -200,20 +200,89 @@ fn rows(scenario: &Scenario, played: &Played) -> Vec<Row> {
     std::iter::once(opening(&scenario.opening, &played.opened)).chain(calls).map_while(|row| row).collect()
 }
 
+fn symbol(letter: u8) -> Symbol {
+    Symbol([letter, 0, 0, 0, 0, 0, 0, 0])
+}
+
+/// A rebalance of accounts by hand: symbols with their weights, and with their prices.
+fn rebalance(targets: &[(u8, f64)], prices: &[(u8, i64)]) -> Step {
+    Step::Rebalance {
+        targets: targets.iter().map(|(s, weight)| (symbol(*s), *weight)).collect(),
+        prices: prices.iter().map(|(s, price)| (symbol(*s), *price)).collect(),
+        context: scenario::Context { period: 1, kind: Kind::Rebalance },
+        places: 64,
+    }
+}
+
+/// An account with no cost but a floor, whose step is one micro-share.
+fn by_hand(cash: i64, min_commission: i64, steps: Vec<Step>) -> Scenario {
+    let costs = scenario::Costs { commission_bps: 0.0, slippage_bps: 0.0, min_commission };
+    let step = Step::Set(Setting::QuantityStep(1));
+    Scenario { opening: Opening { cash, costs, equity_places: 1 }, steps: std::iter::once(step).chain(steps).collect() }
+}
+
+/// Points that random accounts miss.
+fn points() -> Vec<Scenario> {
+    let set = Step::Set;
+    vec![
+        // A drift at the band, and just over it.
+        by_hand(
+            20_000,
+            0,
+            vec![
+                set(Setting::NoTradeBandBps(2_500.0)),
+                rebalance(&[(b'A', 0.25)], &[(b'A', 100)]),
+                rebalance(&[(b'A', 0.25005)], &[(b'A', 100)]),
+            ],
+        ),
+        // A holding worth nothing, closed where the band is off.
+        by_hand(10, 0, vec![rebalance(&[(b'A', 0.1)], &[(b'A', 1_000_000)]), rebalance(&[], &[(b'A', 999_999)])]),
+        // Over the order maximum, and cut to less than the minimum.
+        by_hand(
+            20_000,
+            0,
+            vec![
+                set(Setting::MaxOrderValue(1_000)),
+                set(Setting::MinOrderValue(2_000)),
+                rebalance(&[(b'A', 0.25)], &[(b'A', 100)]),
+            ],
+        ),
+        // A buy at cash 0 of which 999,999 micro-shares would need nothing.
+        by_hand(
+            1_000,
+            0,
+            vec![
+                rebalance(&[(b'A', 1.0)], &[(b'A', 1_000)]),
+                rebalance(&[(b'A', 1.0), (b'B', 0.002)], &[(b'A', 1_000), (b'B', 1)]),
+            ],
+        ),
+        // A buy of which the floor leaves nothing.
+        by_hand(50, 100, vec![rebalance(&[(b'A', 0.2)], &[(b'A', 10)])]),
+        // A holding, and nothing that it or the account is worth.
+        by_hand(
+            1,
+            0,
+            vec![rebalance(&[(b'A', 1.0)], &[(b'A', 1_000_000)]), Step::Snapshot(vec![(symbol(b'A'), 999_999)])],
+        ),
+    ]
+}
+
 fn sample() -> Option<Vec<u8>> {
-    let mut bytes = Vec::new();
-    let (mut kept, mut seed) = (0, SEED);
-    while kept < SCENARIOS {
+    let mut kept = Vec::new();
+    let mut seed = SEED;
+    while kept.len() < SCENARIOS {
         let scenario = scenario::scenario(&mut Random::new(seed));
         let rows = rows(&scenario, &oracle::play(&scenario)?);
         seed += 1;
         // An opening alone, or with setters, tells little.
         if rows.iter().any(|row| row[0] == 10) && rows.len() > 3 {
-            bytes.extend(rows.iter().flatten().flat_map(|word| word.to_le_bytes()));
-            kept += 1;
+            kept.push(rows);
         }
     }
-    Some(bytes)
+    for scenario in points() {
+        kept.push(rows(&scenario, &oracle::play(&scenario)?));
+    }
+    Some(kept.iter().flatten().flatten().flat_map(|word| word.to_le_bytes()).collect())
 }
 
 /// Nothing is written where nanobook is not at hand: the sample is its answers and nobody else's.
