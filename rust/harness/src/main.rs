@@ -61,7 +61,7 @@ fn seeded(words: &[&str], count: u64, run: fn(u64, u64) -> bool) -> bool {
     }
 }
 
-/// The same runs, ten times and more as long and with another seed.
+/// The same runs, eight times and more as long and with another seed.
 fn full() -> bool {
     let leaves = differ::run(SEED + 1, 2_000_000);
     let fills = fills::run(SEED + 1, 20_000_000);
