@@ -13,6 +13,7 @@ use Rattle.table.specs.Rows.{Cols, columnsOf, rows, rowAt, ordered}
 use Rattle.account.specs.declared.settings.Settings.{Settings}
 use Rattle.account.specs.declared.account.Account.{Account}
 use Rattle.account.specs.declared.account.Series.{Series}
+use Rattle.account.specs.declared.account.Ledger.{Ledger}
 use Rattle.account.specs.Settings.{atLeast, goodSettings}
 
 abbrev pub allSound : List Position → Bool
@@ -73,3 +74,10 @@ withSettings s a = record { cash = a .cash; settings = s; counters = a .counters
 
 abbrev pub withSeries : Series → Account → Account
 withSeries s a = record { cash = a .cash; settings = a .settings; counters = a .counters; series = s; positions = a .positions }
+
+-- ---- an account taken apart: a ledger, and the columns of the positions
+abbrev pub accountWith : Ledger → Cols → Account
+accountWith h c = record { cash = h .cash; settings = h .settings; counters = h .counters; series = h .series; positions = tableFrom (h .count) c }
+
+abbrev pub ledgerOf : Account → Ledger
+ledgerOf a = record { cash = a .cash; settings = a .settings; counters = a .counters; series = a .series; count = a .positions .count }

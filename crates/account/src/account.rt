@@ -31,6 +31,17 @@ pub struct Account {
     pub positions: Table,
 }
 
+// An account but for the columns of its positions, which a caller lends. An account by value is some 2,700 bytes, and each function
+// that takes it copies it.
+pub struct Ledger {
+    pub cash: i64,
+    pub settings: Settings,
+    pub counters: Counters,
+    pub series: Series,
+    // The count of positions.
+    pub count: usize,
+}
+
 impl Account {
     // "A sound account has good settings, cash at least 0, positions with good symbols, strictly ascending, unused places zero." Nothing is asked of
     // counters and series.

@@ -9,6 +9,7 @@ mod soundness;
 
 pub use account::Account;
 pub use account::Counters;
+pub use account::Ledger;
 pub use account::Series;
 pub use change::Changed;
 pub use holding::Held;
@@ -23,5 +24,6 @@ pub use query::Rate;
 pub use query::Step;
 pub use settings::Settings;
 pub use settings::TradeCap;
+pub use soundness::sound_account;
 pub use soundness::sound_columns;
 pub use soundness::sound_scalars;

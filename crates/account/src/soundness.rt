@@ -2,7 +2,8 @@
 ghost use mathlib.Core.Path.{_≡_};
 ghost use Prim.Native.Nat.{_≤_};
 ghost use Rattle.table.specs.Rows.{cols};
-ghost use Rattle.account.specs.Account.{soundPlaces, soundColumns, soundScalars};
+ghost use Rattle.account.specs.Account.{soundPlaces, soundColumns, soundScalars, soundAccount, accountWith};
+use crate::account::Ledger;
 use crate::settings::Settings;
 use table::Found;
 use table::held;
@@ -56,4 +57,21 @@ pub fn sound_scalars(cash: i64, s: Settings) -> bool
         return false;
     }
     s.is_good()
+}
+
+// Whether the account of a ledger and five columns is sound.
+pub fn sound_account<'a>(
+    h: Ledger,
+    symbol: &'a [u64; 64],
+    quantity: &'a [i64; 64],
+    average: &'a [i64; 64],
+    realized: &'a [i64; 64],
+    total: &'a [i64; 64],
+) -> bool
+    ensures { λ r. ⌜ r ≡ soundAccount (accountWith h (cols (now (symbol .entry)) (now (quantity .entry)) (now (average .entry)) (now (realized .entry)) (now (total .entry)))) ⌝ }
+{
+    if !sound_scalars(h.cash, h.settings) {
+        return false;
+    }
+    sound_columns(symbol, quantity, average, realized, total, h.count)
 }
