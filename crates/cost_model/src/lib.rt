@@ -63,11 +63,16 @@ impl CostModel {
         1.0 + side(buying) * self.slippage_bps / 10_000.0
     }
 
-    // The price after slippage of a fill of so many micro-shares, below 0 for a sale.
+    // The price after slippage of a fill of so many micro-shares, below 0 for a sale. Each side has one factor,
+    // whatever the quantity, so that a loop of fills makes it once.
     pub fn effective_price(self, quantity: Shares, price: i64) -> i64
         ensures { λ r. ⌜ r ≡ effective self (isPositive (quantity .0)) price ⌝ }
     {
-        slipped(self.slippage_factor(quantity.is_positive()), price)
+        if quantity.is_positive() {
+            slipped(self.slippage_factor(true), price)
+        } else {
+            slipped(self.slippage_factor(false), price)
+        }
     }
 }
 

@@ -1,8 +1,8 @@
 // What an order may be: its notional, drift and size, its truncation to a maximum, and the largest buy that cash pays for.
 ghost use mathlib.Core.Path.{_≡_};
 ghost use mathlib.Core.Bool.{true};
-ghost use Prim.Native.Nat.{_*_, _<_, _≤_, _^_};
-ghost use Rattle.words.specs.Sums.{notional};
+ghost use Prim.Native.Nat.{_*_, _/_, _<_, _≤_, _^_};
+ghost use Rattle.words.specs.Sums.{notional, snap};
 ghost use Rattle.words.specs.Wide.{wide};
 ghost use Rattle.cost_model.specs.Costs.{goodCosts};
 ghost use Rattle.sizing.specs.Afford.{need, fits, largest, affordable};
@@ -27,11 +27,31 @@ pub fn notional_of(quantity: Shares, price: i64) -> i64
     words::magnitude(quantity.0, price)
 }
 
+// n over the price, snapped to the step: n over the price of a step, once, where that price takes one word.
+fn snapped_quotient(n: u64, price: u64, step: u64) -> u64
+    requires { ⌜ (price < 2 ^ 32) × (step < 2 ^ 32) ⌝ }
+    ensures { λ r. ⌜ r ≡ snap (n / price) step ⌝ }
+{
+    let unit = price * step;
+    if unit == 0 { 0 } else { n / unit * step }
+}
+
 // How many micro-shares a value is at a price, truncated and snapped to the step. It has two words: the snap comes before any clamp.
 fn shares_for(value: u64, price: u64, step: u64) -> Wide
     ensures { λ r. ⌜ r ≡ wide (sharesFor value price step) ⌝ }
 {
-    words::snap_wide(words::div_wide(words::mul_wide(value, SCALE), price), step)
+    let total = words::mul_wide(value, SCALE);
+    if total.hi == 0 {
+        if price < 0x1_0000_0000 {
+            if step < 0x1_0000_0000 {
+                return Wide {
+                    hi: 0,
+                    lo: snapped_quotient(total.lo, price, step),
+                };
+            }
+        }
+    }
+    words::snap_wide(words::div_wide(total, price), step)
 }
 
 // "the gap becomes shares, truncated, snapped toward zero to the step, then clamped"

@@ -1,6 +1,6 @@
 -- Two words and the number that they stand for are each other's inverse, and the few products that two-word sums need.
 use Prim.Native.Nat.{ℕ, _+_, _*_, _/_, _%_, _^_, _≤_, _<_}
-use mathlib.Core.Path.{_≡_, refl, sym}
+use mathlib.Core.Path.{_≡_, refl, sym, ap, _∙_, subst}
 use native.Mathlib.Nat.{mul-le-mul, div-lt-iff-lt-mul}
 use native.Mathlib.Omega.{arith}
 use lib.Arith.{digits-lt}
@@ -40,6 +40,13 @@ words-of hi lo n l e =
 pub wide-valueOf : (w : Wide) → w .lo < 2 ^ 64 → wide (valueOf w) ≡ w
 unfolding valueOf
 wide-valueOf w l = sym (words-of (w .hi) (w .lo) (valueOf w) l refl)
+
+-- a number whose upper word is 0 is its lower word
+pub one-word : (w : Wide) (n : ℕ) → w ≡ wide n → w .hi ≡ 0 → (w .lo ≡ n) × (w .lo < 2 ^ 64)
+unfolding valueOf
+one-word w n e h =
+    let v : w .hi * 2 ^ 64 + w .lo ≡ n = ap valueOf e ∙ valueOf-wide n in
+    (omega arith, subst (λ (x : Wide). x .lo < 2 ^ 64) (sym e) (wide-lo-fits n))
 
 -- the product of two halves of a word
 pub half-product : (x y : ℕ) → x < 2 ^ 32 → y < 2 ^ 32 → x * y ≤ 0xffff_ffff * 0xffff_ffff

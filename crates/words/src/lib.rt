@@ -82,12 +82,13 @@ fn plus_middle(w: Wide, middle: u64) -> Wide
     }
 }
 
-// a * b, exactly, by 32-bit partial products; one is enough for two halves of a word.
+// a * b, exactly, by 32-bit partial products. Where b and its product with a's upper half are below 2^31, neither that product, half a
+// word higher, nor the lower half's reaches 2^63, so one word takes their sum.
 pub fn mul_wide(a: u64, b: u64) -> Wide
     ensures { λ r. ⌜ r ≡ wide (a * b) ⌝ }
 {
-    if a < 0x1_0000_0000 {
-        if b < 0x1_0000_0000 {
+    if b < 0x8000_0000 {
+        if (a / 0x1_0000_0000) * b < 0x8000_0000 {
             return Wide { hi: 0, lo: a * b };
         }
     }

@@ -1,7 +1,7 @@
 -- Multiplying by hand in base 2 ^ 32. All that is not linear is the four products, so `omega` does the columns.
 use Prim.Native.Nat.{ℕ, _+_, _*_, _/_, _%_, _^_, _≤_, _<_}
 use mathlib.Core.Path.{_≡_, refl, sym, ap, _∙_}
-use native.Mathlib.Nat.{add-assoc, add-comm, add-left-comm, mul-assoc, mul-comm, mul-left-comm, mul-add, add-mul, div-add-mod'}
+use native.Mathlib.Nat.{add-assoc, add-comm, add-left-comm, mul-assoc, mul-comm, mul-left-comm, mul-right-comm, mul-add, add-mul, mul-le-mul, div-add-mod'}
 use native.Mathlib.Omega.{arith}
 use Rattle.words.specs.Wide.{valueOf, wide}
 use Rattle.words.proofs.TwoWords.{words-of, valueOf-wide, half-product}
@@ -36,13 +36,28 @@ module _ (s : tie.Start) where
   products : Few (s .args .a) (s .args .b)
   products = few (s .args .a) (s .args .b) (s .fits .a .fits) (s .fits .b .fits)
 
-mul-t10 : tie.Need-mul-t10
-mul-t10 c = omega (arith, half-product (c .before .before .args .a) (c .before .before .args .b) (c .before .if1 .taken) (c .if2 .taken))
+-- by the halves of a alone: where b and the upper product are below 2 ^ 31, both parts are below 2 ^ 63
+by-halves : (a b : ℕ) → a * b ≡ a / 2 ^ 32 * b * 2 ^ 32 + a % 2 ^ 32 * b
+by-halves a b =
+    ap (λ (x : ℕ). x * b) (sym (div-add-mod' a (2 ^ 32))) ∙ add-mul (a / 2 ^ 32 * 2 ^ 32) (a % 2 ^ 32) b
+    ∙ ap (λ (x : ℕ). x + a % 2 ^ 32 * b) (mul-right-comm (a / 2 ^ 32) (2 ^ 32) b)
+
+fits-one : (a b : ℕ) → b < 2 ^ 31 → a / 2 ^ 32 * b < 2 ^ 31 → a * b < 2 ^ 64
+fits-one a b hb h =
+    omega (arith, by-halves a b, mul-le-mul {n₁ = a % 2 ^ 32} {m₁ = b} {n₂ = 2 ^ 32} {m₂ = 2 ^ 31} (omega arith) (omega arith))
+
+mul-if2 : tie.Need-mul-if2
+mul-if2 c =
+    let s = c .before in
+    omega (arith, half-product (s .args .a / 2 ^ 32) (s .args .b) (omega (arith, s .fits .a .fits)) (omega (arith, c .if1 .taken)))
+
+mul-t12 : tie.Need-mul-t12
+mul-t12 c = record { fits = fits-one (c .before .before .args .a) (c .before .before .args .b) (c .before .if1 .taken) (c .if2 .taken) }
 
 returns : tie.Need-returns
 returns c =
     let a = c .before .before .args in
-    words-of 0 (a .a * a .b) _ (omega (arith, half-product (a .a) (a .b) (c .before .if1 .taken) (c .if2 .taken))) (omega arith)
+    words-of 0 (a .a * a .b) _ (fits-one (a .a) (a .b) (c .before .if1 .taken) (c .if2 .taken)) (omega arith)
 
 mul-plus-middle : tie.Need-mul-plus-middle
 mul-plus-middle c = omega (arith, products (c .before))
@@ -71,4 +86,4 @@ returns-2 c =
     c .plus-middle2 .ensures .0 ∙ ap wide (ap (λ (x : ℕ). x + a % 2 ^ 32 * (b / 2 ^ 32) * 2 ^ 32) first ∙ sym (columns a b))
 
 pub mul-wide-spec : {M : Type 1} → statement M
-mul-wide-spec = tie.close (tie.spec mul-t10 returns mul-plus-middle mul-plus-middle-2 mul-plus-middle-3 plus-middle-requires mul-plus-middle-4 plus-middle-requires-2 returns-2)
+mul-wide-spec = tie.close (tie.spec mul-if2 mul-t12 returns mul-plus-middle mul-plus-middle-2 mul-plus-middle-3 plus-middle-requires mul-plus-middle-4 plus-middle-requires-2 returns-2)

@@ -1,20 +1,13 @@
 -- Where the product's upper word is 0, the lower one is the product.
 use borrow.Author.Needs.{needs}
 use Prim.Native.Nat.{ℕ, _+_, _*_, _/_, _^_, _<_}
-use mathlib.Core.Path.{_≡_, sym, ap, _∙_, subst}
+use mathlib.Core.Path.{_≡_, ap, _∙_}
 use native.Mathlib.Omega.{arith}
-use Rattle.words.specs.declared.Wide.{Wide}
 use Rattle.words.specs.Sums.{SCALE}
 use Rattle.words.specs.Wide.{valueOf, wide}
-use Rattle.words.proofs.TwoWords.{words-of, valueOf-wide, wide-lo-fits}
+use Rattle.words.proofs.TwoWords.{words-of, valueOf-wide, one-word}
 use Rattle.words.proofs.scaled.Statement.{statement}
 use Rattle.words.proofs.scaled.Tie as tie
-
-one-word : (w : Wide) (n : ℕ) → w ≡ wide n → w .hi ≡ 0 → (w .lo ≡ n) × (w .lo < 2 ^ 64)
-unfolding valueOf
-one-word w n e h =
-    let v : w .hi * 2 ^ 64 + w .lo ≡ n = ap valueOf e ∙ valueOf-wide n in
-    (omega arith, subst (λ (x : Wide). x .lo < 2 ^ 64) (sym e) (wide-lo-fits n))
 
 mul-wide-requires : tie.Need-mul-wide-requires
 mul-wide-requires c κs = search needs
