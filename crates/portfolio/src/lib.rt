@@ -11,5 +11,7 @@ pub use equity::total_equity;
 pub use rebalance::rebalance_simple;
 pub use refusal::is_done;
 pub use refusal::query_answer;
+pub use returns::Noted;
 pub use returns::record_return;
+pub use returns::return_on;
 pub use trade::Traded;
