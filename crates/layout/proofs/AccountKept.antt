@@ -5,31 +5,33 @@ use Prim.Native.Nat.{ℕ, _+_, _/_, _<_, _^_}
 use native.Mathlib.Omega.{arith}
 use mathlib.Core.List.{List, [], _∷_, _++_, map, append-nil}
 use lib.ListN.{length, getD, take, drop, length-map, drop-of-length-le}
-use lib.Seq.{take-at, drop-at, drop-cons, drop-drop, take-all}
+use lib.Dec.{eqb}
+use lib.Seq.{sets, take-at, drop-at, drop-cons, drop-drop, take-all}
 use mir.Syntax.{w64}
 use mir.Val.{SFits}
 use borrow.Author.Tests.{eq-eqb, eqb-true}
-use Rattle.table.specs.Keyed.{pick}
+use Rattle.table.specs.Keyed.{pick, both}
+use Rattle.table.specs.Rows.{Cols, Full, columnsOf}
 use Rattle.table.proofs.Keyed.{both-true}
 use Rattle.table.specs.declared.table.Table.{Table}
 use Rattle.account.specs.declared.account.Account.{Account}
 use Rattle.account.specs.declared.account.Counters.{Counters}
 use Rattle.account.specs.declared.account.Series.{Series}
 use Rattle.account.specs.Settings.{atLeast}
-use Rattle.account.specs.Account.{soundScalars, soundAccount}
+use Rattle.account.specs.Account.{soundScalars, soundAccount, withSeries}
 use Rattle.octets.specs.Words.{wordsIn, wordsOf, bytesOf, turned}
 use Rattle.octets.specs.Numbers.{signedOf, unsignedOf}
 use Rattle.octets.proofs.Words.{Words, Octets, length-words, words-bytes, length-bytes, words-fit, bytes-words}
 use Rattle.octets.proofs.Numbers.{signed-unsigned, unsigned-signed, unsigned-lt}
 use Rattle.layout.specs.Settings.{settingsWords, settingsAt, areSettings}
-use Rattle.layout.specs.Account.{countWords, countersOf, seriesOf, columnWords, symbolsAt, numbersAt, tableFrom, accountWords, accountOf, gotAccount, noAccount, readAccount, writtenAccount}
-use Rattle.layout.proofs.Writing.{FullTable, length-account}
+use Rattle.layout.specs.Account.{countWords, countersOf, seriesOf, columnWords, symbolsAt, numbersAt, tableFrom, accountWords, accountOf, gotAccount, noAccount, readAccount, writtenAccount, writtenSeries}
+use Rattle.layout.proofs.Writing.{length-account, bytes-are}
 use Rattle.layout.proofs.Lists.{Numbers, words-append, words-take, words-drop, word-lt, words-turned, words-unsigned, turned-back, signed-back, unsigned-back, run, run-is, rejoined}
 use Rattle.layout.proofs.SettingsKept.{NoNan, Kept, good-rates, settings-back, are-back, settings-fit, settings-after, are-after, words-back}
 
 -- ---- what accounts are kept: those with kept settings. The rest holds of every value of a program.
 pub record KeptTable (t : Table) : Type 0 where
-  pub full : FullTable t
+  pub full : Full (columnsOf t)
   pub count : t .count < 2 ^ 64
   pub symbols : Words (t .symbol)
   pub quantities : Numbers (t .quantity)
@@ -87,7 +89,7 @@ counts-fit k s n c h = (
   ),
 )
 
-columns-fit : (t : Table) → KeptTable t → Words (columnWords t)
+columns-fit : (t : Table) → KeptTable t → Words (columnWords (columnsOf t))
 unfolding columnWords
 columns-fit t k =
     let q : List ℕ = map unsignedOf (t .quantity) in
@@ -104,7 +106,7 @@ account-fit : (a : Account) → KeptAccount a → Words (accountWords a)
 unfolding accountWords
 account-fit a k =
     let n : List ℕ = countWords (a .counters) (a .series) (a .positions .count) in
-    let c : List ℕ = columnWords (a .positions) in (
+    let c : List ℕ = columnWords (columnsOf (a .positions)) in (
       unsigned-lt (a .cash) (k .cash),
       words-append (settingsWords (a .settings)) (n ++ c) (settings-fit (a .settings) (k .settings))
           (words-append n c (counts-fit (a .counters) (a .series) (a .positions .count) (k .counts) (k .positions .count))
@@ -121,26 +123,26 @@ unfolding accountWords settingsWords countWords
 series-back a c = simp (signed-unsigned (a .series .«prev_equity») (c .previous))
 
 -- the columns, each 64 words after the one before it
-record Cut (t : Table) : Type 0 where
-  symbol : take 64 (columnWords t) ≡ map turned (t .symbol)
-  quantity : take 64 (drop 64 (columnWords t)) ≡ map unsignedOf (t .quantity)
-  average : take 64 (drop 128 (columnWords t)) ≡ map unsignedOf (t .«avg_entry_price»)
-  realized : take 64 (drop 192 (columnWords t)) ≡ map unsignedOf (t .«realized_pnl»)
-  total : take 64 (drop 256 (columnWords t)) ≡ map unsignedOf (t .«total_cost»)
+record Cut (c : Cols) : Type 0 where
+  symbol : take 64 (columnWords c) ≡ map turned (c .symbol)
+  quantity : take 64 (drop 64 (columnWords c)) ≡ map unsignedOf (c .quantity)
+  average : take 64 (drop 128 (columnWords c)) ≡ map unsignedOf (c .average)
+  realized : take 64 (drop 192 (columnWords c)) ≡ map unsignedOf (c .realized)
+  total : take 64 (drop 256 (columnWords c)) ≡ map unsignedOf (c .total)
 
-cut : (t : Table) → FullTable t → Cut t
+cut : (c : Cols) → Full c → Cut c
 unfolding columnWords
-cut t f =
-    let s : List ℕ = map turned (t .symbol) in
-    let q : List ℕ = map unsignedOf (t .quantity) in
-    let a : List ℕ = map unsignedOf (t .«avg_entry_price») in
-    let r : List ℕ = map unsignedOf (t .«realized_pnl») in
-    let k : List ℕ = map unsignedOf (t .«total_cost») in
-    let n1 : length s ≡ 64 = length-map (t .symbol) turned ∙ f .symbol in
-    let n2 : length q ≡ 64 = length-map (t .quantity) unsignedOf ∙ f .quantity in
-    let n3 : length a ≡ 64 = length-map (t .«avg_entry_price») unsignedOf ∙ f .average in
-    let n4 : length r ≡ 64 = length-map (t .«realized_pnl») unsignedOf ∙ f .realized in
-    let n5 : length k ≡ 64 = length-map (t .«total_cost») unsignedOf ∙ f .total in
+cut c f =
+    let s : List ℕ = map turned (c .symbol) in
+    let q : List ℕ = map unsignedOf (c .quantity) in
+    let a : List ℕ = map unsignedOf (c .average) in
+    let r : List ℕ = map unsignedOf (c .realized) in
+    let k : List ℕ = map unsignedOf (c .total) in
+    let n1 : length s ≡ 64 = length-map (c .symbol) turned ∙ f .symbol in
+    let n2 : length q ≡ 64 = length-map (c .quantity) unsignedOf ∙ f .quantity in
+    let n3 : length a ≡ 64 = length-map (c .average) unsignedOf ∙ f .average in
+    let n4 : length r ≡ 64 = length-map (c .realized) unsignedOf ∙ f .realized in
+    let n5 : length k ≡ 64 = length-map (c .total) unsignedOf ∙ f .total in
     let all : List ℕ = s ++ (q ++ (a ++ (r ++ k))) in
     let d1 : drop 64 all ≡ q ++ (a ++ (r ++ k)) = drop-at s (q ++ (a ++ (r ++ k))) 64 n1 in
     let d2 : drop 128 all ≡ a ++ (r ++ k) = sym (drop-drop 64 64 all) ∙ ap (drop 64) d1 ∙ drop-at q (a ++ (r ++ k)) 64 n2 in
@@ -158,7 +160,7 @@ table-back : (a : Account) → KeptTable (a .positions) → tableFrom (accountWo
 unfolding tableFrom accountWords settingsWords countWords
 table-back a k =
     let t = a .positions in
-    let c = cut t (k .full) in
+    let c = cut (columnsOf t) (k .full) in
     simp (
       ap (map turned) (c .symbol) ∙ turned-back (t .symbol) (k .symbols),
       ap (map signedOf) (c .quantity) ∙ signed-back (t .quantity) (k .quantities),
@@ -191,21 +193,20 @@ account-back a k =
     )
 
 -- ---- from words to an account and back
-count-words : (ws : List ℕ) → Words ws → countWords (countersOf ws) (seriesOf ws) (getD ws 21 0) ≡ run 9 13 ws
-unfolding countWords
-count-words ws o =
-    simp (
-      unsigned-signed (getD ws 14 0) (word-lt ws 14 o),
-      unsigned-signed (getD ws 16 0) (word-lt ws 16 o),
-      unsigned-signed (getD ws 20 0) (word-lt ws 20 o),
-    )
+abbrev pub seriesWords : Series → List ℕ
+seriesWords s = s .«equity_count» ∷ s .«return_count» ∷ unsignedOf (s .«prev_equity») ∷ []
+
+-- with another series three of the nine words are others
+counted : (s : Series) (ws : List ℕ) → Words ws → countWords (countersOf ws) s (tableFrom ws .count) ≡ sets (run 9 13 ws) 5 (seriesWords s)
+unfolding countWords tableFrom
+counted s ws o = simp (unsigned-signed (getD ws 14 0) (word-lt ws 14 o), unsigned-signed (getD ws 16 0) (word-lt ws 16 o))
 
 -- one column, written back, and the words after it
 number-column : (from next : ℕ) (ws : List ℕ) → Words ws → next ≡ from + 64 → map unsignedOf (numbersAt from ws) ++ drop next ws ≡ drop from ws
 number-column from next ws o e =
     ap (λ (l : List ℕ). l ++ drop next ws) (unsigned-back (take 64 (drop from ws)) (words-take 64 (drop from ws) (words-drop from ws o))) ∙ rejoined 64 from next ws e
 
-column-words : (ws : List ℕ) → Words ws → length ws ≡ 342 → columnWords (tableFrom ws) ≡ drop 22 ws
+column-words : (ws : List ℕ) → Words ws → length ws ≡ 342 → columnWords (columnsOf (tableFrom ws)) ≡ drop 22 ws
 unfolding columnWords tableFrom
 column-words ws o n =
     let s : List ℕ = map turned (symbolsAt 22 ws) in
@@ -228,15 +229,17 @@ joined ws n =
     let s : run 12 1 ws ++ drop 13 ws ≡ drop 1 ws = ap (λ (l : List ℕ). l ++ drop 13 ws) (run-is 12 1 ws (omega arith)) ∙ rejoined 12 1 13 ws refl in
     ap (λ (l : List ℕ). getD ws 0 0 ∷ (run 12 1 ws ++ l)) c ∙ ap (λ (l : List ℕ). getD ws 0 0 ∷ l) s ∙ sym (drop-cons ws 0 0 (omega arith))
 
-counted : (ws : List ℕ) → countWords (countersOf ws) (seriesOf ws) (tableFrom ws .count) ≡ countWords (countersOf ws) (seriesOf ws) (getD ws 21 0)
-unfolding tableFrom
-counted ws = refl
+series-words : (s : Series) (ws : List ℕ) → Words ws → length ws ≡ 342 → areSettings 1 ws ≡ true → accountWords (withSeries s (accountOf ws)) ≡ sets ws 18 (seriesWords s)
+unfolding accountWords accountOf
+series-words s ws o n e =
+    simp (unsigned-signed (getD ws 0 0) (word-lt ws 0 o), words-back 1 ws o e, counted s ws o, column-words ws o n) (ap (λ (l : List ℕ). sets l 18 (seriesWords s)) (joined ws n))
 
 account-words : (ws : List ℕ) → Words ws → length ws ≡ 342 → areSettings 1 ws ≡ true → accountWords (accountOf ws) ≡ ws
-unfolding accountWords accountOf
+unfolding accountOf
 account-words ws o n e =
-    let k : countWords (countersOf ws) (seriesOf ws) (tableFrom ws .count) ≡ run 9 13 ws = counted ws ∙ count-words ws o in
-    simp (unsigned-signed (getD ws 0 0) (word-lt ws 0 o), words-back 1 ws o e, k, column-words ws o n) (joined ws n)
+    series-words (seriesOf ws) ws o n e
+    ∙ ap (λ (l : List ℕ). sets l 18 (seriesWords (seriesOf ws))) (sym (joined ws n))
+    ∙ simp (unsigned-signed (getD ws 20 0) (word-lt ws 20 o)) (joined ws n)
 
 -- ---- bytes
 -- An account that is written is read back as it was.
@@ -248,18 +251,44 @@ account-read-back a k l n =
     let m : length (bytesOf ws) ≡ 2736 = length-bytes ws ∙ omega (arith, length-account a (k .positions .full)) in
     simp (eq-eqb (length l) 2736 n) (simp (eq-eqb (length (bytesOf ws)) 2736 m, w, are-first a ∙ are-back (a .settings) (k .settings), account-back a k))
 
-good-by : (t : Bool) (a : Account) → pick t (gotAccount a) noAccount .good ≡ true → t ≡ true
-good-by true a e = refl
-good-by false a e = e
+good-by : (t : Bool) (a : Account) → pick t (gotAccount a) noAccount .good ≡ t
+good-by true a = refl
+good-by false a = refl
+
+-- Bytes hold an account by two tests.
+pub good-is : (l : List ℕ) → readAccount l .good ≡ both (eqb (length l) 2736) (areSettings 1 (wordsOf l))
+unfolding readAccount
+good-is l = good-by _ _
+
+-- what is known of bytes that hold one
+record Good (l : List ℕ) : Type 0 where
+  long : length l ≡ 2736
+  settings : areSettings 1 (wordsOf l) ≡ true
+  fit : Octets l → Words (wordsOf l)
+  words : length (wordsOf l) ≡ 342
+
+good : (l : List ℕ) → readAccount l .good ≡ true → Good l
+good l g =
+    let b = both-true _ _ (sym (good-is l) ∙ g) in
+    let n : length l ≡ 2736 = eqb-true (length l) 2736 (b .0) in
+    record { long = n; settings = b .1; fit = λ o. words-fit (length l / 8) l o (omega arith); words = length-words (length l / 8) l ∙ omega arith }
+
+pub good-long : (l : List ℕ) → readAccount l .good ≡ true → length l ≡ 2736
+good-long l g = good l g .long
 
 -- Bytes that hold an account, read and written, are as they were.
 pub account-written-back : (l : List ℕ) → Octets l → readAccount l .good ≡ true → (m : List ℕ) → length m ≡ 2736 → writtenAccount (readAccount l .account) m ≡ l
 unfolding readAccount writtenAccount
 account-written-back l o g m k =
-    let ws : List ℕ = wordsOf l in
-    let b = both-true _ _ (good-by _ _ g) in
-    let n : length l ≡ 2736 = eqb-true (length l) 2736 (b .0) in
+    let d = good l g in
+    let n = d .long in
     let z : length l / 8 ≡ 342 = omega arith in
-    let f : Words ws = words-fit (length l / 8) l o (omega arith) in
-    let c : length ws ≡ 342 = length-words (length l / 8) l ∙ z in
-    simp (eq-eqb (length m) 2736 k, eq-eqb (length l) 2736 n, b .1) (ap bytesOf (account-words ws f c (b .1)) ∙ ap (λ (i : ℕ). bytesOf (wordsIn i l)) z ∙ bytes-words 342 l o n)
+    simp (eq-eqb (length m) 2736 k, eq-eqb (length l) 2736 n, d .settings) (ap bytesOf (account-words (wordsOf l) (d .fit o) (d .words) (d .settings)) ∙ ap (λ (i : ℕ). bytesOf (wordsIn i l)) z ∙ bytes-words 342 l o n)
+
+-- Where three words of an account's bytes are those of another series, the bytes are those of the account with it.
+pub series-written : (s : Series) (l m : List ℕ) → Octets l → Octets m → readAccount l .good ≡ true → length m ≡ length l → wordsOf m ≡ sets (wordsOf l) 18 (seriesWords s) → m ≡ writtenSeries s l
+unfolding writtenSeries writtenAccount
+series-written s l m o p g k h =
+    let d = good l g in
+    let n = d .long in
+    simp (g, eq-eqb (length l) 2736 n) (bytes-are 342 m _ p (k ∙ n) (h ∙ sym (series-words s (wordsOf l) (d .fit o) (d .words) (d .settings))))

@@ -4,3 +4,4 @@ pub mod Writing
 pub mod Lists
 pub mod SettingsKept
 pub mod AccountKept
+pub mod Parts

@@ -5,7 +5,7 @@ use native.Mathlib.Omega.{arith}
 use mathlib.Core.List.{List, [], _∷_, _++_, map, append-nil}
 use lib.ListN.{length, set, length-append, length-map, drop-of-length-le}
 use lib.Seq.{sets, sets-eq}
-use Rattle.table.specs.declared.table.Table.{Table}
+use Rattle.table.specs.Rows.{Cols, Full, columnsOf}
 use Rattle.account.specs.declared.settings.Settings.{Settings}
 use Rattle.account.specs.declared.account.Account.{Account}
 use Rattle.account.specs.declared.account.Counters.{Counters}
@@ -35,36 +35,29 @@ bytes-are n l ws o e h =
     sym (bytes-words n l o e) ∙ ap (λ (k : ℕ). bytesOf (wordsIn k l)) (sym z) ∙ ap bytesOf h
 
 -- ---- the account
-pub record FullTable (t : Table) : Type 0 where
-  pub symbol : length (t .symbol) ≡ 64
-  pub quantity : length (t .quantity) ≡ 64
-  pub average : length (t .«avg_entry_price») ≡ 64
-  pub realized : length (t .«realized_pnl») ≡ 64
-  pub total : length (t .«total_cost») ≡ 64
-
-pub length-columns : (t : Table) → FullTable t → length (columnWords t) ≡ 320
+pub length-columns : (c : Cols) → Full c → length (columnWords c) ≡ 320
 unfolding columnWords
-length-columns t f = simp (length-append, length-map, f .symbol, f .quantity, f .average, f .realized, f .total)
+length-columns c f = simp (length-append, length-map, f .symbol, f .quantity, f .average, f .realized, f .total)
 
 -- column after column
-pub columns-put : (t : Table) → FullTable t → (w0 w1 w2 w3 w4 w5 : List ℕ)
-    → w1 ≡ sets w0 22 (map turned (t .symbol))
-    → w2 ≡ sets w1 86 (map unsignedOf (t .quantity))
-    → w3 ≡ sets w2 150 (map unsignedOf (t .«avg_entry_price»))
-    → w4 ≡ sets w3 214 (map unsignedOf (t .«realized_pnl»))
-    → w5 ≡ sets w4 278 (map unsignedOf (t .«total_cost»))
-    → w5 ≡ sets w0 22 (columnWords t)
+pub columns-put : (c : Cols) → Full c → (w0 w1 w2 w3 w4 w5 : List ℕ)
+    → w1 ≡ sets w0 22 (map turned (c .symbol))
+    → w2 ≡ sets w1 86 (map unsignedOf (c .quantity))
+    → w3 ≡ sets w2 150 (map unsignedOf (c .average))
+    → w4 ≡ sets w3 214 (map unsignedOf (c .realized))
+    → w5 ≡ sets w4 278 (map unsignedOf (c .total))
+    → w5 ≡ sets w0 22 (columnWords c)
 unfolding columnWords
-columns-put t f w0 w1 w2 w3 w4 w5 e1 e2 e3 e4 e5 =
-    let s : List ℕ = map turned (t .symbol) in
-    let q : List ℕ = map unsignedOf (t .quantity) in
-    let a : List ℕ = map unsignedOf (t .«avg_entry_price») in
-    let r : List ℕ = map unsignedOf (t .«realized_pnl») in
-    let k : List ℕ = map unsignedOf (t .«total_cost») in
-    let n1 : length s ≡ 64 = length-map (t .symbol) turned ∙ f .symbol in
-    let n2 : length q ≡ 64 = length-map (t .quantity) unsignedOf ∙ f .quantity in
-    let n3 : length a ≡ 64 = length-map (t .«avg_entry_price») unsignedOf ∙ f .average in
-    let n4 : length r ≡ 64 = length-map (t .«realized_pnl») unsignedOf ∙ f .realized in
+columns-put c f w0 w1 w2 w3 w4 w5 e1 e2 e3 e4 e5 =
+    let s : List ℕ = map turned (c .symbol) in
+    let q : List ℕ = map unsignedOf (c .quantity) in
+    let a : List ℕ = map unsignedOf (c .average) in
+    let r : List ℕ = map unsignedOf (c .realized) in
+    let k : List ℕ = map unsignedOf (c .total) in
+    let n1 : length s ≡ 64 = length-map (c .symbol) turned ∙ f .symbol in
+    let n2 : length q ≡ 64 = length-map (c .quantity) unsignedOf ∙ f .quantity in
+    let n3 : length a ≡ 64 = length-map (c .average) unsignedOf ∙ f .average in
+    let n4 : length r ≡ 64 = length-map (c .realized) unsignedOf ∙ f .realized in
     let d4 : w5 ≡ sets w3 214 (r ++ k) = e5 ∙ ap (λ (w : List ℕ). sets w 278 k) e4 ∙ sets-append w3 214 r k 278 (omega arith) in
     let d3 : w5 ≡ sets w2 150 (a ++ (r ++ k)) = d4 ∙ ap (λ (w : List ℕ). sets w 214 (r ++ k)) e3 ∙ sets-append w2 150 a (r ++ k) 214 (omega arith) in
     let d2 : w5 ≡ sets w1 86 (q ++ (a ++ (r ++ k))) = d3 ∙ ap (λ (w : List ℕ). sets w 150 (a ++ (r ++ k))) e2 ∙ sets-append w1 86 q (a ++ (r ++ k)) 150 (omega arith) in
@@ -78,25 +71,25 @@ pub length-counts : (k : Counters) (s : Series) (n : ℕ) → length (countWords
 unfolding countWords
 length-counts k s n = refl
 
-pub length-account : (a : Account) → FullTable (a .positions) → length (accountWords a) ≡ 342
+pub length-account : (a : Account) → Full (columnsOf (a .positions)) → length (accountWords a) ≡ 342
 unfolding accountWords
-length-account a f = simp (length-append, length-settings (a .settings), length-counts (a .counters) (a .series) (a .positions .count), length-columns (a .positions) f)
+length-account a f = simp (length-append, length-settings (a .settings), length-counts (a .counters) (a .series) (a .positions .count), length-columns (columnsOf (a .positions)) f)
 
-whole : (a : Account) (w : List ℕ) → sets (set w 0 (unsignedOf (a .cash))) 1 (settingsWords (a .settings) ++ (countWords (a .counters) (a .series) (a .positions .count) ++ columnWords (a .positions))) ≡ sets w 0 (accountWords a)
+whole : (a : Account) (w : List ℕ) → sets (set w 0 (unsignedOf (a .cash))) 1 (settingsWords (a .settings) ++ (countWords (a .counters) (a .series) (a .positions .count) ++ columnWords (columnsOf (a .positions)))) ≡ sets w 0 (accountWords a)
 unfolding accountWords
 whole a w = refl
 
 -- cash, settings, counts and columns
-pub account-put : (a : Account) → FullTable (a .positions) → (w0 w1 w2 w3 w4 : List ℕ) → length w0 ≡ 342
+pub account-put : (a : Account) → Full (columnsOf (a .positions)) → (w0 w1 w2 w3 w4 : List ℕ) → length w0 ≡ 342
     → w1 ≡ set w0 0 (unsignedOf (a .cash))
     → w2 ≡ sets w1 1 (settingsWords (a .settings))
     → w3 ≡ sets w2 13 (countWords (a .counters) (a .series) (a .positions .count))
-    → w4 ≡ sets w3 22 (columnWords (a .positions))
+    → w4 ≡ sets w3 22 (columnWords (columnsOf (a .positions)))
     → w4 ≡ accountWords a
 account-put a f w0 w1 w2 w3 w4 n e1 e2 e3 e4 =
     let s : List ℕ = settingsWords (a .settings) in
     let k : List ℕ = countWords (a .counters) (a .series) (a .positions .count) in
-    let c : List ℕ = columnWords (a .positions) in
+    let c : List ℕ = columnWords (columnsOf (a .positions)) in
     let d3 : w4 ≡ sets w2 13 (k ++ c) = e4 ∙ ap (λ (w : List ℕ). sets w 22 c) e3 ∙ sets-append w2 13 k c 22 (omega (arith, length-counts (a .counters) (a .series) (a .positions .count))) in
     let d2 : w4 ≡ sets w1 1 (s ++ (k ++ c)) = d3 ∙ ap (λ (w : List ℕ). sets w 13 (k ++ c)) e2 ∙ sets-append w1 1 s (k ++ c) 13 (omega (arith, length-settings (a .settings))) in
     let d1 : w4 ≡ sets w0 0 (accountWords a) = d2 ∙ ap (λ (w : List ℕ). sets w 1 (s ++ (k ++ c))) e1 ∙ whole a w0 in

@@ -8,10 +8,12 @@ use lib.IntN.{ℤ}
 use Rattle.octets.specs.Words.{wordsOf, bytesOf, turned}
 use Rattle.octets.specs.Numbers.{signedOf, unsignedOf}
 use Rattle.table.specs.Keyed.{pick, both}
+use Rattle.table.specs.Rows.{Cols, columnsOf}
 use Rattle.table.specs.declared.table.Table.{Table}
 use Rattle.account.specs.declared.account.Account.{Account}
 use Rattle.account.specs.declared.account.Counters.{Counters}
 use Rattle.account.specs.declared.account.Series.{Series}
+use Rattle.account.specs.Account.{withSeries}
 use Rattle.account.specs.Calls.{series, zeroAccount}
 use Rattle.layout.specs.declared.account_words.ReadAccount.{ReadAccount}
 use Rattle.layout.specs.Settings.{settingsWords, settingsAt, areSettings}
@@ -49,13 +51,13 @@ symbolsAt from ws = map turned (take 64 (drop from ws))
 abbrev pub numbersAt : ℕ → List ℕ → List ℤ
 numbersAt from ws = map signedOf (take 64 (drop from ws))
 
-unfoldable pub columnWords : Table → List ℕ
-columnWords t =
-    map turned (t .symbol)
-    ++ (map unsignedOf (t .quantity)
-    ++ (map unsignedOf (t .«avg_entry_price»)
-    ++ (map unsignedOf (t .«realized_pnl»)
-    ++ map unsignedOf (t .«total_cost»))))
+unfoldable pub columnWords : Cols → List ℕ
+columnWords c =
+    map turned (c .symbol)
+    ++ (map unsignedOf (c .quantity)
+    ++ (map unsignedOf (c .average)
+    ++ (map unsignedOf (c .realized)
+    ++ map unsignedOf (c .total))))
 
 unfoldable pub tableFrom : List ℕ → Table
 tableFrom ws = record {
@@ -69,7 +71,7 @@ tableFrom ws = record {
 
 -- ---- the account
 unfoldable pub accountWords : Account → List ℕ
-accountWords a = unsignedOf (a .cash) ∷ (settingsWords (a .settings) ++ (countWords (a .counters) (a .series) (a .positions .count) ++ columnWords (a .positions)))
+accountWords a = unsignedOf (a .cash) ∷ (settingsWords (a .settings) ++ (countWords (a .counters) (a .series) (a .positions .count) ++ columnWords (columnsOf (a .positions))))
 
 unfoldable pub accountOf : List ℕ → Account
 accountOf ws = record {
@@ -94,3 +96,11 @@ readAccount l = pick (both (eqb (length l) 2736) (areSettings 1 (wordsOf l))) (g
 -- as found where the length is another
 unfoldable pub writtenAccount : Account → List ℕ → List ℕ
 writtenAccount a l = pick (eqb (length l) 2736) (bytesOf (accountWords a)) l
+
+-- the columns of the account; as found where the length is another
+unfoldable pub readColumns : List ℕ → Cols → Cols
+readColumns l c = pick (eqb (length l) 2736) (columnsOf (accountOf (wordsOf l) .positions)) c
+
+-- an account's bytes with another series; as found where they hold no account
+unfoldable pub writtenSeries : Series → List ℕ → List ℕ
+writtenSeries s l = pick (readAccount l .good) (writtenAccount (withSeries s (accountOf (wordsOf l))) l) l

@@ -1,23 +1,22 @@
 // An account as 342 words: cash, twelve of settings, nine of counters, series and count, and five columns of 64.
 ghost use mathlib.Core.Path.{_≡_};
-ghost use Prim.Native.Nat.{_≤_, _/_};
 ghost use lib.ListN.{length};
-ghost use lib.Seq.{sets};
 ghost use Rattle.octets.specs.Words.{wordsOf};
+ghost use Rattle.table.specs.Rows.{cols};
+ghost use Rattle.account.specs.Account.{accountWith, ledgerOf};
 ghost use Rattle.account.specs.Calls.{zeroAccount};
-ghost use Rattle.layout.specs.Account.{countWords, columnWords, countersOf, seriesOf, tableFrom, accountOf, readAccount, writtenAccount};
+ghost use Rattle.layout.specs.Account.{countWords, countersOf, seriesOf, accountOf, readAccount, writtenAccount, writtenSeries};
+use crate::columns::put_columns;
+use crate::columns::read_columns;
 use crate::run::number_at;
-use crate::run::numbers_at;
-use crate::run::put_numbers;
-use crate::run::put_symbols;
 use crate::run::put_words;
-use crate::run::symbols_at;
 use crate::setting_words::are_settings;
 use crate::setting_words::settings_at;
 use crate::setting_words::settings_words;
 use crate::setting_words::zero_settings;
 use account::Account;
 use account::Counters;
+use account::Ledger;
 use account::Series;
 use octets::put_word;
 use octets::unsigned;
@@ -54,38 +53,55 @@ fn series_of(bytes: &[u8]) -> Series
     }
 }
 
-// Words 21 to 341: the count, and five columns.
-fn table_of(bytes: &[u8]) -> Table
-    requires { ⌜ 342 ≤ length (now bytes) / 8 ⌝ }
-    ensures { λ r. ⌜ r ≡ tableFrom (wordsOf (now (bytes .entry))) ⌝ }
-{
-    let count = word_at(bytes, 21) as usize;
-    let symbol = symbols_at(bytes, 22);
-    let quantity = numbers_at(bytes, 86);
-    let avg_entry_price = numbers_at(bytes, 150);
-    let realized_pnl = numbers_at(bytes, 214);
-    let total_cost = numbers_at(bytes, 278);
-    Table {
-        count,
-        symbol,
-        quantity,
-        avg_entry_price,
-        realized_pnl,
-        total_cost,
-    }
-}
-
-fn account_of(bytes: &[u8]) -> Account
-    requires { ⌜ 342 ≤ length (now bytes) / 8 ⌝ }
-    ensures { λ r. ⌜ r ≡ accountOf (wordsOf (now (bytes .entry))) ⌝ }
+// The account of 2,736 bytes but for its columns; of other bytes, what they have of its words, and 0 for the rest.
+pub fn read_ledger(bytes: &[u8]) -> Ledger
+    ensures { λ r. ⌜ r ≡ ledgerOf (accountOf (wordsOf (now (bytes .entry)))) ⌝ }
 {
     let cash = number_at(bytes, 0);
     let settings = settings_at(bytes, 1);
     let counters = counters_of(bytes);
     let series = series_of(bytes);
-    let positions = table_of(bytes);
-    Account {
+    let count = word_at(bytes, 21) as usize;
+    Ledger {
         cash,
+        settings,
+        counters,
+        series,
+        count,
+    }
+}
+
+fn account_of(bytes: &[u8]) -> Account
+    requires { ⌜ length (now bytes) ≡ 2736 ⌝ }
+    ensures { λ r. ⌜ r ≡ accountOf (wordsOf (now (bytes .entry))) ⌝ }
+{
+    let mut symbol = [0u64; 64];
+    let mut quantity = [0i64; 64];
+    let mut avg_entry_price = [0i64; 64];
+    let mut realized_pnl = [0i64; 64];
+    let mut total_cost = [0i64; 64];
+    read_columns(
+        bytes,
+        &mut symbol,
+        &mut quantity,
+        &mut avg_entry_price,
+        &mut realized_pnl,
+        &mut total_cost,
+    );
+    let h = read_ledger(bytes);
+    let settings = h.settings;
+    let counters = h.counters;
+    let series = h.series;
+    let positions = Table {
+        count: h.count,
+        symbol,
+        quantity,
+        avg_entry_price,
+        realized_pnl,
+        total_cost,
+    };
+    Account {
+        cash: h.cash,
         settings,
         counters,
         series,
@@ -136,47 +152,89 @@ fn count_words(k: Counters, s: Series, n: usize) -> [u64; 9]
     ]
 }
 
-// Words 22 to 341: five columns.
-fn put_columns(bytes: &mut [u8], t: Table)
-    ensures { λ _. ⌜ wordsOf (now (bytes .exit)) ≡ sets (wordsOf (now (bytes .entry))) 22 (columnWords t) ⌝ }
+// Whether bytes hold an account: 2,736 of them, with words of settings.
+pub fn is_account(bytes: &[u8]) -> bool
+    ensures { λ r. ⌜ r ≡ readAccount (now (bytes .entry)) .good ⌝ }
 {
-    put_symbols(bytes, 22, &t.symbol[..]);
-    put_numbers(bytes, 86, &t.quantity[..]);
-    put_numbers(bytes, 150, &t.avg_entry_price[..]);
-    put_numbers(bytes, 214, &t.realized_pnl[..]);
-    put_numbers(bytes, 278, &t.total_cost[..]);
+    if bytes.len() == 2736 {
+        return are_settings(bytes, 1);
+    }
+    false
 }
 
 // The account that 2,736 bytes hold. Whether it is sound is for the calls to refuse.
 pub fn read_account(bytes: &[u8]) -> ReadAccount
     ensures { λ r. ⌜ r ≡ readAccount (now (bytes .entry)) ⌝ }
 {
-    if bytes.len() == 2736 {
-        if are_settings(bytes, 1) {
-            return ReadAccount {
-                good: true,
-                account: account_of(bytes),
-            };
-        }
+    if !is_account(bytes) {
+        return ReadAccount {
+            good: false,
+            account: zero_account(),
+        };
     }
     ReadAccount {
-        good: false,
-        account: zero_account(),
+        good: true,
+        account: account_of(bytes),
     }
+}
+
+// The account of a ledger and five columns into 2,736 bytes. Nothing is written where the length is another.
+pub fn write_ledger<'a>(
+    h: Ledger,
+    symbol: &'a [u64; 64],
+    quantity: &'a [i64; 64],
+    average: &'a [i64; 64],
+    realized: &'a [i64; 64],
+    total: &'a [i64; 64],
+    bytes: &mut [u8],
+)
+    ensures { λ _. ⌜ now (bytes .exit)
+        ≡ writtenAccount (accountWith h (cols (now (symbol .entry)) (now (quantity .entry)) (now (average .entry)) (now (realized .entry)) (now (total .entry)))) (now (bytes .entry)) ⌝ }
+{
+    if bytes.len() != 2736 {
+        return;
+    }
+    put_word(bytes, 0, unsigned(h.cash));
+    let settings = settings_words(h.settings);
+    put_words(bytes, 1, &settings[..]);
+    let counts = count_words(h.counters, h.series, h.count);
+    put_words(bytes, 13, &counts[..]);
+    put_columns(bytes, symbol, quantity, average, realized, total);
 }
 
 // The account into 2,736 bytes. Nothing is written where the length is another.
 pub fn write_account(a: Account, bytes: &mut [u8])
     ensures { λ _. ⌜ now (bytes .exit) ≡ writtenAccount a (now (bytes .entry)) ⌝ }
 {
-    if bytes.len() != 2736 {
+    let settings = a.settings;
+    let counters = a.counters;
+    let series = a.series;
+    let t = a.positions;
+    let h = Ledger {
+        cash: a.cash,
+        settings,
+        counters,
+        series,
+        count: t.count,
+    };
+    write_ledger(
+        h,
+        &t.symbol,
+        &t.quantity,
+        &t.avg_entry_price,
+        &t.realized_pnl,
+        &t.total_cost,
+        bytes,
+    );
+}
+
+// A series into the bytes of an account, whose other words stay. Nothing is written where they hold none.
+pub fn write_series(s: Series, bytes: &mut [u8])
+    ensures { λ _. ⌜ now (bytes .exit) ≡ writtenSeries s (now (bytes .entry)) ⌝ }
+{
+    if !is_account(bytes) {
         return;
     }
-    let t = a.positions;
-    put_word(bytes, 0, unsigned(a.cash));
-    let settings = settings_words(a.settings);
-    put_words(bytes, 1, &settings[..]);
-    let counts = count_words(a.counters, a.series, t.count);
-    put_words(bytes, 13, &counts[..]);
-    put_columns(bytes, t);
+    let words = [s.equity_count, s.return_count, unsigned(s.prev_equity)];
+    put_words(bytes, 18, &words[..]);
 }

@@ -1,11 +1,17 @@
 // Accounts and settings as the bytes that the C interface is lent.
 mod account_words;
+mod columns;
 mod run;
 mod setting_words;
 
 pub use account_words::ReadAccount;
+pub use account_words::is_account;
 pub use account_words::read_account;
+pub use account_words::read_ledger;
 pub use account_words::write_account;
+pub use account_words::write_ledger;
+pub use account_words::write_series;
+pub use columns::read_columns;
 pub use setting_words::ReadSettings;
 pub use setting_words::read_settings;
 pub use setting_words::write_settings;

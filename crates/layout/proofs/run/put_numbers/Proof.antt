@@ -16,24 +16,27 @@ use Rattle.layout.proofs.run.put_numbers.Statement.{statement}
 use Rattle.layout.proofs.run.put_numbers.Tie as tie
 
 abbrev Inv-loop : tie.InvT-loop
-Inv-loop bytes₀ from column i₀ bytes i = (i ≤ length column) × (length bytes ≡ length bytes₀) × (sets (wordsOf bytes) (from + i) (drop i (map unsignedOf column)) ≡ sets (wordsOf bytes₀) from (map unsignedOf column))
+Inv-loop bytes₀ from column i₀ bytes i = (i ≤ 64) × (length column ≡ 64) × (length bytes ≡ length bytes₀) × (sets (wordsOf bytes) (from + i) (drop i (map unsignedOf column)) ≡ sets (wordsOf bytes₀) from (map unsignedOf column))
 
 abbrev μ-loop : tie.MeasureT-loop
-μ-loop bytes₀ from column i₀ bytes i = length column - i
+μ-loop bytes₀ from column i₀ bytes i = 64 - i
+
+whole-numbers-requires : tie.Need-whole-numbers-requires Inv-loop μ-loop
+whole-numbers-requires c κs = search needs
 
 loop-holds : tie.Need-loop-holds Inv-loop μ-loop
 loop-holds c =
-    let s = c .before .args in
-    (omega arith, refl, write-starts (s .bytes .now) (map unsignedOf (s .column .now)) (s .from))
+    let s = c .before .before .before .args in
+    (omega arith, c .whole-numbers .ensures, refl, write-starts (s .bytes .now) (map unsignedOf (s .column .now)) (s .from))
+
+mul-n : tie.Need-mul-n Inv-loop μ-loop
+mul-n c = search needs
+
+element-copy-out-n : tie.Need-element-copy-out-n Inv-loop μ-loop
+element-copy-out-n c = search needs
 
 add-put-word : tie.Need-add-put-word Inv-loop μ-loop
 add-put-word c = search needs
-
-mul-unsigned : tie.Need-mul-unsigned Inv-loop μ-loop
-mul-unsigned c = search needs
-
-shared-slice-copy-out-unsigned : tie.Need-shared-slice-copy-out-unsigned Inv-loop μ-loop
-shared-slice-copy-out-unsigned c = search needs
 
 unsigned-requires : tie.Need-unsigned-requires Inv-loop μ-loop
 unsigned-requires c κs = search needs
@@ -51,8 +54,8 @@ loop-again : tie.Need-loop-again Inv-loop μ-loop
 loop-again c =
     let p = c .before .before in
     let l = p .before .before .before .before .before in
-    let s = l .before .before .args in
-    (omega arith, omega (arith, p .put-word .kept .0), write-on (l .loop .bytes) (p .put-word .last .0) (map unsignedOf (s .column .now)) (s .from) (l .loop .i) (p .before .unsigned .result) (simp length-map (omega arith)) (p .put-word .ensures) (p .before .unsigned .ensures ∙ ap unsignedOf (toZ-ofZ w64 (getD (s .column .now) (l .loop .i) (pos 0)) (search needs)) ∙ sym (List·getD-map unsignedOf (s .column .now) (l .loop .i) (pos 0))) (p .before .unsigned .ok) ∙ l .loop .inv .2)
+    let s = l .before .before .before .before .args in
+    (omega arith, l .loop .inv .1, omega (arith, p .put-word .kept .0), write-on (l .loop .bytes) (p .put-word .last .0) (map unsignedOf (s .column .now)) (s .from) (l .loop .i) (p .before .unsigned .result) (simp length-map (omega arith)) (p .put-word .ensures) (p .before .unsigned .ensures ∙ ap unsignedOf (toZ-ofZ w64 (getD (s .column .now) (l .loop .i) (pos 0)) (search needs)) ∙ sym (List·getD-map unsignedOf (s .column .now) (l .loop .i) (pos 0))) (p .before .unsigned .ok) ∙ l .loop .inv .3)
 
 same-length : tie.Need-same-length Inv-loop μ-loop
 same-length c = search needs
@@ -60,8 +63,8 @@ same-length c = search needs
 returns : tie.Need-returns Inv-loop μ-loop
 returns c =
     let l = c .before in
-    let s = l .before .before .args in
-    write-ends (l .loop .bytes) (map unsignedOf (s .column .now)) _ _ (l .loop .i) (simp length-map (omega arith)) (l .loop .inv .2)
+    let s = l .before .before .before .before .args in
+    (l .loop .inv .1, write-ends (l .loop .bytes) (map unsignedOf (s .column .now)) _ _ (l .loop .i) (simp length-map (omega arith)) (l .loop .inv .3))
 
 pub put-numbers-spec : {M : Type 1} → statement M
 put-numbers-spec =
@@ -69,10 +72,11 @@ put-numbers-spec =
     (tie.spec
     Inv-loop
     μ-loop
+    whole-numbers-requires
     loop-holds
+    mul-n
+    element-copy-out-n
     add-put-word
-    mul-unsigned
-    shared-slice-copy-out-unsigned
     unsigned-requires
     put-word-requires
     add-i

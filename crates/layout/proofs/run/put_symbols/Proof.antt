@@ -13,15 +13,18 @@ use Rattle.layout.proofs.run.put_symbols.Statement.{statement}
 use Rattle.layout.proofs.run.put_symbols.Tie as tie
 
 abbrev Inv-loop : tie.InvT-loop
-Inv-loop bytes₀ from column i₀ bytes i = (i ≤ length column) × (length bytes ≡ length bytes₀) × (sets (wordsOf bytes) (from + i) (drop i (map turned column)) ≡ sets (wordsOf bytes₀) from (map turned column))
+Inv-loop bytes₀ from column i₀ bytes i = (i ≤ 64) × (length column ≡ 64) × (length bytes ≡ length bytes₀) × (sets (wordsOf bytes) (from + i) (drop i (map turned column)) ≡ sets (wordsOf bytes₀) from (map turned column))
 
 abbrev μ-loop : tie.MeasureT-loop
-μ-loop bytes₀ from column i₀ bytes i = length column - i
+μ-loop bytes₀ from column i₀ bytes i = 64 - i
+
+whole-symbols-requires : tie.Need-whole-symbols-requires Inv-loop μ-loop
+whole-symbols-requires c κs = search needs
 
 loop-holds : tie.Need-loop-holds Inv-loop μ-loop
 loop-holds c =
-    let s = c .before .before .args in
-    (omega arith, refl, write-starts (s .bytes .now) (map turned (s .column .now)) (s .from))
+    let s = c .before .before .before .args in
+    (omega arith, c .whole-symbols .ensures, refl, write-starts (s .bytes .now) (map turned (s .column .now)) (s .from))
 
 add-put-symbol : tie.Need-add-put-symbol Inv-loop μ-loop
 add-put-symbol c = search needs
@@ -29,8 +32,8 @@ add-put-symbol c = search needs
 mul-put-symbol : tie.Need-mul-put-symbol Inv-loop μ-loop
 mul-put-symbol c = search needs
 
-shared-slice-read-put-symbol : tie.Need-shared-slice-read-put-symbol Inv-loop μ-loop
-shared-slice-read-put-symbol c = search needs
+element-copy-out-put-symbol : tie.Need-element-copy-out-put-symbol Inv-loop μ-loop
+element-copy-out-put-symbol c = search needs
 
 put-symbol-requires : tie.Need-put-symbol-requires Inv-loop μ-loop
 put-symbol-requires c κs = search needs
@@ -46,8 +49,8 @@ unfolding turned
 loop-again c =
     let p = c .before .before in
     let l = p .before .before .before .before in
-    let s = l .before .before .before .args in
-    (omega arith, omega (arith, p .put-symbol .kept .0), write-on (l .loop .bytes) (p .put-symbol .last .0) (map turned (s .column .now)) (s .from) (l .loop .i) (turned (getD (s .column .now) (l .loop .i) 0)) (simp length-map (omega arith)) (p .put-symbol .ensures) (sym (List·getD-map turned (s .column .now) (l .loop .i) 0)) (turned-lt (getD (s .column .now) (l .loop .i) 0)) ∙ l .loop .inv .2)
+    let s = l .before .before .before .before .args in
+    (omega arith, l .loop .inv .1, omega (arith, p .put-symbol .kept .0), write-on (l .loop .bytes) (p .put-symbol .last .0) (map turned (s .column .now)) (s .from) (l .loop .i) (turned (getD (s .column .now) (l .loop .i) 0)) (simp length-map (omega arith)) (p .put-symbol .ensures) (sym (List·getD-map turned (s .column .now) (l .loop .i) 0)) (turned-lt (getD (s .column .now) (l .loop .i) 0)) ∙ l .loop .inv .3)
 
 same-length : tie.Need-same-length Inv-loop μ-loop
 same-length c = search needs
@@ -55,8 +58,8 @@ same-length c = search needs
 returns : tie.Need-returns Inv-loop μ-loop
 returns c =
     let l = c .before in
-    let s = l .before .before .before .args in
-    write-ends (l .loop .bytes) (map turned (s .column .now)) _ _ (l .loop .i) (simp length-map (omega arith)) (l .loop .inv .2)
+    let s = l .before .before .before .before .args in
+    (l .loop .inv .1, write-ends (l .loop .bytes) (map turned (s .column .now)) _ _ (l .loop .i) (simp length-map (omega arith)) (l .loop .inv .3))
 
 pub put-symbols-spec : {M : Type 1} → statement M
 put-symbols-spec =
@@ -64,10 +67,11 @@ put-symbols-spec =
     (tie.spec
     Inv-loop
     μ-loop
+    whole-symbols-requires
     loop-holds
     add-put-symbol
     mul-put-symbol
-    shared-slice-read-put-symbol
+    element-copy-out-put-symbol
     put-symbol-requires
     add-i
     loop-less

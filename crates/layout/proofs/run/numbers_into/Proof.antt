@@ -13,8 +13,8 @@ use Rattle.octets.specs.Numbers.{signedOf}
 use Rattle.octets.proofs.Words.{length-words}
 use Rattle.layout.specs.Account.{numbersAt}
 use Rattle.layout.proofs.Runs.{read-on, read-all, at-run, length-run}
-use Rattle.layout.proofs.run.numbers_of.Statement.{statement}
-use Rattle.layout.proofs.run.numbers_of.Tie as tie
+use Rattle.layout.proofs.run.numbers_into.Statement.{statement}
+use Rattle.layout.proofs.run.numbers_into.Tie as tie
 
 abbrev Inv-loop : tie.InvT-loop
 Inv-loop bytes from column₀ i₀ column i = (i ≤ 64) × (length column ≡ 64) × (take i column ≡ take i (numbersAt from (wordsOf bytes)))
@@ -22,8 +22,11 @@ Inv-loop bytes from column₀ i₀ column i = (i ≤ 64) × (length column ≡ 6
 abbrev μ-loop : tie.MeasureT-loop
 μ-loop bytes from column₀ i₀ column i = 64 - i
 
+whole-numbers-requires : tie.Need-whole-numbers-requires Inv-loop μ-loop
+whole-numbers-requires c κs = search needs
+
 loop-holds : tie.Need-loop-holds Inv-loop μ-loop
-loop-holds c = (omega arith, refl, refl)
+loop-holds c = (omega arith, c .whole-numbers .ensures, refl)
 
 add-number-at : tie.Need-add-number-at Inv-loop μ-loop
 add-number-at c = search needs
@@ -31,11 +34,11 @@ add-number-at c = search needs
 number-at-requires : tie.Need-number-at-requires Inv-loop μ-loop
 number-at-requires c κs = search needs
 
-mul-column : tie.Need-mul-column Inv-loop μ-loop
-mul-column c = search needs
+mul-t10 : tie.Need-mul-t10 Inv-loop μ-loop
+mul-t10 c = search needs
 
-array-set-from-column : tie.Need-array-set-from-column Inv-loop μ-loop
-array-set-from-column c = search needs
+element-set-from-column : tie.Need-element-set-from-column Inv-loop μ-loop
+element-set-from-column c = search needs
 
 add-i : tie.Need-add-i Inv-loop μ-loop
 add-i c = search needs
@@ -46,7 +49,7 @@ loop-less c = search needs
 loop-again : tie.Need-loop-again Inv-loop μ-loop
 loop-again c =
     let l = c .before .before in
-    let s = l .before .before .args in
+    let s = l .before .before .before .before .args in
     let ws = wordsOf (s .bytes .now) in
     let n : length (numbersAt (s .from) ws) ≡ 64 = length-run signedOf 64 (s .from) ws (simp length-words (omega arith)) in
     let i = l .loop .i in
@@ -57,21 +60,22 @@ loop-again c =
 returns : tie.Need-returns Inv-loop μ-loop
 returns c =
     let l = c .before in
-    let s = l .before .before .args in
+    let s = l .before .before .before .before .args in
     let ws = wordsOf (s .bytes .now) in
     read-all (l .loop .column) (numbersAt (s .from) ws) 64 (l .loop .i) (l .loop .inv .1) (length-run signedOf 64 (s .from) ws (simp length-words (omega arith))) (omega arith) (l .loop .inv .2)
 
-pub numbers-of-spec : {M : Type 1} → statement M
-numbers-of-spec =
+pub numbers-into-spec : {M : Type 1} → statement M
+numbers-into-spec =
     tie.close
     (tie.spec
     Inv-loop
     μ-loop
+    whole-numbers-requires
     loop-holds
     add-number-at
     number-at-requires
-    mul-column
-    array-set-from-column
+    mul-t10
+    element-set-from-column
     add-i
     loop-less
     loop-again

@@ -8,8 +8,8 @@ use Rattle.octets.specs.Words.{wordsOf, turned}
 use Rattle.octets.proofs.Words.{length-words}
 use Rattle.layout.specs.Account.{symbolsAt}
 use Rattle.layout.proofs.Runs.{read-on, read-all, at-run, length-run}
-use Rattle.layout.proofs.run.symbols_of.Statement.{statement}
-use Rattle.layout.proofs.run.symbols_of.Tie as tie
+use Rattle.layout.proofs.run.symbols_into.Statement.{statement}
+use Rattle.layout.proofs.run.symbols_into.Tie as tie
 
 abbrev Inv-loop : tie.InvT-loop
 Inv-loop bytes from column₀ i₀ column i = (i ≤ 64) × (length column ≡ 64) × (take i column ≡ take i (symbolsAt from (wordsOf bytes)))
@@ -17,8 +17,11 @@ Inv-loop bytes from column₀ i₀ column i = (i ≤ 64) × (length column ≡ 6
 abbrev μ-loop : tie.MeasureT-loop
 μ-loop bytes from column₀ i₀ column i = 64 - i
 
+whole-symbols-requires : tie.Need-whole-symbols-requires Inv-loop μ-loop
+whole-symbols-requires c κs = search needs
+
 loop-holds : tie.Need-loop-holds Inv-loop μ-loop
-loop-holds c = (omega arith, refl, refl)
+loop-holds c = (omega arith, c .whole-symbols .ensures, refl)
 
 add-symbol-at : tie.Need-add-symbol-at Inv-loop μ-loop
 add-symbol-at c = search needs
@@ -29,8 +32,8 @@ symbol-at-requires c κs = search needs
 mul-column : tie.Need-mul-column Inv-loop μ-loop
 mul-column c = search needs
 
-array-write-column : tie.Need-array-write-column Inv-loop μ-loop
-array-write-column c = search needs
+element-write-column : tie.Need-element-write-column Inv-loop μ-loop
+element-write-column c = search needs
 
 add-i : tie.Need-add-i Inv-loop μ-loop
 add-i c = search needs
@@ -42,7 +45,7 @@ loop-again : tie.Need-loop-again Inv-loop μ-loop
 unfolding turned
 loop-again c =
     let l = c .before .before in
-    let s = l .before .before .args in
+    let s = l .before .before .before .before .args in
     let ws = wordsOf (s .bytes .now) in
     let n : length (symbolsAt (s .from) ws) ≡ 64 = length-run turned 64 (s .from) ws (simp length-words (omega arith)) in
     let i = l .loop .i in
@@ -53,21 +56,22 @@ loop-again c =
 returns : tie.Need-returns Inv-loop μ-loop
 returns c =
     let l = c .before in
-    let s = l .before .before .args in
+    let s = l .before .before .before .before .args in
     let ws = wordsOf (s .bytes .now) in
     read-all (l .loop .column) (symbolsAt (s .from) ws) 64 (l .loop .i) (l .loop .inv .1) (length-run turned 64 (s .from) ws (simp length-words (omega arith))) (omega arith) (l .loop .inv .2)
 
-pub symbols-of-spec : {M : Type 1} → statement M
-symbols-of-spec =
+pub symbols-into-spec : {M : Type 1} → statement M
+symbols-into-spec =
     tie.close
     (tie.spec
     Inv-loop
     μ-loop
+    whole-symbols-requires
     loop-holds
     add-symbol-at
     symbol-at-requires
     mul-column
-    array-write-column
+    element-write-column
     add-i
     loop-less
     loop-again
