@@ -6,11 +6,12 @@ use mathlib.Core.List.{List, [], _∷_, _++_, append-assoc}
 use native.Mathlib.Omega.{arith}
 use native.Mathlib.Numerals.{add-one}
 use lib.Dec.{eqb, leb}
-use lib.ListN.{length, take, set, replicate, length-append, length-replicate}
-use lib.Seq.{set-at, take-at, length-take-le}
+use lib.ListN.{length, take, drop, getD, set, replicate, length-append}
+use lib.Seq.{set-at, take-at, drop-cons}
 use borrow.Author.Tests.{leb-true}
 use Rattle.table.specs.Keyed.{pick}
 use Rattle.table.proofs.Keyed.{both-true}
+use Rattle.fills.specs.Records.{fronted}
 use Rattle.lists.specs.Entries.{wholeOf, countOf, places, padded}
 
 -- ---- how many are read
@@ -34,42 +35,48 @@ module _ {A : Type 0} where
   places-same zero f g e = refl
   places-same (suc n) f g e = ap (λ k. k ++ (f n ∷ [])) (places-same n f g e) ∙ ap (λ k. places n g ++ (k ∷ [])) (e n)
 
-  -- the next place of a padded column
-  pub put-next : (w n : ℕ) (z : A) (f : ℕ → A) → n < w → set (padded w z (places n f)) n (f n) ≡ padded w z (places (suc n) f)
+  -- the next place of a column that holds a list first
+  put-next : (n : ℕ) (f : ℕ → A) (s : List A) → n < length s → set (fronted (places n f) s) n (f n) ≡ fronted (places (suc n) f) s
   unfolding places
-  put-next w n z f h =
+  put-next n f s h =
       let e : length (places n f) ≡ n = places-long n f in
       let m : length (places n f ++ (f n ∷ [])) ≡ suc n = simp length-append (omega arith) in
-      let r : w - n ≡ suc (w - suc n) = omega arith in
-      simp (e, m, r) (set-at (places n f) z (replicate (w - suc n) z) (f n) n e ∙ sym (append-assoc (places n f) (f n ∷ []) (replicate (w - suc n) z)))
+      simp (e, m, drop-cons s n (f n) h) (set-at (places n f) (getD s n (f n)) (drop (suc n) s) (f n) n e ∙ sym (append-assoc (places n f) (f n ∷ []) (drop (suc n) s)))
 
   -- the same for code, whose next place is n + 1
-  pub put-on : (w n : ℕ) (z : A) (f : ℕ → A) {l : List A} {v : A} → l ≡ padded w z (places n f) → v ≡ f n → n < w → set l n v ≡ padded w z (places (n + 1) f)
-  put-on w n z f {l} {v} e g h =
-      ap (λ k. set k n v) e ∙ ap (set (padded w z (places n f)) n) g ∙ put-next w n z f h ∙ ap (λ k. padded w z (places k f)) (sym (add-one n))
+  pub put-on : (n : ℕ) (f : ℕ → A) (s : List A) {l : List A} {v : A} → l ≡ fronted (places n f) s → v ≡ f n → n < length s → set l n v ≡ fronted (places (n + 1) f) s
+  put-on n f s {l} {v} e g h =
+      ap (λ k. set k n v) e ∙ ap (set (fronted (places n f) s) n) g ∙ put-next n f s h ∙ ap (λ k. fronted (places k f) s) (sym (add-one n))
 
   -- as many as are read: all of a whole list, or none
-  read : (most n : ℕ) (f : ℕ → A) (b : Bool) → places (pick b (n / 16) 0) f ≡ pick b (places (n / 16) f) []
+  read : (n : ℕ) (f : ℕ → A) (b : Bool) → places (pick b (n / 16) 0) f ≡ pick b (places (n / 16) f) []
   unfolding places
-  read most n f true = refl
-  read most n f false = refl
+  read n f true = refl
+  read n f false = refl
 
-  pub read-all : (w most n : ℕ) (z : A) (f : ℕ → A) → padded w z (places (countOf most n) f) ≡ padded w z (pick (wholeOf most n) (places (n / 16) f) [])
-  read-all w most n z f = ap (padded w z) (read most n f (wholeOf most n))
+  pub read-all : (most n m : ℕ) (f : ℕ → A) (s : List A) {l : List A} → l ≡ fronted (places m f) s → m ≡ countOf most n → l ≡ fronted (pick (wholeOf most n) (places (n / 16) f) []) s
+  read-all most n m f s e g = e ∙ ap (λ k. fronted (places k f) s) g ∙ ap (λ k. fronted k s) (read n f (wholeOf most n))
+
+  -- a column that was zeros
+  drop-same : (n w : ℕ) (z : A) → drop n (replicate w z) ≡ replicate (w - n) z
+  drop-same zero w z = let e : w - 0 ≡ w = omega arith in simp e
+  drop-same (suc n) zero z = let e : 0 - suc n ≡ 0 = omega arith in simp e
+  drop-same (suc n) (suc w) z = let e : suc w - suc n ≡ w - n = omega arith in simp e (drop-same n w z)
+
+  pub padded-is : (w : ℕ) (z : A) (l : List A) → fronted l (replicate w z) ≡ padded w z l
+  padded-is w z l = ap (λ k. l ++ k) (drop-same (length l) w z)
 
   listed : (n : ℕ) (f : ℕ → A) (b : Bool) → length (pick b (places (n / 16) f) []) ≡ pick b (n / 16) 0
   listed n f true = places-long (n / 16) f
   listed n f false = refl
 
-  -- as many places of a column are lent as are read
-  pub front-long : (w n : ℕ) (z : A) (f : ℕ → A) → length (take (countOf w n) (padded w z (pick (wholeOf w n) (places (n / 16) f) []))) ≡ countOf w n
-  front-long w n z f =
-      let l = pick (wholeOf w n) (places (n / 16) f) [] in
-      let e : length l ≡ countOf w n = listed n f (wholeOf w n) in
-      let h = count-small w n in
-      let g : countOf w n ≤ length (padded w z l) = simp (length-append, length-replicate) (omega arith) in
-      length-take-le (countOf w n) (padded w z l) g
+  -- as many places of a column are lent as are read, whatever is after them
+  pub front-long : (most n : ℕ) (f : ℕ → A) (r : List A) → length (take (countOf most n) (pick (wholeOf most n) (places (n / 16) f) [] ++ r)) ≡ countOf most n
+  front-long most n f r =
+      let l = pick (wholeOf most n) (places (n / 16) f) [] in
+      let e : length l ≡ countOf most n = listed n f (wholeOf most n) in
+      ap length (take-at l r (countOf most n) e) ∙ e
 
   -- what a caller lends of a column is the whole list
-  pub front-all : (w most n : ℕ) (z : A) (f : ℕ → A) → wholeOf most n ≡ true → take (countOf most n) (padded w z (pick (wholeOf most n) (places (n / 16) f) [])) ≡ places (n / 16) f
-  front-all w most n z f e = simp e (take-at (places (n / 16) f) _ (n / 16) (places-long (n / 16) f))
+  pub front-all : (most n : ℕ) (f : ℕ → A) (r : List A) → wholeOf most n ≡ true → take (countOf most n) (pick (wholeOf most n) (places (n / 16) f) [] ++ r) ≡ places (n / 16) f
+  front-all most n f r e = simp e (take-at (places (n / 16) f) r (n / 16) (places-long (n / 16) f))

@@ -7,6 +7,7 @@ use lib.ListN.{length}
 use Rattle.octets.specs.Words.{wordAt, symbolAt}
 use Rattle.octets.specs.Numbers.{signedOf, floatOf}
 use Rattle.table.specs.Keyed.{pick}
+use Rattle.fills.specs.Records.{fronted}
 use Rattle.lists.specs.declared.price.Prices.{Prices}
 use Rattle.lists.specs.declared.target.Targets.{Targets}
 use Rattle.lists.specs.Entries.{wholeList, countOf, places, padded}
@@ -31,6 +32,27 @@ weightsIn l = places (length l / 16) (weightOf l)
 abbrev pub pricesIn : List ℕ → List ℤ
 pricesIn l = places (length l / 16) (priceOf l)
 
+-- ---- in lent columns
+-- how many entries there are, a column of symbols and one of what stands beside them
+pub record Listed (A : Type 0) : Type 0 where
+  pub count : ℕ
+  pub symbol : List ℕ
+  pub value : List A
+
+abbrev pub listed : {A : Type 0} → ℕ → List ℕ → List A → Listed A
+listed n s v = record { count = n; symbol = s; value = v }
+
+-- all entries in the first places, and the rest as found; a list that is not whole gives nothing
+abbrev pub entriesInto : {A : Type 0} → ℕ → List ℕ → List A → List ℕ → List A → Listed A
+entriesInto most l vs s v = listed (countOf most (length l)) (fronted (pick (wholeList most l) (symbolsIn l) []) s) (fronted (pick (wholeList most l) vs []) v)
+
+unfoldable pub targetsInto : List ℕ → List ℕ → List Float → Listed Float
+targetsInto l s v = entriesInto 64 l (weightsIn l) s v
+
+unfoldable pub pricesInto : List ℕ → List ℕ → List ℤ → Listed ℤ
+pricesInto l s v = entriesInto 128 l (pricesIn l) s v
+
+-- ---- by value
 -- a list that is not whole gives nothing
 unfoldable pub targetsOf : List ℕ → Targets
 targetsOf l = record {
