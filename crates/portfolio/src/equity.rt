@@ -18,7 +18,7 @@ use feeds::sort_prices;
 use planning::total_worth;
 
 // Cash and what the first n places are worth. Prices whose symbols ascend are used in place; others are sorted first.
-fn equity_in<'a>(
+pub(crate) fn equity_in<'a>(
     symbol: &'a [u64; 64],
     quantity: &'a [i64; 64],
     n: usize,

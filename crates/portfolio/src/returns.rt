@@ -3,13 +3,25 @@ ghost use mathlib.Core.Path.{_≡_};
 ghost use Prim.Native.Nat.{_<_};
 ghost use lib.ListN.{length, set};
 ghost use Rattle.table.specs.Keyed.{pick};
-ghost use Rattle.portfolio.specs.Returns.{returnOf, isDue, nextSeries, recordedBy, recorded};
-use crate::equity::equity_of;
+ghost use Rattle.table.specs.Rows.{cols, Full};
+ghost use Rattle.account.specs.Account.{accountWith};
+ghost use Rattle.portfolio.specs.Answers.{returnAnswer};
+ghost use Rattle.portfolio.specs.Returns.{returnOf, isDue, nextSeries, recordedBy, recorded, notedBy};
+use crate::equity::equity_in;
 use crate::refusal::is_done;
-use crate::refusal::return_answer;
 use account::Account;
 use account::Changed;
+use account::Ledger;
 use account::Series;
+use account::sound_account;
+use answer::Answer;
+use feeds::check_prices;
+
+// An answer, and the series after the call.
+pub struct Noted {
+    pub answer: Answer,
+    pub series: Series,
+}
 
 // "A return is the saturating equity change over previous equity when that is above 0".
 fn return_of(previous: i64, equity: i64) -> f64
@@ -60,6 +72,80 @@ fn write_return(returns: &mut [f64], s: Series, equity: i64, due: bool)
     }
 }
 
+// Why a return on the account of a ledger and five columns is refused. "`record_return` gives 10 when either buffer is full, even if no return is due".
+fn answer_on<'a>(
+    h: Ledger,
+    symbol: &'a [u64; 64],
+    quantity: &'a [i64; 64],
+    average: &'a [i64; 64],
+    realized: &'a [i64; 64],
+    total: &'a [i64; 64],
+    symbols: &[u64],
+    prices: &[i64],
+    equities: usize,
+    returns: usize,
+) -> Answer
+    ensures { λ r. ⌜ r ≡ returnAnswer (accountWith h (cols (now (symbol .entry)) (now (quantity .entry)) (now (average .entry)) (now (realized .entry)) (now (total .entry)))) (now (symbols .entry)) (now (prices .entry)) equities returns ⌝ }
+{
+    if !sound_account(h, symbol, quantity, average, realized, total) {
+        return Answer::Unsound;
+    }
+    let answer = check_prices(symbols, prices);
+    if !is_done(answer) {
+        return answer;
+    }
+    if equities as u64 <= h.series.equity_count {
+        return Answer::BufferFull;
+    }
+    if returns as u64 <= h.series.return_count {
+        return Answer::BufferFull;
+    }
+    Answer::Done
+}
+
+// A return recorded on the account of a ledger and five lent columns: its series alone changes. A lent column has 64 places, which `Full` says.
+pub fn return_on<'a>(
+    h: Ledger,
+    symbol: &'a [u64; 64],
+    quantity: &'a [i64; 64],
+    average: &'a [i64; 64],
+    realized: &'a [i64; 64],
+    total: &'a [i64; 64],
+    symbols: &[u64],
+    prices: &[i64],
+    equity: &mut [i64],
+    returns: &mut [f64],
+) -> Noted
+    ensures { λ r. ⌜ (let c = cols (now (symbol .entry)) (now (quantity .entry)) (now (average .entry)) (now (realized .entry)) (now (total .entry)) in
+        Full c → notedBy r (accountWith h c) (now (equity .exit)) (now (returns .exit)) ≡ recorded (accountWith h c) (now (symbols .entry)) (now (prices .entry)) (now (equity .entry)) (now (returns .entry))) ⌝ }
+{
+    let equities = equity.len();
+    let capacity = returns.len();
+    let s = h.series;
+    let answer = answer_on(
+        h,
+        symbol,
+        quantity,
+        average,
+        realized,
+        total,
+        symbols,
+        prices,
+        equities,
+        capacity,
+    );
+    if !is_done(answer) {
+        return Noted { answer, series: s };
+    }
+    let worth = equity_in(symbol, quantity, h.count, h.cash, symbols, prices);
+    let due = is_due(s);
+    let i = s.equity_count as usize;
+    equity[i] = worth;
+    write_return(returns, s, worth, due);
+    let series = next_series(s, worth, due, equities, capacity);
+    Noted { answer, series }
+}
+
 // Equity and return are written at the account's counts.
 pub fn record_return(
     mut a: Account,
@@ -70,18 +156,31 @@ pub fn record_return(
 ) -> Changed
     ensures { λ r. ⌜ recordedBy r (now (equity .exit)) (now (returns .exit)) ≡ recorded a (now (symbols .entry)) (now (prices .entry)) (now (equity .entry)) (now (returns .entry)) ⌝ }
 {
-    let equities = equity.len();
-    let capacity = returns.len();
-    let answer = return_answer(a, symbols, prices, equities, capacity);
-    if !is_done(answer) {
-        return Changed { answer, account: a };
-    }
-    let worth = equity_of(a, symbols, prices);
-    let s = a.series;
-    let due = is_due(s);
-    let i = s.equity_count as usize;
-    equity[i] = worth;
-    write_return(returns, s, worth, due);
-    a.series = next_series(s, worth, due, equities, capacity);
+    let settings = a.settings;
+    let counters = a.counters;
+    let series = a.series;
+    let t = a.positions;
+    let h = Ledger {
+        cash: a.cash,
+        settings,
+        counters,
+        series,
+        count: t.count,
+    };
+    let r = return_on(
+        h,
+        &t.symbol,
+        &t.quantity,
+        &t.avg_entry_price,
+        &t.realized_pnl,
+        &t.total_cost,
+        symbols,
+        prices,
+        equity,
+        returns,
+    );
+    let after = r.series;
+    a.series = after;
+    let answer = r.answer;
     Changed { answer, account: a }
 }

@@ -21,7 +21,7 @@ use Rattle.portfolio.specs.Answers.{isDone, hasRoom, closeAnswer, rebalanceAnsw
 use Rattle.portfolio.specs.Rebalance.{refused, rebalanced}
 use Rattle.portfolio.specs.Close.{closed}
 use Rattle.portfolio.specs.Returns.{recorded}
-use Rattle.trades.specs.Asked.{accountIn, goodKind, asked, early}
+use Rattle.trades.specs.Asked.{accountIn, goodKind, asked, early, earlyOn}
 
 module _ {X : Type 0} (refuse : Answer → X) (call : X) where
   by-tests : (g s k w : Bool) → (s ≡ false → call ≡ refuse Unsound)
@@ -39,6 +39,16 @@ module _ {X : Type 0} (refuse : Answer → X) (call : X) where
       → asked refuse b kind w call ≡ pick (isDone (early (readAccount b) kind w)) call (refuse (early (readAccount b) kind w))
   unfolding asked early
   asked-early b kind w h = by-tests (readAccount b .good) (soundAccount (accountIn b)) (goodKind kind) w h
+
+-- by whether the bytes hold an account
+module _ (b : List ℕ) (kind : ℕ) (w : Bool) where
+  pub early-bad : readAccount b .good ≡ false → early (readAccount b) kind w ≡ Unsound
+  unfolding early
+  early-bad e = simp e
+
+  pub early-good : readAccount b .good ≡ true → early (readAccount b) kind w ≡ earlyOn (accountIn b) kind w
+  unfolding early
+  early-good e = simp e
 
 -- a call that is made was given whole lists
 whole-by : (g s k w : Bool) → isDone (unless g Unsound (pick (both k w) Done (unless s Unsound (unless k BadSetting TooLong)))) ≡ true → w ≡ true

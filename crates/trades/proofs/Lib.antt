@@ -2,3 +2,4 @@
 pub mod Asking
 pub mod Finishing
 pub mod Telling
+pub mod Holding

@@ -2,10 +2,13 @@
 ghost use mathlib.Core.Path.{_≡_};
 ghost use Rattle.answer.specs.declared.Answer.the-variants.{Unsound};
 ghost use Rattle.table.specs.Keyed.{both};
+ghost use Rattle.table.specs.Rows.{cols};
 ghost use Rattle.feeds.specs.Checks.{unless};
-ghost use Rattle.account.specs.Account.{soundAccount};
-ghost use Rattle.trades.specs.Asked.{kindOf, wholeRun, early};
+ghost use Rattle.account.specs.Account.{soundAccount, accountWith};
+ghost use Rattle.trades.specs.Asked.{kindOf, wholeRun, early, earlyOn};
 use account::Account;
+use account::Ledger;
+use account::sound_account;
 use answer::Answer;
 use fills::ExecutionKind;
 use layout::ReadAccount;
@@ -39,6 +42,64 @@ fn unsound_or(a: Account, other: Answer) -> Answer
     ensures { λ r. ⌜ r ≡ unless (soundAccount a) Unsound other ⌝ }
 {
     if a.is_sound() { other } else { Answer::Unsound }
+}
+
+// The same of a ledger and five columns.
+fn unsound_or_on<'a>(
+    h: Ledger,
+    symbol: &'a [u64; 64],
+    quantity: &'a [i64; 64],
+    average: &'a [i64; 64],
+    realized: &'a [i64; 64],
+    total: &'a [i64; 64],
+    other: Answer,
+) -> Answer
+    ensures { λ r. ⌜ r ≡ unless (soundAccount (accountWith h (cols (now (symbol .entry)) (now (quantity .entry)) (now (average .entry)) (now (realized .entry)) (now (total .entry))))) Unsound other ⌝ }
+{
+    if sound_account(h, symbol, quantity, average, realized, total) {
+        other
+    } else {
+        Answer::Unsound
+    }
+}
+
+// Done where the call on an account that was read is to be made. It tells an unsound account itself, so that soundness is looked at twice only
+// where something else is bad.
+pub(crate) fn early_on<'a>(
+    h: Ledger,
+    symbol: &'a [u64; 64],
+    quantity: &'a [i64; 64],
+    average: &'a [i64; 64],
+    realized: &'a [i64; 64],
+    total: &'a [i64; 64],
+    kind: u64,
+    whole: bool,
+) -> Answer
+    ensures { λ r. ⌜ r ≡ earlyOn (accountWith h (cols (now (symbol .entry)) (now (quantity .entry)) (now (average .entry)) (now (realized .entry)) (now (total .entry)))) kind whole ⌝ }
+{
+    if 1 < kind {
+        return unsound_or_on(
+            h,
+            symbol,
+            quantity,
+            average,
+            realized,
+            total,
+            Answer::BadSetting,
+        );
+    }
+    if !whole {
+        return unsound_or_on(
+            h,
+            symbol,
+            quantity,
+            average,
+            realized,
+            total,
+            Answer::TooLong,
+        );
+    }
+    Answer::Done
 }
 
 // Done where the call is to be made. It tells an unsound account itself, so that soundness is looked at twice only where something else is bad.

@@ -3,52 +3,72 @@ ghost use mathlib.Core.Path.{_≡_};
 ghost use mathlib.Core.Bool.{true};
 ghost use Rattle.answer.specs.Numbers.{numberOf};
 ghost use Rattle.table.specs.Keyed.{pick};
-ghost use Rattle.layout.specs.Account.{writtenAccount};
+ghost use Rattle.table.specs.Rows.{cols};
+ghost use Rattle.layout.specs.Account.{writtenSeries};
 ghost use Rattle.lists.specs.Entries.{wholeList};
 ghost use Rattle.lists.specs.Lists.{symbolsIn, pricesIn};
 ghost use Rattle.portfolio.specs.Answers.{isDone};
 ghost use Rattle.portfolio.specs.Returns.{recorded};
+ghost use Rattle.trades.specs.Asked.{accountIn, Holds};
 ghost use Rattle.trades.specs.Returns.{noted, note, returnIn};
-use crate::asked::early;
-use account::Account;
-use account::Changed;
-use layout::read_account;
-use layout::write_account;
+use crate::asked::early_on;
+use account::Ledger;
+use answer::Answer;
+use layout::is_account;
+use layout::read_columns;
+use layout::read_ledger;
+use layout::write_series;
 use lists::is_whole;
-use lists::read_prices;
+use lists::prices_into;
+use portfolio::Noted;
 use portfolio::is_done;
-use portfolio::record_return;
+use portfolio::return_on;
 
-// The account is written after a call that was done; after another its bytes stay.
-fn keep(c: Changed, account: &mut [u8]) -> u64
-    ensures { λ r. ⌜ (r ≡ numberOf (c .answer)) × (now (account .exit) ≡ pick (isDone (c .answer)) (writtenAccount (c .account) (now (account .entry))) (now (account .entry))) ⌝ }
+// The series is written after a call that was done; after another the account's bytes stay.
+fn keep(c: Noted, account: &mut [u8]) -> u64
+    ensures { λ r. ⌜ (r ≡ numberOf (c .answer)) × (now (account .exit) ≡ pick (isDone (c .answer)) (writtenSeries (c .series) (now (account .entry))) (now (account .entry))) ⌝ }
 {
     let answer = c.answer;
     if !is_done(answer) {
         return answer::number(answer);
     }
-    let a = c.account;
-    write_account(a, account);
+    let s = c.series;
+    write_series(s, account);
     answer::number(answer)
 }
 
-// By a whole price list.
-fn record_at(
-    a: Account,
+// On the account that the bytes hold, by a whole price list.
+fn record_at<'a>(
+    h: Ledger,
+    symbol: &'a [u64; 64],
+    quantity: &'a [i64; 64],
+    average: &'a [i64; 64],
+    realized: &'a [i64; 64],
+    total: &'a [i64; 64],
     prices: &[u8],
     account: &mut [u8],
     equities: &mut [i64],
     returns: &mut [f64],
 ) -> u64
-    requires { ⌜ wholeList 128 (now prices) ≡ true ⌝ }
+    requires { ⌜ (wholeList 128 (now prices) ≡ true) × Holds (now account) h (cols (now symbol) (now quantity) (now average) (now realized) (now total)) ⌝ }
     ensures { λ r. ⌜ note r (now (account .exit)) (now (equities .exit)) (now (returns .exit))
-        ≡ noted (recorded a (symbolsIn (now (prices .entry))) (pricesIn (now (prices .entry))) (now (equities .entry)) (now (returns .entry))) (now (account .entry)) ⌝ }
+        ≡ noted (recorded (accountIn (now (account .entry))) (symbolsIn (now (prices .entry))) (pricesIn (now (prices .entry))) (now (equities .entry)) (now (returns .entry))) (now (account .entry)) ⌝ }
 {
-    let p = read_prices(prices);
-    let m = p.count;
-    let ss = p.symbol;
-    let ps = p.price;
-    let c = record_return(a, &ss[..m], &ps[..m], equities, returns);
+    let mut ss = [0u64; 128];
+    let mut ps = [0i64; 128];
+    let m = prices_into(prices, &mut ss, &mut ps);
+    let c = return_on(
+        h,
+        symbol,
+        quantity,
+        average,
+        realized,
+        total,
+        &ss[..m],
+        &ps[..m],
+        equities,
+        returns,
+    );
     keep(c, account)
 }
 
@@ -63,11 +83,47 @@ pub extern "C" fn tc_record_return(
     ensures { λ r. ⌜ note r (now (account .exit)) (now (equities .exit)) (now (returns .exit))
         ≡ noted (returnIn (now (account .entry)) (now (prices .entry)) (now (equities .entry)) (now (returns .entry))) (now (account .entry)) ⌝ }
 {
-    let r = read_account(account);
-    let answer = early(r, 0, is_whole(prices.len(), 128));
+    if !is_account(account) {
+        return answer::number(Answer::Unsound);
+    }
+    let mut symbol = [0u64; 64];
+    let mut quantity = [0i64; 64];
+    let mut average = [0i64; 64];
+    let mut realized = [0i64; 64];
+    let mut total = [0i64; 64];
+    read_columns(
+        account,
+        &mut symbol,
+        &mut quantity,
+        &mut average,
+        &mut realized,
+        &mut total,
+    );
+    let h = read_ledger(account);
+    let listed = is_whole(prices.len(), 128);
+    let answer = early_on(
+        h,
+        &symbol,
+        &quantity,
+        &average,
+        &realized,
+        &total,
+        0,
+        listed,
+    );
     if !is_done(answer) {
         return answer::number(answer);
     }
-    let a = r.account;
-    record_at(a, prices, account, equities, returns)
+    record_at(
+        h,
+        &symbol,
+        &quantity,
+        &average,
+        &realized,
+        &total,
+        prices,
+        account,
+        equities,
+        returns,
+    )
 }

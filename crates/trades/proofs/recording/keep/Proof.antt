@@ -16,8 +16,8 @@ returns c =
     let d = sym (c .before .before .is-done .ensures) ∙ not-true _ (c .before .if1 .taken) in
     (c .number .ensures, simp d)
 
-write-account-requires : tie.Need-write-account-requires
-write-account-requires c κs = search needs
+write-series-requires : tie.Need-write-series-requires
+write-series-requires c κs = search needs
 
 number-requires-2 : tie.Need-number-requires-2
 number-requires-2 c κs = search needs
@@ -30,7 +30,7 @@ returns-2 c =
     let w = c .before .before .before in
     let q = w .before .before .before in
     let d = sym (q .before .is-done .ensures) ∙ not-false _ (q .if1 .left) in
-    (c .number2 .ensures, simp (d, w .write-account .ensures))
+    (c .number2 .ensures, simp (d, w .write-series .ensures))
 
 pub keep-spec : {M : Type 1} → statement M
-keep-spec = tie.close (tie.spec is-done-requires number-requires returns write-account-requires number-requires-2 same-length returns-2)
+keep-spec = tie.close (tie.spec is-done-requires number-requires returns write-series-requires number-requires-2 same-length returns-2)
