@@ -1,0 +1,6 @@
+// Calls by value, each made as often as it is asked for: what a call takes without the bytes of the C interface is timed through these.
+// What the last one left is written to lent bytes, so that no compiler can leave out a part of the work as unused.
+mod made;
+mod rebalancing;
+mod recording;
+mod summary;
