@@ -4,7 +4,7 @@ ghost use mathlib.Core.Bool.{true};
 ghost use Prim.Native.Nat.{_+_, _≤_};
 ghost use lib.Dec.{leb};
 ghost use lib.ListN.{length, take};
-ghost use Rattle.portfolio.specs.Answers.{isDone, places, roomFor, queryAnswer, rebalanceAnswer, returnAnswer, closeAnswer};
+ghost use Rattle.portfolio.specs.Answers.{isDone, places, roomFor, queryAnswer, rebalanceAnswer, closeAnswer};
 ghost use Rattle.portfolio.specs.Planned.{lackedBy, lacking, Lacking};
 ghost use Rattle.table.specs.Keyed.{Rising};
 ghost use Rattle.table.specs.Rows.{cols, rows, holding, Full, Ordered};
@@ -35,29 +35,6 @@ pub fn query_answer(a: Account, symbols: &[u64], prices: &[i64]) -> Answer
         return Answer::Unsound;
     }
     check_prices(symbols, prices)
-}
-
-// "`record_return` gives 10 when either buffer is full, even if no return is due": of the room in both.
-pub(crate) fn return_answer(
-    a: Account,
-    symbols: &[u64],
-    prices: &[i64],
-    equities: usize,
-    returns: usize,
-) -> Answer
-    ensures { λ r. ⌜ r ≡ returnAnswer a (now (symbols .entry)) (now (prices .entry)) equities returns ⌝ }
-{
-    let answer = query_answer(a, symbols, prices);
-    if !is_done(answer) {
-        return answer;
-    }
-    if equities as u64 <= a.series.equity_count {
-        return Answer::BufferFull;
-    }
-    if returns as u64 <= a.series.return_count {
-        return Answer::BufferFull;
-    }
-    Answer::Done
 }
 
 // The places of a record buffer of four words and eight numbers a record.
