@@ -5,16 +5,18 @@ use mathlib.Core.Bool.{Bool, true, false}
 use mathlib.Core.List.{List, [], _∷_, map}
 use native.Mathlib.Omega.{arith}
 use native.Mathlib.Numerals.{add-one}
-use lib.Dec.{leb}
+use lib.Dec.{eqb, leb}
 use lib.ListN.{length, drop}
 use lib.IntN.{ℤ, pos}
 use lib.Signed.{leZ}
 use lib.Ieee.{Float}
-use borrow.Author.Tests.{leb-true, le-leb}
+use borrow.Author.Tests.{leb-true, eqb-true, le-leb}
 use Rattle.table.specs.Keyed.{pick}
 use Rattle.table.specs.Rows.{columnsOf}
-use Rattle.table.specs.Rows as table
+use Rattle.table.proofs.Keyed.{both-true}
 use Rattle.feeds.specs.Lists.{priceOf}
+use Rattle.feeds.specs.Sorted.{columns, roomy, sortedInto}
+use Rattle.feeds.proofs.Sorted.{sorted-serves}
 use Rattle.account.specs.declared.account.Account.{Account}
 use Rattle.account.specs.declared.settings.Settings.{Settings}
 use Rattle.account.specs.Account.{heldIn}
@@ -41,6 +43,25 @@ use Rattle.portfolio.specs.Rebalance.{orderOf, admittedPlan, afterPlan, 
 use Rattle.portfolio.specs.Trades.{afterOrders}
 use Rattle.portfolio.specs.Planned.{equityAt, planAt, Plans, Ready}
 use Rattle.portfolio.proofs.Worths.{equity-of-places}
+
+-- ---- prices that were sorted
+-- their count is that of places in both columns, whether they were sorted or not
+module _ (ss : List ℕ) (ps : List ℤ) (ks : List ℕ) (vs : List ℤ) (r : ℕ) (ks′ : List ℕ) (vs′ : List ℤ) (e : columns r ks′ vs′ ≡ sortedInto ss ps ks vs) where
+  pub sorted-fits : (r ≤ length ks′) × (r ≤ length vs′)
+  unfolding sortedInto
+  sorted-fits = go (roomy ss ps ks vs) refl
+    where
+      go : (b : Bool) → roomy ss ps ks vs ≡ b → (r ≤ length ks′) × (r ≤ length vs′)
+      go true q =
+          let p = both-true (eqb (length ss) (length ps)) _ q in
+          let l = both-true (leb (length ss) (length ks)) _ (p .1) in
+          let k : length ss ≤ length ks = leb-true _ _ (l .0) in
+          let v : length ss ≤ length vs = leb-true _ _ (l .1) in
+          let h = sorted-serves ss ps ks vs (eqb-true _ _ (p .0)) k v r ks′ vs′ e in
+          (omega (arith, h .most, h .keysLength), omega (arith, h .most, h .valuesLength))
+      go false q =
+          let n : r ≡ 0 = ap (λ c. c .count) (rw q at e) in
+          (omega arith, omega arith)
 
 -- ---- the plan of the places
 no-run : (s : Settings) → inRunningOrder s [] ≡ []
@@ -74,7 +95,7 @@ module _ (s : Settings) (cash : ℤ) (price : ℕ → ℤ) (n : ℕ) (ks : List 
   plan-some c d r e p = rw e p
 
 -- ---- of an account
-module _ (a : Account) (ts : List ℕ) (ws : List Float) (ps : List ℕ) (room : ℕ) (y : Ready a ts ws ps room) (f : table.Full (columnsOf (a .positions))) (price : ℕ → ℤ) where
+module _ (a : Account) (ts : List ℕ) (ws : List Float) (ps : List ℕ) (room : ℕ) (y : Ready a ts ws ps room) (price : ℕ → ℤ) where
   abbrev own : ℤ
   own = equityOf price (a .cash) (heldIn (a .positions))
 
@@ -82,13 +103,13 @@ module _ (a : Account) (ts : List ℕ) (ws : List Float) (ps : List ℕ) (room :
   at-places = equityAt price (a .cash) (a .positions .count) (a .positions .symbol) (a .positions .quantity)
 
   own-equity : at-places ≡ own
-  own-equity = equity-of-places price a (y .sound) f
+  own-equity = equity-of-places price a (y .sound) (y .full)
 
   plan-of-account : planAt (a .settings) (a .cash) price (a .positions .count) (a .positions .symbol) (a .positions .quantity) ts ws ≡ admittedPlan a ts ws price
   unfolding planAt admittedPlan
   plan-of-account =
       rw own-equity
-      (ap (pick (leZ own (pos 0)) []) (plan-of-rows (a .settings) own price ts (columnsOf (a .positions)) ws (a .positions .count) (account-ordered a (y .sound) f) (y .paired)))
+      (ap (pick (leZ own (pos 0)) []) (plan-of-rows (a .settings) own price ts (columnsOf (a .positions)) ws (a .positions .count) (account-ordered a (y .sound) (y .full)) (y .paired)))
 
   few-wanted : (equity : ℤ) → orderCount (wanted (a .settings) equity price (heldIn (a .positions)) ts ws) ≤ 64
   unfolding wanted notHeld
@@ -107,16 +128,15 @@ module _ (a : Account) (ts : List ℕ) (ws : List Float) (ps : List ℕ) (room :
 
   few-orders : orderCount (wantedAt (a .settings) at-places price (a .positions .count) (a .positions .symbol) (a .positions .quantity) ts ws) ≤ 64
   few-orders =
-      rw (wanted-of-rows (a .settings) at-places price ts (columnsOf (a .positions)) ws (a .positions .count) (account-ordered a (y .sound) f) (y .paired)) (few-wanted at-places)
+      rw (wanted-of-rows (a .settings) at-places price ts (columnsOf (a .positions)) ws (a .positions .count) (account-ordered a (y .sound) (y .full)) (y .paired)) (few-wanted at-places)
 
 -- what the function that plans it answers
-pub account-stands : (a : Account) (ts : List ℕ) (ws : List Float) (ps : List ℕ) (vs : List ℤ) (room : ℕ) → Ready a ts ws ps room → table.Full (columnsOf (a .positions)) → (k l c d : Cols) (r : Planned) (n : ℕ)
-    → n ≡ a .positions .count → Full k → Full l → Plans (a .settings) (a .cash) (a .positions .symbol) (a .positions .quantity) n ts ws ps vs k l c d r → Stands (a .settings) (admittedPlan a ts ws (priceOf ps vs)) c d r
-account-stands a ts ws ps vs room y f k l c d r n e fk fl p =
+pub account-stands : (a : Account) (ts : List ℕ) (ws : List Float) (ps : List ℕ) (vs : List ℤ) (room : ℕ) → Ready a ts ws ps room → (k l c d : Cols) (r : Planned)
+    → Full k → Full l → Plans (a .settings) (a .cash) (a .positions .symbol) (a .positions .quantity) (a .positions .count) ts ws ps vs k l c d r → Stands (a .settings) (admittedPlan a ts ws (priceOf ps vs)) c d r
+account-stands a ts ws ps vs room y k l c d r fk fl p =
     let price = priceOf ps vs in
-    let made = subst (λ n. Plans (a .settings) (a .cash) (a .positions .symbol) (a .positions .quantity) n ts ws ps vs k l c d r) e p in
-    subst (λ plan. Stands (a .settings) plan c d r) (plan-of-account a ts ws ps room y f price)
-    (made .settled (record { priced = y .priced; held = account-ordered a (y .sound) f .rising; plan = fk; run = fl; most = few-orders a ts ws ps room y f price }))
+    subst (λ plan. Stands (a .settings) plan c d r) (plan-of-account a ts ws ps room y price)
+    (p .settled (record { priced = y .priced; held = account-ordered a (y .sound) (y .full) .rising; plan = fk; run = fl; most = few-orders a ts ws ps room y price }))
 
 -- ---- the columns of a plan as orders
 orders-from : (c : Cols) → Full c → (n i k : ℕ) → n ≤ 64 → i + k ≡ n → drop i (orders n (c .symbol) (c .quantity) (c .price)) ≡ map orderOf (from (orderAt c) i k)

@@ -2,7 +2,7 @@
 use Prim.Native.Nat.{ℕ, _+_, _≤_, _<_}
 use mathlib.Core.Path.{_≡_, refl, sym, ap, _∙_}
 use mathlib.Core.Bool.{Bool, true, false}
-use mathlib.Core.List.{List, []}
+use mathlib.Core.List.{List}
 use native.Mathlib.Omega.{arith}
 use lib.Dec.{eqb, leb}
 use lib.IntN.{ℤ, pos}
@@ -13,13 +13,16 @@ use borrow.Author.Tests.{leb-true, le-leb, lt-leb}
 use Rattle.answer.specs.declared.Answer.{Answer}
 use Rattle.answer.specs.declared.Answer.the-variants.{Done, BadSetting, BadSymbol, Twice, BadPrice, BadWeight, TooLong, TooMany, NoRecordRoom, NotHeld, BufferFull, Unsound, BadSeries}
 use Rattle.answer.specs.Numbers.{numberOf}
-use Rattle.table.specs.Keyed.{pick, both, Rising}
+use Rattle.table.specs.Keyed.{both, Rising}
+use Rattle.table.specs.Rows.{columnsOf, Full, ordered}
 use Rattle.table.proofs.Keyed.{both-true}
 use Rattle.feeds.specs.Checks.{unless, listsAnswer, pricesAnswer}
 use Rattle.feeds.proofs.Checks.{Accepted, done-accepted}
 use Rattle.account.specs.declared.account.Account.{Account}
 use Rattle.position.specs.Symbols.{goodSymbol}
-use Rattle.account.specs.Account.{soundAccount, heldIn}
+use Rattle.account.specs.Account.{soundAccount, soundColumns, heldIn}
+use Rattle.account.proofs.Columns.{ordered-small}
+use Rattle.account.proofs.Holdings.{account-table}
 use Rattle.portfolio.specs.Answers.{isDone, orLater, hasRoom, notHeld, rebalanceAnswer, queryAnswer, returnAnswer, closeAnswer}
 use Rattle.portfolio.specs.Planned.{Ready}
 
@@ -67,6 +70,11 @@ passed-both first later e = go (isDone first) refl
     go : (b : Bool) → isDone first ≡ b → (isDone first ≡ true) × (isDone later ≡ true)
     go true q = (q, rw q at e)
     go false q = let h : isDone first ≡ true = rw q at e in clash (isDone first) h q
+
+-- the count of a sound account's positions, whatever the lengths of its columns
+pub sound-small : (a : Account) → soundAccount a ≡ true → a .positions .count ≤ 64
+unfolding soundColumns
+sound-small a e = let n = a .positions .count in let c = columnsOf (a .positions) in ordered-small n c (both-true (ordered n c) _ (account-table a e) .0)
 
 -- ---- a query with prices
 pub record Queried (a : Account) (ps : List ℕ) (vs : List ℤ) : Type 0 where
@@ -153,9 +161,10 @@ module _ (a : Account) (ts : List ℕ) (ws : List Float) (ps : List ℕ) (vs : L
       record { sound = p .0; lists = done-accepted ts ws ps vs (done-is _ (q .0)); roomy = r .0; few = leb-true _ _ (t .0) }
 
   -- at prices whose symbols ascend: those of the call, or others that serve for them
-  pub rebalance-ready : Rebalancing a ts ws ps vs room → (symbols : List ℕ) → Rising symbols → Ready a ts ws symbols room
-  rebalance-ready h symbols r = record {
+  pub rebalance-ready : Rebalancing a ts ws ps vs room → Full (columnsOf (a .positions)) → (symbols : List ℕ) → Rising symbols → Ready a ts ws symbols room
+  rebalance-ready h f symbols r = record {
     sound = h .sound;
+    full = f;
     paired = h .lists .targetsPaired;
     apart = h .lists .targetsDistinct;
     priced = r;

@@ -1,35 +1,34 @@
 -- A run of orders on an account's columns is the run on the account, and its records stand in the first places.
-use Prim.Native.Nat.{ℕ, _+_, _*_, _/_, _≤_, min}
+use Prim.Native.Nat.{ℕ, _*_, _/_, _≤_, min}
 use mathlib.Core.Path.{_≡_, refl, sym, ap, _∙_}
 use mathlib.Core.Bool.{Bool, true, false}
 use mathlib.Core.List.{List, [], _∷_}
 use native.Mathlib.Omega.{arith}
 use lib.Dec.{leb}
-use lib.ListN.{length, take, length-take, set, replicate}
+use lib.ListN.{length, length-take, set, replicate}
 use lib.IntN.{ℤ, pos}
 use borrow.Author.Tests.{leb-true}
 use Rattle.answer.specs.declared.Answer.the-variants.{Done}
-use Rattle.table.specs.Keyed.{pick}
-use Rattle.table.specs.Rows.{Cols, cols, columnsOf, rows, Full, Ordered}
+use Rattle.table.specs.declared.table.Table.{Table}
+use Rattle.table.specs.Rows.{Cols}
 use Rattle.fills.specs.declared.order.Book.{Book}
 use Rattle.fills.specs.declared.order.Order.{Order}
 use Rattle.fills.specs.declared.record.ExecutionKind.{ExecutionKind}
 use Rattle.fills.specs.declared.record.ExecutionRecord.{ExecutionRecord}
-use Rattle.fills.specs.Orders.{State}
 use Rattle.fills.specs.Records.{Buffers, buffers, allWords, allInts, fronted}
-use Rattle.fills.specs.Runs.{order, orders, state, Runs}
+use Rattle.fills.specs.Runs.{order, orders, Runs}
 use Rattle.fills.specs.Fill.{fillAll}
 use Rattle.fills.proofs.Fronts.{run-fronts, unrecorded, unrecorded-run}
 use Rattle.account.specs.declared.account.Account.{Account}
-use Rattle.account.specs.Account.{heldIn, tableFrom, tableOf}
+use Rattle.account.specs.declared.account.Ledger.{Ledger}
+use Rattle.account.specs.Account.{heldIn, accountWith}
 use Rattle.account.proofs.Tables.{ordered-table}
-use Rattle.portfolio.specs.declared.trade.Traded.{Traded}
 use Rattle.portfolio.specs.Answers.{isDone, places, hasRoom, closeAnswer}
-use Rattle.portfolio.specs.Rebalance.{Outcome, termsOf, stateOf, accountAfter}
+use Rattle.portfolio.specs.Rebalance.{Outcome, termsBy, termsOf, stateOf, accountAfter}
 use Rattle.words.specs.Sums.{satNeg}
 use Rattle.table.specs.Rows.{holding}
-use Rattle.portfolio.specs.Close.{closeOrder, afterClose, closed}
-use Rattle.portfolio.specs.Trades.{Filed, filed, filedBy, stateAfter, afterOrders, bookOf, accountFrom}
+use Rattle.portfolio.specs.Close.{afterClose, closed}
+use Rattle.portfolio.specs.Trades.{Filed, filed, stateAfter, afterOrders, bookOf, ledgerFrom}
 
 pub orders-most : (m : ℕ) (s : List ℕ) (q p : List ℤ) → length (orders m s q p) ≤ m
 unfolding orders
@@ -41,12 +40,18 @@ room-recorded m w i e =
     let h : m ≤ min (w / 4) (i / 8) = leb-true _ _ e in
     (omega arith, omega arith)
 
+abbrev withTable : Table → Account → Account
+withTable t a = record { cash = a .cash; settings = a .settings; counters = a .counters; series = a .series; positions = t }
+
 abbrev pub filing : Account → Buffers → Filed
 filing x b = record { answer = Done; account = x; records = b .written; words = b .words; ints = b .ints }
 
-module _ (a : Account) (os : List Order) (period : ℕ) (kind : ExecutionKind) (ws : List ℕ) (is : List ℤ) (r : Book) (d : Cols) (ws′ : List ℕ) (is′ : List ℤ)
-    (m : ℕ) (few : length os ≤ m) (room : hasRoom a m (places (length ws) (length is)) ≡ true)
-    (h : Runs (termsOf a period kind) os (bookOf a) (columnsOf (a .positions)) (buffers ws is 0) r d (buffers ws′ is′ (r .written))) where
+module _ (h : Ledger) (c : Cols) (os : List Order) (period : ℕ) (kind : ExecutionKind) (ws : List ℕ) (is : List ℤ) (r : Book) (d : Cols) (ws′ : List ℕ) (is′ : List ℤ)
+    (m : ℕ) (few : length os ≤ m) (room : hasRoom (accountWith h c) m (places (length ws) (length is)) ≡ true)
+    (g : Runs (termsBy (h .settings) period kind) os (bookOf h) c (buffers ws is 0) r d (buffers ws′ is′ (r .written))) where
+  abbrev a : Account
+  a = accountWith h c
+
   abbrev made : List ExecutionRecord
   made = stateAfter a os period kind .records
 
@@ -63,16 +68,16 @@ module _ (a : Account) (os : List Order) (period : ℕ) (kind : ExecutionKind) (
           let k = room-recorded m (length ws) (length is) (rw e at room) in
           let u : length os * 4 ≤ length ws = omega (arith, k .0) in
           let v : length os * 8 ≤ length is = omega (arith, k .1) in
-          run-fronts _ os (bookOf a) (columnsOf (a .positions)) (buffers ws is 0) r d (buffers ws′ is′ (r .written)) h refl u v
+          run-fronts _ os (bookOf h) c (buffers ws is 0) r d (buffers ws′ is′ (r .written)) g refl u v
       go false e =
           let n : made ≡ [] = unrecorded (termsOf a period kind) os (stateOf a) e in
-          unrecorded-run _ os (bookOf a) (columnsOf (a .positions)) (buffers ws is 0) r d (buffers ws′ is′ (r .written)) h e ∙ sym (ap fronts n)
+          unrecorded-run _ os (bookOf h) c (buffers ws is 0) r d (buffers ws′ is′ (r .written)) g e ∙ sym (ap fronts n)
 
-  account-put : (n : ℕ) (traded : ℤ) → accountFrom a r (tableFrom (r .count) d) n traded ≡ accountAfter a (stateAfter a os period kind) n traded
+  account-put : (n : ℕ) (traded : ℤ) → accountWith (ledgerFrom h r n traded) d ≡ accountAfter a (stateAfter a os period kind) n traded
   unfolding accountAfter
-  account-put n traded = ap (λ t. accountFrom a r t n traded) (sym (ordered-table (r .count) d (h .ordered))) ∙ ap (λ s. accountAfter a s n traded) (h .done)
+  account-put n traded = ap (λ t. withTable t (accountWith (ledgerFrom h r n traded) d)) (sym (ordered-table (r .count) d (g .ordered))) ∙ ap (λ s. accountAfter a s n traded) (g .done)
 
-  pub run-filed : (n : ℕ) (traded : ℤ) → filing (accountFrom a r (tableFrom (r .count) d) n traded) (buffers ws′ is′ (r .written)) ≡ filed (afterOrders a os period kind n traded) ws is
+  pub run-filed : (n : ℕ) (traded : ℤ) → filing (accountWith (ledgerFrom h r n traded) d) (buffers ws′ is′ (r .written)) ≡ filed (afterOrders a os period kind n traded) ws is
   run-filed n traded = ap (λ x. filing x (buffers ws′ is′ (r .written))) (account-put n traded) ∙ ap (filing (accountAfter a (stateAfter a os period kind) n traded)) records-filed
 
 -- ---- a close is a run of one order

@@ -42,8 +42,11 @@ abbrev pub places : ℕ → ℕ → ℕ
 places words ints = min (words / 4) (ints / 8)
 
 -- "recording is on and the record buffer has under 64 places"; "For closing, 8 asks for one place."
+abbrev pub roomFor : Bool → ℕ → ℕ → Bool
+roomFor recording asked room = pick recording (leb asked room) true
+
 unfoldable pub hasRoom : Account → ℕ → ℕ → Bool
-hasRoom a asked room = pick (a .settings .recording) (leb asked room) true
+hasRoom a asked room = roomFor (a .settings .recording) asked room
 
 -- target symbols that the account does not hold
 unfoldable pub notHeld : List ℕ → List Position → ℕ

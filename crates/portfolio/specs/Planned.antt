@@ -12,7 +12,6 @@ use Rattle.table.specs.Keyed.{pick, Rising}
 use Rattle.table.specs.Places.{shorter, found}
 use Rattle.table.specs.declared.found.Found.{Found}
 use Rattle.table.specs.declared.found.Found.the-variants.{At, Absent}
-use Rattle.table.specs.declared.table.Table.{Table}
 use Rattle.table.specs.Rows.{columnsOf}
 use Rattle.table.specs.Rows as table
 use Rattle.feeds.specs.Lists.{distinct, priceOf}
@@ -66,14 +65,10 @@ pub record Room (s : Settings) (cash : ℤ) (ks : List ℕ) (qs : List ℤ) (n :
 pub record Plans (s : Settings) (cash : ℤ) (ks : List ℕ) (qs : List ℤ) (n : ℕ) (targets : List ℕ) (weights : List Float) (symbols : List ℕ) (prices : List ℤ) (a b c d : Cols) (r : Planned) : Type 0 where
   pub settled : Room s cash ks qs n targets weights symbols prices a b → Stands s (planAt s cash (priceOf symbols prices) n ks qs targets weights) c d r
 
--- the count of a table's places in use, and that its columns have 64
-pub record Used (t : Table) (r : ℕ) : Type 0 where
-  pub same : r ≡ t .count
-  pub full : table.Full (columnsOf t)
-
 -- ---- a rebalance that is not refused, at prices whose symbols ascend
 pub record Ready (a : Account) (targets : List ℕ) (weights : List Float) (symbols : List ℕ) (room : ℕ) : Type 0 where
   pub sound : soundAccount a ≡ true
+  pub full : table.Full (columnsOf (a .positions))
   pub paired : length targets ≡ length weights
   pub apart : distinct targets ≡ true
   pub priced : Rising symbols

@@ -1,6 +1,6 @@
 -- A rebalance: the plan, its fills, and the account after them.
 use Prim.Native.Nat.{ℕ}
-use mathlib.Core.List.{List, [], _∷_, map}
+use mathlib.Core.List.{List, [], map}
 use lib.ListN.{length}
 use lib.IntN.{ℤ, pos}
 use lib.Signed.{leZ}
@@ -16,6 +16,7 @@ use Rattle.fills.specs.declared.record.ExecutionRecord.{ExecutionRecord}
 use Rattle.fills.specs.Orders.{State}
 use Rattle.fills.specs.Fill.{fillAll}
 use Rattle.account.specs.declared.account.Account.{Account}
+use Rattle.account.specs.declared.settings.Settings.{Settings}
 use Rattle.account.specs.Account.{heldIn, tableOf}
 use Rattle.planning.specs.declared.plan.PlannedOrder.{PlannedOrder}
 use Rattle.planning.specs.Equity.{equityOf}
@@ -29,14 +30,11 @@ pub record Outcome : Type 0 where
   pub records : List ExecutionRecord
 
 -- "The caller gives period index and kind with the call."
+abbrev pub termsBy : Settings → ℕ → ExecutionKind → Terms
+termsBy s period kind = record { costs = s .«cost_model»; «quantity_step» = s .«quantity_step»; recording = s .recording; «period_index» = period; kind = kind }
+
 abbrev pub termsOf : Account → ℕ → ExecutionKind → Terms
-termsOf a period kind = record {
-  costs = a .settings .«cost_model»;
-  «quantity_step» = a .settings .«quantity_step»;
-  recording = a .settings .recording;
-  «period_index» = period;
-  kind = kind;
-}
+termsOf a period kind = termsBy (a .settings) period kind
 
 -- what fills change, as the account has it, with no record made yet
 abbrev pub stateOf : Account → State

@@ -1,13 +1,13 @@
 -- What a call that trades leaves: the answer, the account, and the records in the lent slices.
 use Prim.Native.Nat.{ℕ}
 use mathlib.Core.Path.{_≡_}
-use mathlib.Core.List.{List, []}
+use mathlib.Core.Bool.{true}
+use mathlib.Core.List.{List}
 use lib.ListN.{length}
-use lib.IntN.{ℤ, pos}
+use lib.IntN.{ℤ}
 use Rattle.answer.specs.declared.Answer.{Answer}
 use Rattle.answer.specs.declared.Answer.the-variants.{Done}
-use Rattle.table.specs.declared.table.Table.{Table}
-use Rattle.table.specs.Rows.{columnsOf, Full}
+use Rattle.table.specs.Rows.{Cols, columnsOf, Full}
 use Rattle.fills.specs.declared.order.Book.{Book}
 use Rattle.fills.specs.declared.order.Order.{Order}
 use Rattle.fills.specs.declared.record.ExecutionKind.{ExecutionKind}
@@ -15,7 +15,11 @@ use Rattle.fills.specs.Orders.{State}
 use Rattle.fills.specs.Records.{allWords, allInts, fronted}
 use Rattle.fills.specs.Fill.{fillAll}
 use Rattle.account.specs.declared.account.Account.{Account}
+use Rattle.account.specs.declared.account.Ledger.{Ledger}
+use Rattle.account.specs.Account.{accountWith, ledgerOf, soundAccount}
+use Rattle.portfolio.specs.declared.trade.Ran.{Ran}
 use Rattle.portfolio.specs.declared.trade.Traded.{Traded}
+use Rattle.portfolio.specs.Answers.{hasRoom}
 use Rattle.portfolio.specs.Rebalance.{Outcome, termsOf, stateOf, accountAfter}
 
 -- what a call answers, and the two slices as it leaves them
@@ -45,27 +49,31 @@ afterOrders a os period kind orders traded = record {
   records = stateAfter a os period kind .records;
 }
 
--- ---- the account taken apart, and put together
-abbrev pub bookOf : Account → Book
-bookOf a = record {
-  cash = a .cash;
-  count = a .positions .count;
-  trimmed = a .counters .«trimmed_fill_count»;
-  shortfall = a .counters .«trimmed_shortfall_cents»;
-  sequence = a .counters .«record_count»;
+-- ---- the same on lent columns
+-- the ledger of an account, whose columns have 64 places
+pub record Begins (a : Account) (h : Ledger) : Type 0 where
+  pub same : h ≡ ledgerOf a
+  pub full : Full (columnsOf (a .positions))
+
+-- what a call on a ledger answers, with the columns as it leaves them
+abbrev pub tradedOn : Ran → Cols → Traded
+tradedOn r c = record { answer = r .answer; records = r .records; account = accountWith (r .ledger) c }
+
+abbrev pub bookOf : Ledger → Book
+bookOf h = record {
+  cash = h .cash;
+  count = h .count;
+  trimmed = h .counters .«trimmed_fill_count»;
+  shortfall = h .counters .«trimmed_shortfall_cents»;
+  sequence = h .counters .«record_count»;
   written = 0;
   hint = 0;
 }
 
--- the scalars of an account, whose columns have 64 places
-pub record Begins (a : Account) (b : Book) : Type 0 where
-  pub same : b ≡ bookOf a
-  pub full : Full (columnsOf (a .positions))
-
-abbrev pub accountFrom : Account → Book → Table → ℕ → ℤ → Account
-accountFrom a b t orders traded = record {
+abbrev pub ledgerFrom : Ledger → Book → ℕ → ℤ → Ledger
+ledgerFrom h b orders traded = record {
   cash = b .cash;
-  settings = a .settings;
+  settings = h .settings;
   counters = record {
     «last_rebalance_order_count» = orders;
     «last_rebalance_notional» = traded;
@@ -73,6 +81,15 @@ accountFrom a b t orders traded = record {
     «trimmed_shortfall_cents» = b .shortfall;
     «record_count» = b .sequence;
   };
-  series = a .series;
-  positions = t;
+  series = h .series;
+  count = b .count;
 }
+
+-- what a run of m orders is given: a sound account, room for a record of each, and columns of 64 places
+pub record Fillable (a : Account) (m room : ℕ) (os : List ℕ) (oq op : List ℤ) : Type 0 where
+  pub sound : soundAccount a ≡ true
+  pub roomy : hasRoom a m room ≡ true
+  pub full : Full (columnsOf (a .positions))
+  pub symbols : length os ≡ 64
+  pub quantities : length oq ≡ 64
+  pub prices : length op ≡ 64

@@ -1,19 +1,96 @@
 // Closing one position at a price.
 ghost use mathlib.Core.Path.{_≡_};
 ghost use lib.ListN.{length};
+ghost use Rattle.table.specs.Rows.{cols, Full};
+ghost use Rattle.account.specs.Account.{accountWith};
 ghost use Rattle.portfolio.specs.Answers.{places};
 ghost use Rattle.portfolio.specs.Close.{closed};
-ghost use Rattle.portfolio.specs.Trades.{filed, filedBy};
+ghost use Rattle.portfolio.specs.Trades.{filed, filedBy, tradedOn};
 use crate::refusal::close_answer;
 use crate::refusal::holding_of;
 use crate::refusal::is_done;
 use crate::refusal::places;
+use crate::trade::Ran;
 use crate::trade::Traded;
+use crate::trade::ledger_of;
 use crate::trade::run;
+use crate::trade::traded_on;
 use account::Account;
+use account::Ledger;
 use fills::ExecutionKind;
 
 // The whole holding, the other way; the last-rebalance figures stay.
+pub fn close_on(
+    h: Ledger,
+    symbol: &mut [u64; 64],
+    quantity: &mut [i64; 64],
+    average: &mut [i64; 64],
+    realized: &mut [i64; 64],
+    total: &mut [i64; 64],
+    s: u64,
+    price: i64,
+    period: u64,
+    kind: ExecutionKind,
+    words: &mut [u64],
+    ints: &mut [i64],
+) -> Ran
+    ensures { λ r. ⌜ (Full (cols (now (symbol .entry)) (now (quantity .entry)) (now (average .entry)) (now (realized .entry)) (now (total .entry)))
+        → filedBy (tradedOn r (cols (now (symbol .exit)) (now (quantity .exit)) (now (average .exit)) (now (realized .exit)) (now (total .exit))))
+        (now (words .exit)) (now (ints .exit))
+        ≡ filed (closed (accountWith h (cols (now (symbol .entry)) (now (quantity .entry)) (now (average .entry)) (now (realized .entry)) (now (total .entry))))
+        s price period kind (places (length (now (words .entry))) (length (now (ints .entry))))) (now (words .entry)) (now (ints .entry))) ⌝ }
+{
+    let room = places(words.len(), ints.len());
+    let answer = close_answer(
+        h,
+        symbol,
+        quantity,
+        average,
+        realized,
+        total,
+        s,
+        price,
+        room,
+    );
+    if !is_done(answer) {
+        return Ran {
+            answer,
+            records: 0,
+            ledger: h,
+        };
+    }
+    let p = holding_of(symbol, quantity, average, realized, total, h.count, s);
+    let q = p.quantity.neg();
+    let shares = q.0;
+    let mut os = [0u64; 64];
+    let mut oq = [0i64; 64];
+    let mut op = [0i64; 64];
+    os[0] = s;
+    oq[0] = shares;
+    op[0] = price;
+    let n = h.counters.last_rebalance_order_count;
+    let v = h.counters.last_rebalance_notional;
+    run(
+        symbol,
+        quantity,
+        average,
+        realized,
+        total,
+        &os,
+        &oq,
+        &op,
+        1,
+        period,
+        kind,
+        n,
+        v,
+        words,
+        ints,
+        h,
+    )
+}
+
+// The same of an account by value.
 pub fn close_position_at(
     a: Account,
     symbol: u64,
@@ -26,24 +103,26 @@ pub fn close_position_at(
     ensures { λ r. ⌜ filedBy r (now (words .exit)) (now (ints .exit))
         ≡ filed (closed a symbol price period kind (places (length (now (words .entry))) (length (now (ints .entry))))) (now (words .entry)) (now (ints .entry)) ⌝ }
 {
-    let answer = close_answer(a, symbol, price, places(words.len(), ints.len()));
-    if !is_done(answer) {
-        return Traded {
-            answer,
-            records: 0,
-            account: a,
-        };
-    }
-    let p = holding_of(a.positions, symbol);
-    let q = p.quantity.neg();
-    let shares = q.0;
-    let mut os = [0u64; 64];
-    let mut oq = [0i64; 64];
-    let mut op = [0i64; 64];
-    os[0] = symbol;
-    oq[0] = shares;
-    op[0] = price;
-    let n = a.counters.last_rebalance_order_count;
-    let v = a.counters.last_rebalance_notional;
-    run(&os, &oq, &op, 1, period, kind, n, v, words, ints, a)
+    let h = ledger_of(a);
+    let t = a.positions;
+    let mut key = t.symbol;
+    let mut quantity = t.quantity;
+    let mut average = t.avg_entry_price;
+    let mut realized = t.realized_pnl;
+    let mut total = t.total_cost;
+    let r = close_on(
+        h,
+        &mut key,
+        &mut quantity,
+        &mut average,
+        &mut realized,
+        &mut total,
+        symbol,
+        price,
+        period,
+        kind,
+        words,
+        ints,
+    );
+    traded_on(r, &key, &quantity, &average, &realized, &total)
 }

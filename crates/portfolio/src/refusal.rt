@@ -3,19 +3,21 @@ ghost use mathlib.Core.Path.{_≡_};
 ghost use mathlib.Core.Bool.{true};
 ghost use Prim.Native.Nat.{_+_, _≤_};
 ghost use lib.Dec.{leb};
-ghost use lib.ListN.{length};
-ghost use Rattle.portfolio.specs.Answers.{isDone, places, hasRoom, notHeld, queryAnswer, rebalanceAnswer, returnAnswer, closeAnswer};
-ghost use Rattle.portfolio.specs.Planned.{lackedBy, Lacking};
-ghost use Rattle.table.specs.Rows.{holding};
-ghost use Rattle.account.specs.Account.{soundTable, heldIn};
+ghost use lib.ListN.{length, take};
+ghost use Rattle.portfolio.specs.Answers.{isDone, places, roomFor, queryAnswer, rebalanceAnswer, returnAnswer, closeAnswer};
+ghost use Rattle.portfolio.specs.Planned.{lackedBy, lacking, Lacking};
+ghost use Rattle.table.specs.Keyed.{Rising};
+ghost use Rattle.table.specs.Rows.{cols, rows, holding, Full, Ordered};
+ghost use Rattle.account.specs.Account.{accountWith};
 use account::Account;
+use account::Ledger;
+use account::sound_account;
 use answer::Answer;
 use feeds::check_lists;
 use feeds::check_prices;
 use position::Position;
 use position::Symbol;
 use table::Found;
-use table::Table;
 use table::find;
 use table::held;
 
@@ -68,10 +70,10 @@ pub(crate) fn places(words: usize, ints: usize) -> usize
 }
 
 // Not "recording is on and the record buffer has under 64 places", or under those that a call asks for.
-pub(crate) fn has_room(a: Account, asked: usize, room: usize) -> bool
-    ensures { λ r. ⌜ r ≡ hasRoom a asked room ⌝ }
+fn has_room(recording: bool, asked: usize, room: usize) -> bool
+    ensures { λ r. ⌜ r ≡ roomFor recording asked room ⌝ }
 {
-    if a.settings.recording {
+    if recording {
         return asked <= room;
     }
     true
@@ -102,76 +104,92 @@ fn count_not_held(key: &[u64; 64], n: usize, targets: &[u64]) -> usize
 }
 
 // Not "held symbols (flat ones too) and target symbols together exceed 64".
-fn has_places(positions: Table, targets: &[u64]) -> bool
-    requires { ⌜ (soundTable positions ≡ true) × (length (now targets) ≤ 64) ⌝ }
-    ensures { λ r. ⌜ r ≡ leb (length (heldIn positions) + notHeld (now (targets .entry)) (heldIn positions)) 64 ⌝ }
+fn has_places(symbol: &[u64; 64], n: usize, targets: &[u64]) -> bool
+    requires { ⌜ (n ≤ 64) × (length (now targets) ≤ 64) ⌝ }
+    ensures { λ r. ⌜ (Rising (take n (now (symbol .entry))) → r ≡ leb (n + lacking (now (targets .entry)) (take n (now (symbol .entry)))) 64) ⌝ }
 {
-    let n = positions.count;
-    n + count_not_held(&positions.symbol, n, targets) <= 64
+    n + count_not_held(symbol, n, targets) <= 64
 }
 
 // In the order 11, then 6, 2, 3, 5, 4 for the lists, then 8 and 7.
-pub(crate) fn rebalance_answer(
-    a: Account,
+pub(crate) fn rebalance_answer<'a>(
+    h: Ledger,
+    symbol: &'a [u64; 64],
+    quantity: &'a [i64; 64],
+    average: &'a [i64; 64],
+    realized: &'a [i64; 64],
+    total: &'a [i64; 64],
     targets: &[u64],
     weights: &[f64],
     symbols: &[u64],
     prices: &[i64],
     room: usize,
 ) -> Answer
-    ensures { λ r. ⌜ r ≡ rebalanceAnswer a (now (targets .entry)) (now (weights .entry)) (now (symbols .entry)) (now (prices .entry)) room ⌝ }
+    ensures { λ r. ⌜ (Full (cols (now (symbol .entry)) (now (quantity .entry)) (now (average .entry)) (now (realized .entry)) (now (total .entry)))
+        → r ≡ rebalanceAnswer (accountWith h (cols (now (symbol .entry)) (now (quantity .entry)) (now (average .entry)) (now (realized .entry)) (now (total .entry))))
+        (now (targets .entry)) (now (weights .entry)) (now (symbols .entry)) (now (prices .entry)) room) ⌝ }
 {
-    if !a.is_sound() {
+    if !sound_account(h, symbol, quantity, average, realized, total) {
         return Answer::Unsound;
     }
     let answer = check_lists(targets, weights, symbols, prices);
     if !is_done(answer) {
         return answer;
     }
-    if !has_room(a, 64, room) {
+    if !has_room(h.settings.recording, 64, room) {
         return Answer::NoRecordRoom;
     }
-    if !has_places(a.positions, targets) {
+    if !has_places(symbol, h.count, targets) {
         return Answer::TooMany;
     }
     Answer::Done
 }
 
 // The position of a symbol, flat where there is none.
-pub(crate) fn holding_of(positions: Table, symbol: u64) -> Position
-    requires { ⌜ soundTable positions ≡ true ⌝ }
-    ensures { λ r. ⌜ r ≡ holding symbol (heldIn positions) ⌝ }
+pub(crate) fn holding_of<'a>(
+    symbol: &'a [u64; 64],
+    quantity: &'a [i64; 64],
+    average: &'a [i64; 64],
+    realized: &'a [i64; 64],
+    total: &'a [i64; 64],
+    n: usize,
+    s: u64,
+) -> Position
+    ensures { λ r. ⌜ (Ordered n (cols (now (symbol .entry)) (now (quantity .entry)) (now (average .entry)) (now (realized .entry)) (now (total .entry)))
+        → r ≡ holding s (rows n (cols (now (symbol .entry)) (now (quantity .entry)) (now (average .entry)) (now (realized .entry)) (now (total .entry))))) ⌝ }
 {
-    let n = positions.count;
-    let f = find(&positions.symbol[..], n, symbol, 0);
-    held(
-        &positions.symbol,
-        &positions.quantity,
-        &positions.avg_entry_price,
-        &positions.realized_pnl,
-        &positions.total_cost,
-        f,
-        symbol,
-    )
+    let f = find(&symbol[..], n, s, 0);
+    held(symbol, quantity, average, realized, total, f, s)
 }
 
 // "For closing, 8 asks for one place."
-pub(crate) fn close_answer(a: Account, symbol: u64, price: i64, room: usize) -> Answer
-    ensures { λ r. ⌜ r ≡ closeAnswer a symbol price room ⌝ }
+pub(crate) fn close_answer<'a>(
+    h: Ledger,
+    symbol: &'a [u64; 64],
+    quantity: &'a [i64; 64],
+    average: &'a [i64; 64],
+    realized: &'a [i64; 64],
+    total: &'a [i64; 64],
+    s: u64,
+    price: i64,
+    room: usize,
+) -> Answer
+    ensures { λ r. ⌜ (Full (cols (now (symbol .entry)) (now (quantity .entry)) (now (average .entry)) (now (realized .entry)) (now (total .entry)))
+        → r ≡ closeAnswer (accountWith h (cols (now (symbol .entry)) (now (quantity .entry)) (now (average .entry)) (now (realized .entry)) (now (total .entry)))) s price room) ⌝ }
 {
-    if !a.is_sound() {
+    if !sound_account(h, symbol, quantity, average, realized, total) {
         return Answer::Unsound;
     }
-    if !Symbol(symbol).is_good() {
+    if !Symbol(s).is_good() {
         return Answer::BadSymbol;
     }
     if price < 1 {
         return Answer::BadPrice;
     }
-    if !has_room(a, 1, room) {
+    if !has_room(h.settings.recording, 1, room) {
         return Answer::NoRecordRoom;
     }
-    let p = holding_of(a.positions, symbol);
+    let p = holding_of(symbol, quantity, average, realized, total, h.count, s);
     if p.quantity.is_zero() {
         return Answer::NotHeld;
     }

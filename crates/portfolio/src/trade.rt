@@ -1,14 +1,16 @@
-// Orders filled on an account: it is taken apart once, and put together again at one exit.
+// Orders filled on an account whose columns a caller lends.
 ghost use mathlib.Core.Path.{_≡_};
-ghost use mathlib.Core.Bool.{true};
 ghost use lib.ListN.{length};
+ghost use Rattle.table.specs.Rows.{cols};
 ghost use Rattle.fills.specs.Runs.{orders};
-ghost use Rattle.account.specs.Account.{soundAccount};
-ghost use Rattle.portfolio.specs.Answers.{places, hasRoom};
-ghost use Rattle.portfolio.specs.Rebalance.{termsOf};
-ghost use Rattle.portfolio.specs.Trades.{Begins, accountFrom, afterOrders, filed, filedBy};
+ghost use Rattle.account.specs.Account.{accountWith};
+ghost use Rattle.portfolio.specs.Answers.{places};
+ghost use Rattle.portfolio.specs.Rebalance.{termsBy};
+ghost use Rattle.portfolio.specs.Trades.{Begins, Fillable, afterOrders, bookOf, filed, filedBy, ledgerFrom, tradedOn};
 use account::Account;
 use account::Counters;
+use account::Ledger;
+use account::Settings;
 use answer::Answer;
 use fills::Book;
 use fills::ExecutionKind;
@@ -23,41 +25,107 @@ pub struct Traded {
     pub account: Account,
 }
 
-// "The caller gives period index and kind with the call."
-fn terms_of(a: Account, period_index: u64, kind: ExecutionKind) -> Terms
-    ensures { λ r. ⌜ r ≡ termsOf a «period_index» kind ⌝ }
+// The same but for the columns, which are lent and hold the positions after the call.
+pub struct Ran {
+    pub answer: Answer,
+    pub records: usize,
+    pub ledger: Ledger,
+}
+
+// An account but for its columns. An account by value tells that they have 64 places; columns that are lent do not.
+pub(crate) fn ledger_of(a: Account) -> Ledger
+    ensures { λ r. ⌜ Begins a r ⌝ }
 {
-    let costs = a.settings.cost_model;
+    let settings = a.settings;
+    let counters = a.counters;
+    let series = a.series;
+    Ledger {
+        cash: a.cash,
+        settings,
+        counters,
+        series,
+        count: a.positions.count,
+    }
+}
+
+// What a call on lent columns left, by value.
+pub(crate) fn traded_on<'a>(
+    r: Ran,
+    symbol: &'a [u64; 64],
+    quantity: &'a [i64; 64],
+    average: &'a [i64; 64],
+    realized: &'a [i64; 64],
+    total: &'a [i64; 64],
+) -> Traded
+    ensures { λ x. ⌜ x ≡ tradedOn r (cols (now (symbol .entry)) (now (quantity .entry)) (now (average .entry)) (now (realized .entry)) (now (total .entry))) ⌝ }
+{
+    let answer = r.answer;
+    let h = r.ledger;
+    let settings = h.settings;
+    let counters = h.counters;
+    let series = h.series;
+    let k = *symbol;
+    let q = *quantity;
+    let a = *average;
+    let g = *realized;
+    let t = *total;
+    let positions = Table {
+        count: h.count,
+        symbol: k,
+        quantity: q,
+        avg_entry_price: a,
+        realized_pnl: g,
+        total_cost: t,
+    };
+    let account = Account {
+        cash: h.cash,
+        settings,
+        counters,
+        series,
+        positions,
+    };
+    Traded {
+        answer,
+        records: r.records,
+        account,
+    }
+}
+
+// "The caller gives period index and kind with the call."
+fn terms_of(s: Settings, period_index: u64, kind: ExecutionKind) -> Terms
+    ensures { λ r. ⌜ r ≡ termsBy s «period_index» kind ⌝ }
+{
+    let costs = s.cost_model;
     Terms {
         costs,
-        quantity_step: a.settings.quantity_step,
-        recording: a.settings.recording,
+        quantity_step: s.quantity_step,
+        recording: s.recording,
         period_index,
         kind,
     }
 }
 
-// The scalars that fills change, as the account has them.
-fn book_of(a: Account) -> Book
-    ensures { λ r. ⌜ Begins a r ⌝ }
+// The scalars that fills change, as the ledger has them.
+fn book_of(h: Ledger) -> Book
+    ensures { λ r. ⌜ r ≡ bookOf h ⌝ }
 {
     Book {
-        cash: a.cash,
-        count: a.positions.count,
-        trimmed: a.counters.trimmed_fill_count,
-        shortfall: a.counters.trimmed_shortfall_cents,
-        sequence: a.counters.record_count,
+        cash: h.cash,
+        count: h.count,
+        trimmed: h.counters.trimmed_fill_count,
+        shortfall: h.counters.trimmed_shortfall_cents,
+        sequence: h.counters.record_count,
         written: 0,
         hint: 0,
     }
 }
 
-// The account with the scalars and positions after fills, and the two last-rebalance figures.
-fn put_together(a: Account, b: Book, positions: Table, orders: u64, traded: i64) -> Account
-    ensures { λ r. ⌜ r ≡ accountFrom a b positions orders traded ⌝ }
+// The ledger with the scalars after fills, and the two last-rebalance figures.
+fn put_together(h: Ledger, b: Book, orders: u64, traded: i64) -> Ledger
+    ensures { λ r. ⌜ r ≡ ledgerFrom h b orders traded ⌝ }
 {
-    let settings = a.settings;
-    let series = a.series;
+    let settings = h.settings;
+    let series = h.series;
     let counters = Counters {
         last_rebalance_order_count: orders,
         last_rebalance_notional: traded,
@@ -65,17 +133,22 @@ fn put_together(a: Account, b: Book, positions: Table, orders: u64, traded: i64)
         trimmed_shortfall_cents: b.shortfall,
         record_count: b.sequence,
     };
-    Account {
+    Ledger {
         cash: b.cash,
         settings,
         counters,
         series,
-        positions,
+        count: b.count,
     }
 }
 
 // Fills the first m orders of three columns, with room for a record of each.
 pub(crate) fn run(
+    symbol: &mut [u64; 64],
+    quantity: &mut [i64; 64],
+    average: &mut [i64; 64],
+    realized: &mut [i64; 64],
+    total: &mut [i64; 64],
     os: &[u64; 64],
     oq: &[i64; 64],
     op: &[i64; 64],
@@ -86,27 +159,23 @@ pub(crate) fn run(
     notional: i64,
     words: &mut [u64],
     ints: &mut [i64],
-    a: Account,
-) -> Traded
-    requires { ⌜ (soundAccount a ≡ true) × (hasRoom a m (places (length (now words)) (length (now ints))) ≡ true)
-        × (length (now os) ≡ 64) × (length (now oq) ≡ 64) × (length (now op) ≡ 64) ⌝ }
-    ensures { λ r. ⌜ filedBy r (now (words .exit)) (now (ints .exit))
-        ≡ filed (afterOrders a (orders m (now (os .entry)) (now (oq .entry)) (now (op .entry))) period kind «order_count» notional) (now (words .entry)) (now (ints .entry)) ⌝ }
+    h: Ledger,
+) -> Ran
+    ensures { λ r. ⌜ (Fillable (accountWith h (cols (now (symbol .entry)) (now (quantity .entry)) (now (average .entry)) (now (realized .entry)) (now (total .entry)))) m
+        (places (length (now (words .entry))) (length (now (ints .entry)))) (now (os .entry)) (now (oq .entry)) (now (op .entry))
+        → filedBy (tradedOn r (cols (now (symbol .exit)) (now (quantity .exit)) (now (average .exit)) (now (realized .exit)) (now (total .exit))))
+        (now (words .exit)) (now (ints .exit))
+        ≡ filed (afterOrders (accountWith h (cols (now (symbol .entry)) (now (quantity .entry)) (now (average .entry)) (now (realized .entry)) (now (total .entry))))
+        (orders m (now (os .entry)) (now (oq .entry)) (now (op .entry))) period kind «order_count» notional) (now (words .entry)) (now (ints .entry))) ⌝ }
 {
-    let t = terms_of(a, period, kind);
-    let b = book_of(a);
-    let p = a.positions;
-    let mut symbol = p.symbol;
-    let mut quantity = p.quantity;
-    let mut average = p.avg_entry_price;
-    let mut realized = p.realized_pnl;
-    let mut total = p.total_cost;
+    let t = terms_of(h.settings, period, kind);
+    let b = book_of(h);
     let r = fill_all(
-        &mut symbol,
-        &mut quantity,
-        &mut average,
-        &mut realized,
-        &mut total,
+        symbol,
+        quantity,
+        average,
+        realized,
+        total,
         words,
         ints,
         os,
@@ -116,18 +185,10 @@ pub(crate) fn run(
         b,
         t,
     );
-    let positions = Table {
-        count: r.count,
-        symbol,
-        quantity,
-        avg_entry_price: average,
-        realized_pnl: realized,
-        total_cost: total,
-    };
-    let account = put_together(a, r, positions, order_count, notional);
-    Traded {
+    let ledger = put_together(h, r, order_count, notional);
+    Ran {
         answer: Answer::Done,
         records: r.written,
-        account,
+        ledger,
     }
 }

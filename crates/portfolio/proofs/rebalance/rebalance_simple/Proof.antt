@@ -1,104 +1,23 @@
--- A refusal leaves all as it was; else the rebalance at the prices as listed, or at the sorted ones that serve for them.
-use Prim.Native.Nat.{ℕ, _≤_}
-use mathlib.Core.Path.{_≡_, refl, sym, ap, _∙_, fun-ext}
-use mathlib.Core.Bool.{true}
-use mathlib.Core.List.{List}
-use native.Mathlib.Omega.{arith}
-use lib.IntN.{ℤ, pos}
-use lib.ListN.{length, replicate}
-use lib.Seq.{length-take-le}
+-- The account taken apart is the account.
+use mathlib.Core.Path.{_∙_, ap}
+use lib.ListN.{length}
 use borrow.Author.Needs.{needs}
-use borrow.Author.Tests.{not-true, not-false}
-use Rattle.answer.specs.declared.Answer.{Answer}
-use Rattle.table.proofs.Keyed.{ascending-rises}
-use Rattle.feeds.proofs.Sorted.{Serves, sorted-serves}
-use Rattle.fills.specs.Records.{allWords, allInts}
-use Rattle.portfolio.specs.Answers.{isDone, places, rebalanceAnswer}
-use Rattle.portfolio.specs.Rebalance.{refused, admittedPlan, afterRebalance, rebalanced}
-use Rattle.portfolio.specs.Trades.{filed}
-use Rattle.portfolio.proofs.Refusals.{Rebalancing, rebalance-done, rebalance-ready}
+use Rattle.table.specs.Rows.{columnsOf}
+use Rattle.account.specs.Account.{accountWith}
+use Rattle.portfolio.specs.Answers.{places}
+use Rattle.portfolio.specs.Rebalance.{rebalanced}
+use Rattle.portfolio.specs.Trades.{filed, filedBy}
 use Rattle.portfolio.proofs.rebalance.rebalance_simple.Statement.{statement}
 use Rattle.portfolio.proofs.rebalance.rebalance_simple.Tie as tie
 
-abbrev room-at : tie.Start → ℕ
-room-at s = places (length (s .args .words .now)) (length (s .args .ints .now))
+ledger-of-requires : tie.Need-ledger-of-requires
+ledger-of-requires c κs = search needs
 
-abbrev answer-at : tie.Start → Answer
-answer-at s = rebalanceAnswer (s .args .a) (s .args .targets .now) (s .args .weights .now) (s .args .symbols .now) (s .args .prices .now) (room-at s)
+rebalance-on-requires : tie.Need-rebalance-on-requires
+rebalance-on-requires c κs = search needs
 
-abbrev began : tie.After-rebalance-answer → tie.Start
-began c = c .before .before .before .before .before .before
-
-answer-is : (c : tie.After-rebalance-answer) → c .rebalance-answer .result ≡ answer-at (began c)
-answer-is c = let x = began c .args in c .rebalance-answer .ensures ∙ ap (rebalanceAnswer (x .a) (x .targets .now) (x .weights .now) (x .symbols .now) (x .prices .now)) (c .before .places .ensures)
-
-abbrev accepted : tie.Else1 → tie.Start
-accepted c = began (c .before .before)
-
-is-done : (c : tie.Else1) → isDone (answer-at (accepted c)) ≡ true
-is-done c = sym (ap isDone (answer-is (c .before .before))) ∙ sym (c .before .is-done .ensures) ∙ not-false _ (c .if1 .left)
-
-rebalancing : (c : tie.Else1) → let s = accepted c in Rebalancing (s .args .a) (s .args .targets .now) (s .args .weights .now) (s .args .symbols .now) (s .args .prices .now) (room-at s)
-rebalancing c = rebalance-done _ _ _ _ _ _ (is-done c)
-
--- ---- the sorted prices
-abbrev no-keys : List ℕ
-no-keys = replicate 128 0
-
-abbrev no-values : List ℤ
-no-values = replicate 128 (pos 0)
-
-keys-places : length no-keys ≡ 128
-keys-places = refl
-
-values-places : length no-values ≡ 128
-values-places = refl
-
-abbrev unsorted : tie.After-sort-prices → tie.Else1
-unsorted c = c .before .before .before .before .before
-
-serves : (c : tie.After-sort-prices) → let s = accepted (unsorted c) in
-    Serves (s .args .symbols .now) (s .args .prices .now) no-keys no-values (c .sort-prices .result) (c .sort-prices .last .1 .1 .0) (c .sort-prices .last .1 .1 .1 .0)
-serves c =
-    let s = accepted (unsorted c) in
-    let ss = s .args .symbols .now in
-    let p = rebalancing (unsorted c) .lists in
-    let k : length ss ≤ length no-keys = omega (arith, p .pricesBound, keys-places) in
-    let v : length ss ≤ length no-values = omega (arith, p .pricesBound, values-places) in
-    sorted-serves ss (s .args .prices .now) no-keys no-values (p .pricesPaired) k v _ _ _ (c .sort-prices .ensures)
-
-keys-room : (c : tie.After-sort-prices) → c .sort-prices .result ≤ length (c .sort-prices .last .1 .1 .0)
-keys-room c = omega (arith, serves c .most, serves c .keysLength, rebalancing (unsorted c) .lists .pricesBound, keys-places)
-
-values-room : (c : tie.After-sort-prices) → c .sort-prices .result ≤ length (c .sort-prices .last .1 .1 .1 .0)
-values-room c = omega (arith, serves c .most, serves c .valuesLength, rebalancing (unsorted c) .lists .pricesBound, values-places)
-
-places-requires : tie.Need-places-requires
-places-requires c κs = search needs
-
-rebalance-answer-requires : tie.Need-rebalance-answer-requires
-rebalance-answer-requires c κs = search needs
-
-is-done-requires : tie.Need-is-done-requires
-is-done-requires c κs = search needs
-
-returns : tie.Need-returns
-unfolding rebalanced allWords allInts
-returns c =
-    let q = c .before .before in
-    let s = began q in
-    let e = answer-is q in
-    let d = sym (ap isDone e) ∙ sym (c .before .is-done .ensures) ∙ not-true _ (c .if1 .taken) in
-    rw d (ap (λ w. filed (refused w (s .args .a)) (s .args .words .now) (s .args .ints .now)) e)
-
-is-ascending-requires : tie.Need-is-ascending-requires
-is-ascending-requires c κs = search needs
-
-rebalance-at-requires : tie.Need-rebalance-at-requires
-rebalance-at-requires c κs =
-    let t = c .before .before in
-    let o = t .before .before in
-    rebalance-ready _ _ _ _ _ _ (rebalancing o) _ (ascending-rises (accepted o .args .symbols .now) (sym (t .before .is-ascending .ensures) ∙ t .if2 .taken))
+traded-on-requires : tie.Need-traded-on-requires
+traded-on-requires c κs = search needs
 
 same-length : tie.Need-same-length
 same-length c = search needs
@@ -106,73 +25,16 @@ same-length c = search needs
 same-length-2 : tie.Need-same-length-2
 same-length-2 c = search needs
 
-returns-2 : tie.Need-returns-2
-unfolding rebalanced
-returns-2 c = rw (is-done (c .before .before .before .before .before .before .before .before)) (c .before .before .before .rebalance-at .ensures)
-
-slice-aggregate-sort-prices : tie.Need-slice-aggregate-sort-prices
-slice-aggregate-sort-prices c = search needs
-
-slice-aggregate-sort-prices-2 : tie.Need-slice-aggregate-sort-prices-2
-slice-aggregate-sort-prices-2 c = search needs
-
-sort-prices-requires : tie.Need-sort-prices-requires
-sort-prices-requires c κs = search needs
-
-array-share-prefix-keys : tie.Need-array-share-prefix-keys
-array-share-prefix-keys c = keys-room (c .before .before)
-
-slice-aggregate-rebalance-at : tie.Need-slice-aggregate-rebalance-at
-slice-aggregate-rebalance-at c = sym (length-take-le _ _ (keys-room (c .before .before .before)))
-
-array-share-prefix-values : tie.Need-array-share-prefix-values
-array-share-prefix-values c = values-room (c .before .before .before)
-
-slice-aggregate-rebalance-at-2 : tie.Need-slice-aggregate-rebalance-at-2
-slice-aggregate-rebalance-at-2 c = sym (length-take-le _ _ (values-room (c .before .before .before .before)))
-
-rebalance-at-requires-2 : tie.Need-rebalance-at-requires-2
-rebalance-at-requires-2 c κs =
-    let q = c .before .before .before .before .before .before in
-    rebalance-ready _ _ _ _ _ _ (rebalancing (unsorted q)) _ (serves q .rising)
-
-same-length-3 : tie.Need-same-length-3
-same-length-3 c = search needs
-
-same-length-4 : tie.Need-same-length-4
-same-length-4 c = search needs
-
-returns-3 : tie.Need-returns-3
-unfolding rebalanced
-returns-3 c =
-    let r = c .before .before .before in
-    let q = r .before .before .before .before .before .before .before in
-    let x = accepted (unsorted q) .args in
-    rw (is-done (unsorted q))
-    (r .rebalance-at2 .ensures
-    ∙ ap (λ price. filed (afterRebalance (x .a) (admittedPlan (x .a) (x .targets .now) (x .weights .now) price) (x .period) (x .kind)) (x .words .now) (x .ints .now)) (fun-ext (serves q .price)))
+returns : tie.Need-returns
+returns c =
+    let q = c .before .before .before .before .before .before .before .before .before in
+    let l = q .before .before .before .before .before .before .before .before .before .before .before .before .before .before in
+    let s = l .before .before .before .before .before in
+    let x = s .args in
+    let e = q .rebalance-on .last .1 .1 .1 .1 .1 .1 .1 .1 .1 .1 .1 .1 in
+    ap (λ r. filedBy r (e .0) (e .1 .0)) (c .traded-on .ensures)
+    ∙ q .rebalance-on .ensures (l .ledger-of .ensures .full)
+    ∙ ap (λ h. filed (rebalanced (accountWith h (columnsOf (x .a .positions))) (x .targets .now) (x .weights .now) (x .symbols .now) (x .prices .now) (x .period) (x .kind) (places (length (x .words .now)) (length (x .ints .now)))) (x .words .now) (x .ints .now)) (l .ledger-of .ensures .same)
 
 pub rebalance-simple-spec : {M : Type 1} → statement M
-rebalance-simple-spec =
-    tie.close
-    (tie.spec
-    places-requires
-    rebalance-answer-requires
-    is-done-requires
-    returns
-    is-ascending-requires
-    rebalance-at-requires
-    same-length
-    same-length-2
-    returns-2
-    slice-aggregate-sort-prices
-    slice-aggregate-sort-prices-2
-    sort-prices-requires
-    array-share-prefix-keys
-    slice-aggregate-rebalance-at
-    array-share-prefix-values
-    slice-aggregate-rebalance-at-2
-    rebalance-at-requires-2
-    same-length-3
-    same-length-4
-    returns-3)
+rebalance-simple-spec = tie.close (tie.spec ledger-of-requires rebalance-on-requires traded-on-requires same-length same-length-2 returns)

@@ -1,6 +1,6 @@
 -- Each test in turn is one of the definition's.
 use mathlib.Core.Path.{_≡_, refl, _∙_, sym, ap}
-use mathlib.Core.Bool.{true, false}
+use mathlib.Core.Bool.{true}
 use lib.IntN.{ℤ, pos, negsuc}
 use Prim.Native.Nat.{zero, suc}
 use lib.Signed.{leZ}
@@ -11,15 +11,22 @@ use borrow.Author.Tests.{not-true, not-false, ne-eqb}
 use Rattle.position.specs.Shares.{isZero as isZeroShares}
 use Rattle.position.specs.Symbols.{goodSymbol}
 use Rattle.position.proofs.Counts.{lt-not-ge, not-lt-ge}
-use Rattle.table.specs.Rows.{holding, isZero}
-use Rattle.account.specs.Account.{soundAccount, heldIn}
-use Rattle.account.proofs.Holdings.{account-table}
+use Rattle.table.specs.Rows.{Cols, cols, holding, isZero, Full}
+use Rattle.account.specs.declared.account.Account.{Account}
+use Rattle.account.specs.Account.{accountWith, soundAccount, heldIn}
+use Rattle.account.proofs.Holdings.{account-ordered}
 use Rattle.portfolio.specs.Answers.{hasRoom, closeAnswer}
 use Rattle.portfolio.proofs.refusal.close_answer.Statement.{statement}
 use Rattle.portfolio.proofs.refusal.close_answer.Tie as tie
 
-is-sound : (c : tie.Else1) → soundAccount (c .before .before .args .a) ≡ true
-is-sound c = sym (c .before .is-sound .ensures) ∙ not-false _ (c .if1 .left)
+abbrev columns-at : tie.Start → Cols
+columns-at s = let x = s .args in cols (x .symbol .now) (x .quantity .now) (x .average .now) (x .realized .now) (x .total .now)
+
+abbrev account-at : tie.Start → Account
+account-at s = accountWith (s .args .h) (columns-at s)
+
+is-sound : (c : tie.Else1) → soundAccount (account-at (c .before .before)) ≡ true
+is-sound c = sym (c .before .sound-account .ensures) ∙ not-false _ (c .if1 .left)
 
 abbrev first : tie.Else2 → tie.Else1
 first c = c .before .before
@@ -27,35 +34,39 @@ first c = c .before .before
 abbrev start : tie.Else2 → tie.Start
 start c = first c .before .before
 
-is-good : (c : tie.Else2) → goodSymbol (start c .args .symbol) ≡ true
+is-good : (c : tie.Else2) → goodSymbol (start c .args .s) ≡ true
 is-good c = sym (c .before .is-good .ensures) ∙ not-false _ (c .if2 .left)
 
 is-priced : (c : tie.Else3) → leZ (pos 1) (start (c .before) .args .price) ≡ true
 is-priced c = let s = start (c .before) in not-lt-ge (s .args .price) (pos 1) (simp (toZ-ofZ (s .fits .price)) at (c .if3 .left))
 
-is-roomy : (c : tie.Else4) → let s = start (c .before .before .before) in hasRoom (s .args .a) 1 (s .args .room) ≡ true
-is-roomy c = sym (c .before .has-room .ensures) ∙ not-false _ (c .if4 .left)
+room-is : (c : tie.After-has-room) → let s = start (c .before .before) in c .has-room .result ≡ hasRoom (account-at s) 1 (s .args .room)
+unfolding hasRoom
+room-is c = c .has-room .ensures
 
-is-sound-requires : tie.Need-is-sound-requires
-is-sound-requires c κs = search needs
+is-roomy : (c : tie.Else4) → let s = start (c .before .before .before) in hasRoom (account-at s) 1 (s .args .room) ≡ true
+is-roomy c = sym (room-is (c .before)) ∙ not-false _ (c .if4 .left)
+
+sound-account-requires : tie.Need-sound-account-requires
+sound-account-requires c κs = search needs
 
 returns : tie.Need-returns
 unfolding closeAnswer
-returns c = let t = sym (c .before .is-sound .ensures) ∙ not-true _ (c .if1 .taken) in rw t
+returns c = let t = sym (c .before .sound-account .ensures) ∙ not-true _ (c .if1 .taken) in λ f. rw t
 
 is-good-requires : tie.Need-is-good-requires
 is-good-requires c κs = search needs
 
 returns-2 : tie.Need-returns-2
 unfolding closeAnswer
-returns-2 c = let t = sym (c .before .is-good .ensures) ∙ not-true _ (c .if2 .taken) in rw (is-sound (c .before .before), t)
+returns-2 c = let t = sym (c .before .is-good .ensures) ∙ not-true _ (c .if2 .taken) in λ f. rw (is-sound (c .before .before), t)
 
 returns-3 : tie.Need-returns-3
 unfolding closeAnswer
 returns-3 c =
     let s = start (c .before) in
     let t = lt-not-ge (s .args .price) (pos 1) (simp (toZ-ofZ (s .fits .price)) at (c .if3 .taken)) in
-    rw (is-sound (first (c .before)), is-good (c .before), t)
+    λ f. rw (is-sound (first (c .before)), is-good (c .before), t)
 
 has-room-requires : tie.Need-has-room-requires
 has-room-requires c κs = search needs
@@ -64,11 +75,11 @@ returns-4 : tie.Need-returns-4
 unfolding closeAnswer
 returns-4 c =
     let o = c .before .before in
-    let t = sym (c .before .has-room .ensures) ∙ not-true _ (c .if4 .taken) in
-    rw (is-sound (first (o .before)), is-good (o .before), is-priced o, t)
+    let t = sym (room-is (c .before)) ∙ not-true _ (c .if4 .taken) in
+    λ f. rw (is-sound (first (o .before)), is-good (o .before), is-priced o, t)
 
 holding-of-requires : tie.Need-holding-of-requires
-holding-of-requires c κs = let o = c .before .before .before in account-table (start o .args .a) (is-sound (first o))
+holding-of-requires c κs = search needs
 
 is-zero-requires : tie.Need-is-zero-requires
 is-zero-requires c κs = search needs
@@ -79,15 +90,20 @@ zero-same (pos zero) = refl
 zero-same (pos (suc n)) = ne-eqb (suc n) 0 (λ e. omega arith)
 zero-same (negsuc n) = refl
 
-held-zero : (c : tie.After-is-zero) → let s = start (c .before .before .before .before .before) in c .is-zero .result ≡ isZero (holding (s .args .symbol) (heldIn (s .args .a .positions)) .quantity .0)
-held-zero c = c .is-zero .ensures ∙ zero-same _ ∙ ap (λ p. isZero (p .quantity .0)) (c .before .holding-of .ensures)
+held-zero : (c : tie.After-is-zero) → let s = start (c .before .before .before .before .before) in
+    Full (columns-at s) → c .is-zero .result ≡ isZero (holding (s .args .s) (heldIn (account-at s .positions)) .quantity .0)
+held-zero c f =
+    let e = c .before .before .before .before .before in
+    let o = account-ordered (account-at (start e)) (is-sound (first e)) f in
+    c .is-zero .ensures ∙ zero-same _ ∙ ap (λ p. isZero (p .quantity .0)) (c .before .holding-of .ensures o)
 
 returns-5 : tie.Need-returns-5
 unfolding closeAnswer
 returns-5 c =
     let r = c .before .before .before in
     let o = r .before .before in
-    let t = sym (held-zero (c .before)) ∙ c .if5 .taken in
+    λ f.
+    let t = sym (held-zero (c .before) f) ∙ c .if5 .taken in
     rw (is-sound (first (o .before)), is-good (o .before), is-priced o, is-roomy r, t)
 
 returns-6 : tie.Need-returns-6
@@ -95,14 +111,15 @@ unfolding closeAnswer
 returns-6 c =
     let r = c .before .before .before in
     let o = r .before .before in
-    let t = sym (held-zero (c .before)) ∙ c .if5 .left in
+    λ f.
+    let t = sym (held-zero (c .before) f) ∙ c .if5 .left in
     rw (is-sound (first (o .before)), is-good (o .before), is-priced o, is-roomy r, t)
 
 pub close-answer-spec : {M : Type 1} → statement M
 close-answer-spec =
     tie.close
     (tie.spec
-    is-sound-requires
+    sound-account-requires
     returns
     is-good-requires
     returns-2

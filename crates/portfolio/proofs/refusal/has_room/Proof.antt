@@ -1,14 +1,11 @@
 -- By whether recording is on.
-use Rattle.portfolio.specs.Answers.{hasRoom}
 use Rattle.portfolio.proofs.refusal.has_room.Statement.{statement}
 use Rattle.portfolio.proofs.refusal.has_room.Tie as tie
 
 returns : tie.Need-returns
-unfolding hasRoom
 returns c = simp (c .if1 .taken)
 
 returns-2 : tie.Need-returns-2
-unfolding hasRoom
 returns-2 c = simp (c .if1 .left)
 
 pub has-room-spec : {M : Type 1} → statement M
