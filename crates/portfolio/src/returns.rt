@@ -9,6 +9,7 @@ ghost use Rattle.portfolio.specs.Answers.{returnAnswer};
 ghost use Rattle.portfolio.specs.Returns.{returnOf, isDue, nextSeries, recordedBy, recorded, notedBy};
 use crate::equity::equity_in;
 use crate::refusal::is_done;
+use crate::trade::ledger_of;
 use account::Account;
 use account::Changed;
 use account::Ledger;
@@ -156,17 +157,8 @@ pub fn record_return(
 ) -> Changed
     ensures { λ r. ⌜ recordedBy r (now (equity .exit)) (now (returns .exit)) ≡ recorded a (now (symbols .entry)) (now (prices .entry)) (now (equity .entry)) (now (returns .entry)) ⌝ }
 {
-    let settings = a.settings;
-    let counters = a.counters;
-    let series = a.series;
+    let h = ledger_of(a);
     let t = a.positions;
-    let h = Ledger {
-        cash: a.cash,
-        settings,
-        counters,
-        series,
-        count: t.count,
-    };
     let r = return_on(
         h,
         &t.symbol,
@@ -179,8 +171,8 @@ pub fn record_return(
         equity,
         returns,
     );
-    let after = r.series;
-    a.series = after;
+    let series = r.series;
+    a.series = series;
     let answer = r.answer;
     Changed { answer, account: a }
 }
