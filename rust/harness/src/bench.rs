@@ -1,5 +1,7 @@
-//! Calls on accounts, timed beside the Rust's: through the C interface on bytes that are ready, and through the safe crate.
+//! Calls on accounts, timed beside the Rust's: through the C interface on bytes that are ready, by value within the proved code, and
+//! through the safe crate.
 
+use crate::direct::{direct_rebalance, direct_return, direct_snapshot};
 use oracle::Timed;
 use scenario::{Costs, Prices, Setting, Symbol, Targets};
 use std::hint::black_box;
@@ -133,6 +135,45 @@ impl Ours {
         assert_eq!(answer % 256, 0);
     }
 
+    /// A batch of calls by value. Rebalances, which start from one account each, are half from the one that is found to the first
+    /// list, and half from there to the second.
+    fn directly(&self, call: Call) -> [[u8; 2_736]; 2] {
+        const HALF: u64 = CALLS as u64 / 2;
+        let (found, prices) = (&self.bytes, &self.price_bytes);
+        let mut after = [[0; 2_736]; 2];
+        let [first, second] = &mut after;
+        let done = match call {
+            Call::Rebalance => {
+                direct_rebalance(found, &self.target_bytes[0], prices, HALF, first)
+                    + direct_rebalance(first, &self.target_bytes[1], prices, HALF, second)
+            }
+            Call::Return => direct_return(found, prices, 2 * HALF, first),
+            Call::Snapshot => direct_snapshot(found, prices, 2 * HALF, &mut first[..40], &mut second[..1_024]),
+        };
+        assert_eq!(done, CALLS as u64);
+        after
+    }
+
+    /// What the last calls by value left is what the same calls on bytes leave.
+    fn assert_same(&self, call: Call) {
+        let [first, second] = self.directly(call);
+        let mut called = self.clone();
+        called.on_bytes(call, 0);
+        match call {
+            Call::Rebalance => {
+                assert_eq!(first[..], called.bytes);
+                called.on_bytes(call, 1);
+                assert_eq!(second[..], called.bytes);
+            }
+            Call::Return => assert_eq!(first[..], called.bytes),
+            Call::Snapshot => {
+                let (figures, weights) = called.record_bytes.split_at(40);
+                assert_eq!(first[..32], figures[..32]);
+                assert_eq!(second[..16 * self.prices.len()], weights[..16 * self.prices.len()]);
+            }
+        }
+    }
+
     /// The k-th call through the safe crate.
     fn on_account(&mut self, call: Call, k: usize) {
         let (account, prices) = (&mut self.account, &self.prices);
@@ -156,9 +197,9 @@ fn theirs(rust: &mut Timed, call: Call, k: usize) {
 }
 
 /// Nanoseconds a call of one batch.
-fn batch(mut call: impl FnMut(usize)) -> f64 {
+fn batch(calls: impl FnOnce()) -> f64 {
     let start = Instant::now();
-    (0..CALLS).for_each(&mut call);
+    calls();
     start.elapsed().as_secs_f64() / CALLS as f64 * 1e9
 }
 
@@ -167,8 +208,8 @@ fn median(mut times: Vec<f64>) -> f64 {
     times[times.len() / 2]
 }
 
-/// Every batch starts from the same account; the three take turns, so that what else the machine does falls on all.
-fn timed(row: &Row, n: usize) -> Option<[f64; 3]> {
+/// Every batch starts from the same account; the four take turns, so that what else the machine does falls on all.
+fn timed(row: &Row, n: usize) -> Option<[f64; 4]> {
     let list = |weight: fn(usize) -> f64| (0..n).map(|k| (symbol(k), weight(k))).collect::<Targets>();
     let targets = row.weights.map(list);
     let prices: Prices = (0..n).map(|k| (symbol(k), 1_000 + 37 * k as i64)).collect();
@@ -187,28 +228,31 @@ fn timed(row: &Row, n: usize) -> Option<[f64; 3]> {
     let a = &ours.account;
     let figures = [a.cash(), a.last_rebalance_order_count() as i64, a.trimmed_fill_count() as i64];
     assert_eq!(rust.figures(), figures, "both are the same account");
-    let mut times = [const { Vec::new() }; 3];
+    ours.assert_same(row.call);
+    let mut times = [const { Vec::new() }; 4];
     for _ in 0..BATCHES {
         let (mut theirs_now, mut ours_now) = (rust.clone(), ours.clone());
-        times[0].push(batch(|k| theirs(&mut theirs_now, row.call, k)));
-        times[1].push(batch(|k| ours_now.on_bytes(row.call, k)));
-        times[2].push(batch(|k| ours_now.on_account(row.call, k)));
+        times[0].push(batch(|| (0..CALLS).for_each(|k| theirs(&mut theirs_now, row.call, k))));
+        times[1].push(batch(|| _ = black_box(ours_now.directly(row.call))));
+        times[2].push(batch(|| (0..CALLS).for_each(|k| ours_now.on_bytes(row.call, k))));
+        times[3].push(batch(|| (0..CALLS).for_each(|k| ours_now.on_account(row.call, k))));
     }
     Some(times.map(median))
 }
 
 pub fn run() -> bool {
     println!("accounts: nanoseconds a call, median of {BATCHES} batches of {CALLS} calls;");
-    println!("nanobook walks the ordered map of the differential runs, which is slower than its own hash map");
+    println!("nanobook walks the ordered map of the differential runs, and under tools/hash-order its own hash map");
     for n in [8, 32, 64] {
         for row in &ROWS {
-            let Some([rust, bytes, safe]) = timed(row, n) else {
+            let Some([rust, direct, bytes, safe]) = timed(row, n) else {
                 println!("accounts: SKIPPED, since nanobook's source is not at hand");
                 return true;
             };
             let name = row.name;
             println!(
-                "  {n:>2} symbols, {name:<20} Rust {rust:>6.0}, port on bytes {bytes:>5.0} ({:.2}), by the crate {safe:>5.0} ({:.2})",
+                "  {n:>2} symbols, {name:<20} Rust {rust:>6.0}, port directly {direct:>5.0} ({:.2}), on bytes {bytes:>5.0} ({:.2}), by the crate {safe:>5.0} ({:.2})",
+                direct / rust,
                 bytes / rust,
                 safe / rust
             );

@@ -4,6 +4,7 @@ mod account;
 mod bench;
 mod damage;
 mod differ;
+mod direct;
 mod fills;
 mod leaf;
 mod played;

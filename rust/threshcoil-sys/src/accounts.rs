@@ -4,17 +4,19 @@
 //! eight bits and a count of records or weights above them. After a refusal every lent byte is as found.
 
 /// Declares an entry and wraps it for slices, one parameter after the other.
+#[doc(hidden)]
+#[macro_export]
 macro_rules! entry {
     ($doc:literal $name:ident [$($taken:tt)*] [$($declared:tt)*] [$($given:tt)*] $slice:ident: &mut [$of:ty], $($rest:tt)*) => {
-        entry!($doc $name [$($taken)* $slice: &mut [$of],] [$($declared)* _: *mut $of, _: usize,]
+        $crate::entry!($doc $name [$($taken)* $slice: &mut [$of],] [$($declared)* _: *mut $of, _: usize,]
             [$($given)* $slice.as_mut_ptr(), $slice.len(),] $($rest)*);
     };
     ($doc:literal $name:ident [$($taken:tt)*] [$($declared:tt)*] [$($given:tt)*] $slice:ident: &[$of:ty], $($rest:tt)*) => {
-        entry!($doc $name [$($taken)* $slice: &[$of],] [$($declared)* _: *const $of, _: usize,]
+        $crate::entry!($doc $name [$($taken)* $slice: &[$of],] [$($declared)* _: *const $of, _: usize,]
             [$($given)* $slice.as_ptr(), $slice.len(),] $($rest)*);
     };
     ($doc:literal $name:ident [$($taken:tt)*] [$($declared:tt)*] [$($given:tt)*] $number:ident: $of:ty, $($rest:tt)*) => {
-        entry!($doc $name [$($taken)* $number: $of,] [$($declared)* _: $of,] [$($given)* $number,] $($rest)*);
+        $crate::entry!($doc $name [$($taken)* $number: $of,] [$($declared)* _: $of,] [$($given)* $number,] $($rest)*);
     };
     ($doc:literal $name:ident [$($taken:tt)*] [$($declared:tt)*] [$($given:tt)*]) => {
         #[doc = $doc]
@@ -28,8 +30,11 @@ macro_rules! entry {
     };
 }
 
+/// Entries of proved code, as they stand in the Rattle source.
+#[doc(hidden)]
+#[macro_export]
 macro_rules! entries {
-    ($($doc:literal $name:ident($($taken:tt)*);)*) => { $(entry!($doc $name [] [] [] $($taken)*,);)* };
+    ($($doc:literal $name:ident($($taken:tt)*);)*) => { $($crate::entry!($doc $name [] [] [] $($taken)*,);)* };
 }
 
 entries! {
