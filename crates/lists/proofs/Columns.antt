@@ -71,6 +71,9 @@ module _ {A : Type 0} where
   listed n f false = refl
 
   -- as many places of a column are lent as are read, whatever is after them
+  pub front-room : (most n : ℕ) (f : ℕ → A) (r : List A) → countOf most n ≤ length (pick (wholeOf most n) (places (n / 16) f) [] ++ r)
+  front-room most n f r = simp length-append (omega (arith, listed n f (wholeOf most n)))
+
   pub front-long : (most n : ℕ) (f : ℕ → A) (r : List A) → length (take (countOf most n) (pick (wholeOf most n) (places (n / 16) f) [] ++ r)) ≡ countOf most n
   front-long most n f r =
       let l = pick (wholeOf most n) (places (n / 16) f) [] in

@@ -8,7 +8,7 @@ use lib.Ieee.{Float}
 use lib.ListN.{length, take}
 use Rattle.lists.specs.Entries.{wholeList, places}
 use Rattle.lists.specs.Lists.{symbolOf, weightOf, priceOf, symbolsIn, weightsIn, pricesIn, Listed, entriesInto, targetsInto, pricesInto, targetsOf, pricesOf}
-use Rattle.lists.proofs.Columns.{count-small, places-long, front-all, front-long}
+use Rattle.lists.proofs.Columns.{count-small, places-long, front-room, front-long, front-all}
 
 module _ (l : List ℕ) where
   pub symbols-long : length (symbolsIn l) ≡ length l / 16
@@ -65,6 +65,8 @@ module _ (l : List ℕ) where
 -- what a caller that lends the first places of the columns on lends
 pub record Fronts {A : Type 0} (most : ℕ) (l : List ℕ) (vs : List A) (t : Listed A) : Type 0 where
   pub small : t .count ≤ most
+  pub symbols-room : t .count ≤ length (t .symbol)
+  pub values-room : t .count ≤ length (t .value)
   pub symbols-long : length (take (t .count) (t .symbol)) ≡ t .count
   pub values-long : length (take (t .count) (t .value)) ≡ t .count
   pub symbols : wholeList most l ≡ true → take (t .count) (t .symbol) ≡ symbolsIn l
@@ -73,6 +75,8 @@ pub record Fronts {A : Type 0} (most : ℕ) (l : List ℕ) (vs : List A) (t : Li
 fronts : {A : Type 0} (most : ℕ) (l : List ℕ) (f : ℕ → A) (s : List ℕ) (v : List A) → Fronts most l (places (length l / 16) f) (entriesInto most l (places (length l / 16) f) s v)
 fronts most l f s v = record {
   small = count-small most (length l);
+  symbols-room = front-room most (length l) (symbolOf l) _;
+  values-room = front-room most (length l) f _;
   symbols-long = front-long most (length l) (symbolOf l) _;
   values-long = front-long most (length l) f _;
   symbols = front-all most (length l) (symbolOf l) _;
