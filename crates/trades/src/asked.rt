@@ -5,13 +5,11 @@ ghost use Rattle.table.specs.Keyed.{both};
 ghost use Rattle.table.specs.Rows.{cols};
 ghost use Rattle.feeds.specs.Checks.{unless};
 ghost use Rattle.account.specs.Account.{soundAccount, accountWith};
-ghost use Rattle.trades.specs.Asked.{kindOf, wholeRun, early, earlyOn};
-use account::Account;
+ghost use Rattle.trades.specs.Asked.{kindOf, wholeRun, earlyOn};
 use account::Ledger;
 use account::sound_account;
 use answer::Answer;
 use fills::ExecutionKind;
-use layout::ReadAccount;
 
 // The kind of a number that is known.
 pub(crate) fn kind_of(kind: u64) -> ExecutionKind
@@ -37,15 +35,8 @@ pub(crate) fn both(a: bool, b: bool) -> bool
     if a { b } else { false }
 }
 
-// Another answer, unless the account is not sound.
-fn unsound_or(a: Account, other: Answer) -> Answer
-    ensures { λ r. ⌜ r ≡ unless (soundAccount a) Unsound other ⌝ }
-{
-    if a.is_sound() { other } else { Answer::Unsound }
-}
-
-// The same of a ledger and five columns.
-fn unsound_or_on<'a>(
+// Another answer, unless the account of a ledger and five columns is not sound.
+fn unsound_or<'a>(
     h: Ledger,
     symbol: &'a [u64; 64],
     quantity: &'a [i64; 64],
@@ -65,7 +56,7 @@ fn unsound_or_on<'a>(
 
 // Done where the call on an account that was read is to be made. It tells an unsound account itself, so that soundness is looked at twice only
 // where something else is bad.
-pub(crate) fn early_on<'a>(
+pub(crate) fn early<'a>(
     h: Ledger,
     symbol: &'a [u64; 64],
     quantity: &'a [i64; 64],
@@ -78,7 +69,7 @@ pub(crate) fn early_on<'a>(
     ensures { λ r. ⌜ r ≡ earlyOn (accountWith h (cols (now (symbol .entry)) (now (quantity .entry)) (now (average .entry)) (now (realized .entry)) (now (total .entry)))) kind whole ⌝ }
 {
     if 1 < kind {
-        return unsound_or_on(
+        return unsound_or(
             h,
             symbol,
             quantity,
@@ -89,7 +80,7 @@ pub(crate) fn early_on<'a>(
         );
     }
     if !whole {
-        return unsound_or_on(
+        return unsound_or(
             h,
             symbol,
             quantity,
@@ -98,22 +89,6 @@ pub(crate) fn early_on<'a>(
             total,
             Answer::TooLong,
         );
-    }
-    Answer::Done
-}
-
-// Done where the call is to be made. It tells an unsound account itself, so that soundness is looked at twice only where something else is bad.
-pub(crate) fn early(r: ReadAccount, kind: u64, whole: bool) -> Answer
-    ensures { λ a. ⌜ a ≡ early r kind whole ⌝ }
-{
-    if !r.good {
-        return Answer::Unsound;
-    }
-    if 1 < kind {
-        return unsound_or(r.account, Answer::BadSetting);
-    }
-    if !whole {
-        return unsound_or(r.account, Answer::TooLong);
     }
     Answer::Done
 }

@@ -1,10 +1,12 @@
 // What a call that traded leaves in lent bytes.
 ghost use mathlib.Core.Path.{_≡_};
 ghost use Prim.Native.Nat.{_≤_, _/_, min};
+ghost use Rattle.table.specs.Rows.{cols};
+ghost use Rattle.portfolio.specs.Trades.{tradedOn};
 ghost use Rattle.trades.specs.Told.{tell, finished};
-use layout::write_account;
+use layout::write_ledger;
 use lists::write_records;
-use portfolio::Traded;
+use portfolio::Ran;
 use portfolio::is_done;
 
 // The places of a record buffer, of which a call fills no more than `most`.
@@ -16,23 +18,29 @@ pub(crate) fn places(bytes: usize, most: usize) -> usize
 }
 
 // The account and its records after a call that was done; after another every byte is as found.
-pub(crate) fn finish(
-    t: Traded,
+pub(crate) fn finish<'a>(
+    t: Ran,
+    symbol: &'a [u64; 64],
+    quantity: &'a [i64; 64],
+    average: &'a [i64; 64],
+    realized: &'a [i64; 64],
+    total: &'a [i64; 64],
     words: &[u64],
     ints: &[i64],
     account: &mut [u8],
     records: &mut [u8],
 ) -> u64
     requires { ⌜ t .records ≤ 64 ⌝ }
-    ensures { λ r. ⌜ tell r (now (account .exit)) (now (records .exit)) ≡ finished t (now (words .entry)) (now (ints .entry)) (now (account .entry)) (now (records .entry)) ⌝ }
+    ensures { λ r. ⌜ tell r (now (account .exit)) (now (records .exit))
+        ≡ finished (tradedOn t (cols (now (symbol .entry)) (now (quantity .entry)) (now (average .entry)) (now (realized .entry)) (now (total .entry)))) (now (words .entry)) (now (ints .entry)) (now (account .entry)) (now (records .entry)) ⌝ }
 {
     let answer = t.answer;
     if !is_done(answer) {
         return answer::number(answer);
     }
     let n = t.records;
-    let a = t.account;
-    write_account(a, account);
+    let h = t.ledger;
+    write_ledger(h, symbol, quantity, average, realized, total, account);
     write_records(words, ints, n, records);
     256 * (n as u64)
 }

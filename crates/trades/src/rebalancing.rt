@@ -3,6 +3,8 @@ ghost use mathlib.Core.Path.{_≡_};
 ghost use mathlib.Core.Bool.{true};
 ghost use Prim.Native.Nat.{_/_, _≤_, min};
 ghost use lib.ListN.{length};
+ghost use Rattle.table.specs.Rows.{cols, Full};
+ghost use Rattle.account.specs.Account.{accountWith};
 ghost use Rattle.lists.specs.Entries.{wholeList};
 ghost use Rattle.lists.specs.Lists.{symbolsIn, weightsIn, pricesIn};
 ghost use Rattle.portfolio.specs.Answers.{places};
@@ -16,17 +18,25 @@ use crate::asked::kind_of;
 use crate::asked::whole_run;
 use crate::filing::finish;
 use crate::filing::places;
-use account::Account;
-use layout::read_account;
+use account::Ledger;
+use answer::Answer;
+use layout::is_account;
+use layout::read_columns;
+use layout::read_ledger;
 use lists::is_whole;
-use lists::read_prices;
-use lists::read_targets;
+use lists::prices_into;
+use lists::targets_into;
 use portfolio::is_done;
-use portfolio::rebalance_simple;
+use portfolio::rebalance_on;
 
-// A rebalance by whole lists, whose records stand first in number slices.
+// A rebalance on lent columns by whole lists, whose records stand first in number slices.
 fn rebalance_at(
-    a: Account,
+    h: Ledger,
+    symbol: &mut [u64; 64],
+    quantity: &mut [i64; 64],
+    average: &mut [i64; 64],
+    realized: &mut [i64; 64],
+    total: &mut [i64; 64],
     targets: &[u8],
     prices: &[u8],
     period: u64,
@@ -36,22 +46,27 @@ fn rebalance_at(
     account: &mut [u8],
     records: &mut [u8],
 ) -> u64
-    requires { ⌜ (wholeList 64 (now targets) ≡ true) × (wholeList 128 (now prices) ≡ true) × (length (now words) / 4 ≤ min (length (now records) / 96) 64) ⌝ }
+    requires { ⌜ (wholeList 64 (now targets) ≡ true) × (wholeList 128 (now prices) ≡ true) × (length (now words) / 4 ≤ min (length (now records) / 96) 64)
+        × Full (cols (now symbol) (now quantity) (now average) (now realized) (now total)) ⌝ }
     ensures { λ r. ⌜ tell r (now (account .exit)) (now (records .exit))
-        ≡ told (rebalanced a (symbolsIn (now (targets .entry))) (weightsIn (now (targets .entry))) (symbolsIn (now (prices .entry))) (pricesIn (now (prices .entry)))
+        ≡ told (rebalanced (accountWith h (cols (now (symbol .entry)) (now (quantity .entry)) (now (average .entry)) (now (realized .entry)) (now (total .entry))))
+        (symbolsIn (now (targets .entry))) (weightsIn (now (targets .entry))) (symbolsIn (now (prices .entry))) (pricesIn (now (prices .entry)))
         period (kindOf kind) (places (length (now (words .entry))) (length (now (ints .entry))))) (now (account .entry)) (now (records .entry)) ⌝ }
 {
     let k = kind_of(kind);
-    let t = read_targets(targets);
-    let p = read_prices(prices);
-    let n = t.count;
-    let m = p.count;
-    let ts = t.symbol;
-    let ws = t.weight;
-    let ss = p.symbol;
-    let ps = p.price;
-    let traded = rebalance_simple(
-        a,
+    let mut ts = [0u64; 64];
+    let mut ws = [0.0f64; 64];
+    let n = targets_into(targets, &mut ts, &mut ws);
+    let mut ss = [0u64; 128];
+    let mut ps = [0i64; 128];
+    let m = prices_into(prices, &mut ss, &mut ps);
+    let t = rebalance_on(
+        h,
+        symbol,
+        quantity,
+        average,
+        realized,
+        total,
         &ts[..n],
         &ws[..n],
         &ss[..m],
@@ -61,12 +76,28 @@ fn rebalance_at(
         words,
         ints,
     );
-    finish(traded, words, ints, account, records)
+    finish(
+        t,
+        symbol,
+        quantity,
+        average,
+        realized,
+        total,
+        words,
+        ints,
+        account,
+        records,
+    )
 }
 
 // No more than 64 records are made.
 fn rebalance_in(
-    a: Account,
+    h: Ledger,
+    symbol: &mut [u64; 64],
+    quantity: &mut [i64; 64],
+    average: &mut [i64; 64],
+    realized: &mut [i64; 64],
+    total: &mut [i64; 64],
     targets: &[u8],
     prices: &[u8],
     period: u64,
@@ -74,9 +105,10 @@ fn rebalance_in(
     account: &mut [u8],
     records: &mut [u8],
 ) -> u64
-    requires { ⌜ (wholeList 64 (now targets) ≡ true) × (wholeList 128 (now prices) ≡ true) ⌝ }
+    requires { ⌜ (wholeList 64 (now targets) ≡ true) × (wholeList 128 (now prices) ≡ true) × Full (cols (now symbol) (now quantity) (now average) (now realized) (now total)) ⌝ }
     ensures { λ r. ⌜ tell r (now (account .exit)) (now (records .exit))
-        ≡ told (rebalanced a (symbolsIn (now (targets .entry))) (weightsIn (now (targets .entry))) (symbolsIn (now (prices .entry))) (pricesIn (now (prices .entry)))
+        ≡ told (rebalanced (accountWith h (cols (now (symbol .entry)) (now (quantity .entry)) (now (average .entry)) (now (realized .entry)) (now (total .entry))))
+        (symbolsIn (now (targets .entry))) (weightsIn (now (targets .entry))) (symbolsIn (now (prices .entry))) (pricesIn (now (prices .entry)))
         period (kindOf kind) (length (now (records .entry)) / 96)) (now (account .entry)) (now (records .entry)) ⌝ }
 {
     let mut words = [0u64; 256];
@@ -85,7 +117,12 @@ fn rebalance_in(
     let w = 4 * room;
     let i = 8 * room;
     rebalance_at(
-        a,
+        h,
+        symbol,
+        quantity,
+        average,
+        realized,
+        total,
         targets,
         prices,
         period,
@@ -110,12 +147,50 @@ pub extern "C" fn tc_rebalance_simple(
     ensures { λ r. ⌜ tell r (now (account .exit)) (now (records .exit))
         ≡ told (rebalanceIn (now (account .entry)) (now (targets .entry)) (now (prices .entry)) period kind (now (records .entry))) (now (account .entry)) (now (records .entry)) ⌝ }
 {
-    let r = read_account(account);
+    if !is_account(account) {
+        return answer::number(Answer::Unsound);
+    }
+    let mut symbol = [0u64; 64];
+    let mut quantity = [0i64; 64];
+    let mut average = [0i64; 64];
+    let mut realized = [0i64; 64];
+    let mut total = [0i64; 64];
+    read_columns(
+        account,
+        &mut symbol,
+        &mut quantity,
+        &mut average,
+        &mut realized,
+        &mut total,
+    );
+    let h = read_ledger(account);
     let listed = both(is_whole(targets.len(), 64), is_whole(prices.len(), 128));
-    let answer = early(r, kind, both(listed, whole_run(records.len())));
+    let whole = both(listed, whole_run(records.len()));
+    let answer = early(
+        h,
+        &symbol,
+        &quantity,
+        &average,
+        &realized,
+        &total,
+        kind,
+        whole,
+    );
     if !is_done(answer) {
         return answer::number(answer);
     }
-    let a = r.account;
-    rebalance_in(a, targets, prices, period, kind, account, records)
+    rebalance_in(
+        h,
+        &mut symbol,
+        &mut quantity,
+        &mut average,
+        &mut realized,
+        &mut total,
+        targets,
+        prices,
+        period,
+        kind,
+        account,
+        records,
+    )
 }

@@ -11,7 +11,7 @@ ghost use Rattle.portfolio.specs.Answers.{isDone};
 ghost use Rattle.portfolio.specs.Returns.{recorded};
 ghost use Rattle.trades.specs.Asked.{accountIn, Holds};
 ghost use Rattle.trades.specs.Returns.{noted, note, returnIn};
-use crate::asked::early_on;
+use crate::asked::early;
 use account::Ledger;
 use answer::Answer;
 use layout::is_account;
@@ -101,7 +101,7 @@ pub extern "C" fn tc_record_return(
     );
     let h = read_ledger(account);
     let listed = is_whole(prices.len(), 128);
-    let answer = early_on(
+    let answer = early(
         h,
         &symbol,
         &quantity,

@@ -4,14 +4,14 @@ use borrow.Author.Needs.{needs}
 use Rattle.trades.proofs.asked.unsound_or.Statement.{statement}
 use Rattle.trades.proofs.asked.unsound_or.Tie as tie
 
-is-sound-requires : tie.Need-is-sound-requires
-is-sound-requires c κs = search needs
+sound-account-requires : tie.Need-sound-account-requires
+sound-account-requires c κs = search needs
 
 returns : tie.Need-returns
-returns c = simp (sym (c .before .is-sound .ensures) ∙ c .if1 .taken)
+returns c = simp (sym (c .before .sound-account .ensures) ∙ c .if1 .taken)
 
 returns-2 : tie.Need-returns-2
-returns-2 c = simp (sym (c .before .is-sound .ensures) ∙ c .if1 .left)
+returns-2 c = simp (sym (c .before .sound-account .ensures) ∙ c .if1 .left)
 
 pub unsound-or-spec : {M : Type 1} → statement M
-unsound-or-spec = tie.close (tie.spec is-sound-requires returns returns-2)
+unsound-or-spec = tie.close (tie.spec sound-account-requires returns returns-2)

@@ -7,6 +7,8 @@ use lib.IntN.{ℤ, pos}
 use lib.ListN.{length, take}
 use lib.Seq.{length-take-le}
 use mir.Facts.{toZ-ofZ}
+use Rattle.table.specs.Rows.{Cols, cols}
+use Rattle.account.specs.Account.{accountWith}
 use Rattle.portfolio.specs.Answers.{places}
 use Rattle.portfolio.specs.Close.{closed}
 use Rattle.trades.specs.Asked.{kindOf}
@@ -15,6 +17,12 @@ use borrow.Author.Needs.{needs}
 use Rattle.trades.proofs.Asking.{close-room}
 use Rattle.trades.proofs.closing.close_in.Statement.{statement}
 use Rattle.trades.proofs.closing.close_in.Tie as tie
+
+abbrev begun : tie.After-places → tie.Start
+begun c = c .before .before .before
+
+abbrev columns-at : tie.Start → Cols
+columns-at s = cols (s .args .symbol .now) (s .args .quantity .now) (s .args .average .now) (s .args .realized .now) (s .args .total .now)
 
 -- what is lent of the two local arrays
 abbrev words-at : tie.After-places → List ℕ
@@ -42,18 +50,18 @@ array-borrow-prefix-words : tie.Need-array-borrow-prefix-words
 array-borrow-prefix-words c = search needs
 
 slice-aggregate-close-at : tie.Need-slice-aggregate-close-at
-slice-aggregate-close-at c = sym (length-take-le (4 * c .before .places .result) _ (omega (arith, c .before .places .ensures)))
+slice-aggregate-close-at c = let p = c .before .before .before .before .before .before in sym (length-take-le (4 * p .places .result) _ (omega (arith, p .places .ensures)))
 
 array-borrow-prefix-ints : tie.Need-array-borrow-prefix-ints
 array-borrow-prefix-ints c = search needs
 
 slice-aggregate-close-at-2 : tie.Need-slice-aggregate-close-at-2
-slice-aggregate-close-at-2 c = sym (length-take-le (8 * c .before .before .places .result) _ (omega (arith, c .before .before .places .ensures)))
+slice-aggregate-close-at-2 c = let p = c .before .before .before .before .before .before .before in sym (length-take-le (8 * p .places .result) _ (omega (arith, p .places .ensures)))
 
 close-at-requires : tie.Need-close-at-requires
 close-at-requires c κs =
-    let p = c .before .before .before .before in
-    omega (arith, p .places .ensures, words-long p)
+    let p = c .before .before .before .before .before .before .before .before .before in
+    (omega (arith, p .places .ensures, words-long p), begun p .pre)
 
 same-length : tie.Need-same-length
 same-length c = search needs
@@ -64,13 +72,14 @@ same-length-2 c = search needs
 returns : tie.Need-returns
 returns c =
     let f = c .before .before .before .before .before .before in
-    let p = f .before .before .before .before .before in
-    let s = c .before .before .before .before .before .before .before .before .before .before .before .before .before .before in
+    let p = f .before .before .before .before .before .before .before .before .before .before in
+    let s = begun p in
     let a = s .args in
+    let x = accountWith (a .h) (columns-at s) in
     let q : places (length (words-at p)) (length (ints-at p)) ≡ min (length (a .records .now) / 96) 1 = omega (arith, p .places .ensures, words-long p, ints-long p) in
     (simp (toZ-ofZ (s .fits .price)) at (f .close-at .ensures))
-    ∙ ap (λ n. told (closed (a .a) (a .symbol) (a .price) (a .period) (kindOf (a .kind)) n) (a .account .now) (a .records .now)) q
-    ∙ ap (λ o. told o (a .account .now) (a .records .now)) (close-room (a .a) (a .symbol) (a .price) (a .period) (kindOf (a .kind)) (length (a .records .now) / 96))
+    ∙ ap (λ n. told (closed x (a .s) (a .price) (a .period) (kindOf (a .kind)) n) (a .account .now) (a .records .now)) q
+    ∙ ap (λ o. told o (a .account .now) (a .records .now)) (close-room x (a .s) (a .price) (a .period) (kindOf (a .kind)) (length (a .records .now) / 96))
 
 pub close-in-spec : {M : Type 1} → statement M
 close-in-spec =

@@ -19,8 +19,8 @@ returns c =
     let s = c .before .before .before .before .before .before in
     rw d (ap (λ n. tell n (s .args .account .now) (s .args .records .now)) (c .number .ensures))
 
-write-account-requires : tie.Need-write-account-requires
-write-account-requires c κs = search needs
+write-ledger-requires : tie.Need-write-ledger-requires
+write-ledger-requires c κs = search needs
 
 write-records-requires : tie.Need-write-records-requires
 write-records-requires c κs = search needs
@@ -41,7 +41,7 @@ returns-2 c =
     let a = w .before .before .before .before in
     let q = a .before .before .before in
     let d = sym (q .before .is-done .ensures) ∙ not-false _ (q .if1 .left) in
-    simp (d, a .write-account .ensures, w .write-records .ensures)
+    simp (d, a .write-ledger .ensures, w .write-records .ensures)
 
 pub finish-spec : {M : Type 1} → statement M
-finish-spec = tie.close (tie.spec is-done-requires number-requires returns write-account-requires write-records-requires mul-result same-length same-length-2 returns-2)
+finish-spec = tie.close (tie.spec is-done-requires number-requires returns write-ledger-requires write-records-requires mul-result same-length same-length-2 returns-2)

@@ -59,10 +59,10 @@ columns-read c = c .before .before
 abbrev found : tie.After-read-ledger → tie.Else1
 found c = columns-read c .before .before .before .before .before .before .before
 
-abbrev ledger-read : tie.After-early-on → tie.After-read-ledger
+abbrev ledger-read : tie.After-early → tie.After-read-ledger
 ledger-read c = c .before .before .before .before .before .before .before
 
-abbrev start-of : tie.After-early-on → tie.Start
+abbrev start-of : tie.After-early → tie.Start
 start-of c = begun (found (ledger-read c) .before)
 
 abbrev columns-at : tie.After-read-columns → Cols
@@ -74,12 +74,12 @@ good-at c = sym (c .before .is-account .ensures) ∙ not-false _ (c .if1 .left)
 holds : (c : tie.After-read-ledger) → Holds (begun (found c .before) .args .account .now) (c .read-ledger .result) (columns-at (columns-read c))
 holds c = read-holds _ _ _ _ (good-at (found c)) (c .read-ledger .ensures) (columns-read c .read-columns .ensures)
 
-answer-is : (c : tie.After-early-on) → c .early-on .result ≡ first (start-of c)
+answer-is : (c : tie.After-early) → c .early .result ≡ first (start-of c)
 answer-is c =
     let r = ledger-read c in
     let s = start-of c in
     let w = wholeList 128 (s .args .prices .now) in
-    c .early-on .ensures
+    c .early .ensures
     ∙ ap (earlyOn (accountWith (r .read-ledger .result) (columns-at (columns-read r))) 0) (c .before .before .before .before .before .before .is-whole .ensures)
     ∙ ap (λ (a : Account). earlyOn a 0 w) (holds r .same)
     ∙ sym (early-good (s .args .account .now) 0 w (good-at (found r)))
@@ -110,8 +110,8 @@ read-ledger-requires c κs = search needs
 is-whole-requires : tie.Need-is-whole-requires
 is-whole-requires c κs = search needs
 
-early-on-requires : tie.Need-early-on-requires
-early-on-requires c κs = search needs
+early-requires : tie.Need-early-requires
+early-requires c κs = search needs
 
 is-done-requires : tie.Need-is-done-requires
 is-done-requires c κs = search needs
@@ -128,7 +128,7 @@ returns-2 c =
     let s = start-of e in
     let d = sym (c .before .before .is-done .ensures) ∙ not-true _ (c .before .if2 .taken) in
     ap (λ n. note n (s .args .account .now) (s .args .equities .now) (s .args .returns .now)) (c .number2 .ensures)
-    ∙ told-refused s (e .early-on .result) (sym (answer-is e)) d
+    ∙ told-refused s (e .early .result) (sym (answer-is e)) d
 
 done-at : (c : tie.Else2) → isDone (first (start-of (c .before .before))) ≡ true
 done-at c = sym (ap isDone (answer-is (c .before .before))) ∙ sym (c .before .is-done .ensures) ∙ not-false _ (c .if2 .left)
@@ -168,7 +168,7 @@ tc-record-return-spec =
     read-columns-requires
     read-ledger-requires
     is-whole-requires
-    early-on-requires
+    early-requires
     is-done-requires
     number-requires-2
     same-length-2
