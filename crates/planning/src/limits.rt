@@ -31,11 +31,14 @@ fn under_maximum(s: Settings, quantity: Shares, price: i64) -> Shares
     quantity
 }
 
-// "a notional below the minimum skips": what is left to order, 0 where the order is skipped.
+// "a notional below the minimum skips": what is left to order, 0 where the order is skipped. No notional is below 0.
 pub(crate) fn limited(s: Settings, quantity: Shares, price: i64) -> Shares
     ensures { λ r. ⌜ r .0 ≡ limited s (quantity .0) price ⌝ }
 {
     let left = under_maximum(s, quantity, price);
+    if s.min_order_value <= 0 {
+        return left;
+    }
     if notional_of(left, price) < s.min_order_value {
         return Shares::ZERO;
     }
