@@ -10,9 +10,10 @@ use lib.Ieee.{Float}
 use Rattle.table.specs.Places.{shorter}
 use Rattle.planning.specs.declared.plan.PlannedOrder.{PlannedOrder}
 use Rattle.table.specs.Rows.{isZero}
-use Rattle.planning.specs.Plan.{orderCount}
+use Rattle.planning.specs.Plan.{plannedClose, orderCount}
+use Rattle.planning.proofs.Plans.{close-wanted}
 use Rattle.admission.specs.Admission.{capped, added, addedAll}
-use Rattle.admission.specs.Columns.{Cols, Full, from, plans, Counted, counted, addedTo}
+use Rattle.admission.specs.Columns.{Cols, cols, Full, from, plans, Counted, counted, addedTo}
 use Rattle.admission.proofs.Inserting.{added-none, added-lists}
 use Rattle.admission.proofs.Plans.{from-on, from-end}
 use Rattle.account.specs.declared.settings.Settings.{Settings}
@@ -27,6 +28,13 @@ module _ (sorted : Bool) (f : ℕ → PlannedOrder) (all : Counted) where
   pub adding-end : (m i : ℕ) (t : Counted) → m ≤ i → addedAllTo sorted (from f i (m - i)) t ≡ all → t ≡ all
   unfolding addedAllTo
   adding-end m i t h inv = rw (from-end f i m h) at inv
+
+pub counted-same : {n m : ℕ} {k l : List ℕ} {q r p v : List ℤ} {d e : List Float} → n ≡ m → k ≡ l → q ≡ r → p ≡ v → d ≡ e → counted n (cols k q p d) ≡ counted m (cols l r v e)
+counted-same a b g h i = cc
+
+-- a holding that is a target asks for an order of nothing
+pub wanted-none : (s : Settings) (equity : ℤ) (k : ℕ) (q p : ℤ) (wanted : Bool) → wanted ≡ true → isZero (plannedClose s equity k q p wanted .quantity .0) ≡ true
+wanted-none s equity k q p wanted e = rw (e, close-wanted s equity k q p)
 
 pub closes-start : (s : Settings) (equity : ℤ) (price : ℕ → ℤ) (targets : List ℕ) (n m : ℕ) (ks : List ℕ) (qs : List ℤ) (sorted : Bool) (t : Counted) → m ≡ shorter n 64
     → addedAllTo sorted (from (closeAt s equity price targets ks qs) 0 (m - 0)) t ≡ addedAllTo sorted (closesAt s equity price targets n ks qs) t

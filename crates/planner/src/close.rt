@@ -1,7 +1,6 @@
 // "Priced open holdings absent from targets are closed, in symbol order".
 ghost use mathlib.Core.Path.{_≡_};
 ghost use Rattle.feeds.specs.Lists.{among};
-ghost use Rattle.planning.specs.Plan.{plannedClose};
 ghost use Rattle.admission.specs.Columns.{cols, counted};
 ghost use Rattle.planner.specs.Adding.{Closes};
 use crate::place::used;
@@ -10,7 +9,6 @@ use admission::add_order;
 use admission::is_capped;
 use feeds::is_among;
 use feeds::quote;
-use planning::PlannedOrder;
 use planning::planned_close;
 use position::Shares;
 use position::Symbol;
@@ -27,24 +25,8 @@ fn is_target(symbol: u64, targets: &[u64], hint: usize) -> bool
     is_among(symbol, targets)
 }
 
-// The close of one holding, of nothing where its symbol is a target.
-fn close_of(
-    s: Settings,
-    equity: i64,
-    symbol: u64,
-    quantity: i64,
-    price: i64,
-    targets: &[u64],
-    hint: usize,
-) -> PlannedOrder
-    ensures { λ r. ⌜ r ≡ plannedClose s equity symbol quantity price (among symbol (now (targets .entry))) ⌝ }
-{
-    let wanted = is_target(symbol, targets, hint);
-    planned_close(s, equity, Symbol(symbol), Shares(quantity), price, wanted)
-}
-
 // Adds the closes of n holdings to a plan of m orders; returns the count. Symbols that ascend find their prices each at the
-// place after the last, and a holding that is kept likely stands at its own place among the targets.
+// place after the last, and a holding that is kept likely stands at its own place among the targets: it needs no price.
 pub fn plan_closes<'a>(
     key: &'a [u64; 64],
     held: &'a [i64; 64],
@@ -72,10 +54,12 @@ pub fn plan_closes<'a>(
     while i < places {
         let k = key[i];
         let h = held[i];
-        let q = quote(symbols, prices, k, hint);
-        hint = q.next;
-        let o = close_of(s, equity, k, h, q.price, targets, i);
-        count = add_order(symbol, quantity, price, drift, count, o, capped);
+        if !is_target(k, targets, i) {
+            let q = quote(symbols, prices, k, hint);
+            hint = q.next;
+            let o = planned_close(s, equity, Symbol(k), Shares(h), q.price, false);
+            count = add_order(symbol, quantity, price, drift, count, o, capped);
+        }
         i += 1;
     }
     count

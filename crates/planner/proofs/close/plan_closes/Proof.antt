@@ -1,8 +1,11 @@
 -- The plan so far, with the closes that are left added to it, is the plan with all of them.
 use Prim.Native.Nat.{ℕ, _≤_, _<_, _-_, _+_}
 use mathlib.Core.Path.{_≡_, refl, sym, ap, _∙_}
+use mathlib.Core.Bool.{true, false}
+use mathlib.Core.Logic.{⊎-elim}
 use native.Mathlib.Omega.{arith}
 use borrow.Author.Needs.{needs}
+use borrow.Author.Tests.{not-true, not-false}
 use lib.IntN.{ℤ, pos}
 use lib.ListN.{getD}
 use mir.Syntax.{w64}
@@ -11,12 +14,12 @@ use mir.Facts.{toZ-ofZ}
 use Rattle.table.specs.Keyed.{Rising}
 use Rattle.table.specs.Places.{shorter}
 use Rattle.feeds.specs.Lists.{among, priceOf}
-use Rattle.planning.specs.Plan.{plannedClose}
 use Rattle.admission.specs.Admission.{capped}
-use Rattle.admission.specs.Columns.{cols, counted, from}
+use Rattle.admission.specs.Columns.{cols, counted, from, addedTo}
+use Rattle.admission.proofs.Inserting.{added-none}
 use Rattle.admission.proofs.Plans.{shorter-le}
 use Rattle.planner.specs.Adding.{addedAllTo, closeAt, closesAt, Closes}
-use Rattle.planner.proofs.Adding.{closes-start, adding-on, adding-end}
+use Rattle.planner.proofs.Adding.{closes-start, counted-same, wanted-none, adding-on, adding-end}
 use Rattle.planner.proofs.close.plan_closes.Statement.{statement}
 use Rattle.planner.proofs.close.plan_closes.Tie as tie
 
@@ -53,11 +56,14 @@ mul-h c = search needs
 element-copy-out-h : tie.Need-element-copy-out-h Inv-loop μ-loop
 element-copy-out-h c = search needs
 
+is-target-requires : tie.Need-is-target-requires Inv-loop μ-loop
+is-target-requires c κs = search needs
+
 quote-requires : tie.Need-quote-requires Inv-loop μ-loop
 quote-requires c κs = search needs
 
-close-of-requires : tie.Need-close-of-requires Inv-loop μ-loop
-close-of-requires c κs = search needs
+planned-close-requires : tie.Need-planned-close-requires Inv-loop μ-loop
+planned-close-requires c κs = search needs
 
 add-order-requires : tie.Need-add-order-requires Inv-loop μ-loop
 add-order-requires c κs = search needs
@@ -74,28 +80,44 @@ fit-held d = search needs
 fit-price : (d : tie.After-struct-told Inv-loop μ-loop) → SFits w64 (d .before .quote .result .price)
 fit-price d = search needs
 
+-- a holding that is a target adds nothing; any other adds its close
+stepped : (c : tie.Joined1 Inv-loop μ-loop)
+    → let l = c .before .before .before .before .before in
+    let a = l .before .before .before .before .before .args in
+    Rising (a .symbols .now)
+    → counted (c .if1 .count) (cols (c .if1 .symbol) (c .if1 .quantity) (c .if1 .price) (c .if1 .drift))
+    ≡ addedTo (capped (a .s)) (closeAt (a .s) (toZ w64 (ofZ w64 (a .equity))) (priceOf (a .symbols .now) (a .prices .now)) (a .targets .now) (a .key .now) (a .held .now) (l .loop .i))
+    (counted (l .loop .count) (cols (l .loop .symbol) (l .loop .quantity) (l .loop .price) (l .loop .drift)))
+stepped c r =
+    let h = c .before .before in
+    let l = h .before .before .before in
+    let a = l .before .before .before .before .before .args in
+    let k = getD (a .key .now) (l .loop .i) 0 in
+    let x = counted (l .loop .count) (cols (l .loop .symbol) (l .loop .quantity) (l .loop .price) (l .loop .drift)) in
+    ⊎-elim
+    (λ w.
+    let fp = fit-price (record { before = record { before = record { before = c .before; if1 = w .0 }; quote = w .1 }; struct-told = w .2 }) in
+    let e : among k (a .targets .now) ≡ false = sym (c .before .is-target .ensures) ∙ not-true _ (w .0 .taken) in
+    counted-same (w .13) (w .9) (w .10) (w .11) (w .12)
+    ∙ w .8 .ensures
+    ∙ ap (λ b. addedTo b (w .3 .result) x) (l .before .is-capped .ensures)
+    ∙ ap (λ o. addedTo (capped (a .s)) o x) (w .3 .ensures ∙ simp (toZ-ofZ (fit-held h), toZ-ofZ fp) (simp (w .1 .ensures .settled r, e))))
+    (λ w.
+    let e : among k (a .targets .now) ≡ true = sym (c .before .is-target .ensures) ∙ not-false _ (w .0 .left) in
+    counted-same (w .5) (w .1) (w .2) (w .3) (w .4) ∙ sym (added-none _ (capped (a .s)) x (wanted-none (a .s) _ _ _ _ _ e)))
+    (c .if1 .came)
+
 loop-again : tie.Need-loop-again Inv-loop μ-loop
 loop-again c =
-    let o = c .before .before .before .before .before .close-of in
-    let q = c .before .before .before .before .before .before .before .quote in
-    let w = c .before .before .before .before .before .before .before .before .before .before in
+    let w = c .before .before .before .before in
     let l = w .before in
-    let st = l .before .before .before .before .before in
-    let a = st .args in
+    let a = l .before .before .before .before .before .args in
     let t = w .loop-test .taken in
-    let j = l .loop .i in
-    let qs = a .held .now in
-    let pr = priceOf (a .symbols .now) (a .prices .now) in
-    let fq = fit-held (c .before .before .before .before .before .before .before .before) in
-    let fp = fit-price (c .before .before .before .before .before .before) in
+    let f = closeAt (a .s) (toZ w64 (ofZ w64 (a .equity))) (priceOf (a .symbols .now) (a .prices .now)) (a .targets .now) (a .key .now) (a .held .now) in
     let x = counted (l .loop .count) (cols (l .loop .symbol) (l .loop .quantity) (l .loop .price) (l .loop .drift)) in (
       omega (arith, t),
       l .loop .inv .1,
-      λ r.
-          adding-on (capped (a .s)) (closeAt (a .s) (toZ w64 (ofZ w64 (a .equity))) pr (a .targets .now) (a .key .now) qs) _ (l .before .before .used .result) j (o .result) x _ t
-          (o .ensures ∙ simp (toZ-ofZ fq, toZ-ofZ fp) (simp (q .ensures .settled r)))
-          (c .add-order .ensures ∙ simp (l .before .is-capped .ensures))
-          (l .loop .inv .2 r),
+      λ r. adding-on (capped (a .s)) f _ (l .before .before .used .result) (l .loop .i) (f (l .loop .i)) x _ t refl (stepped c r) (l .loop .inv .2 r),
     )
 
 returns : tie.Need-returns Inv-loop μ-loop
@@ -117,8 +139,9 @@ plan-closes-spec =
     element-copy-out-k
     mul-h
     element-copy-out-h
+    is-target-requires
     quote-requires
-    close-of-requires
+    planned-close-requires
     add-order-requires
     add-i
     loop-less
