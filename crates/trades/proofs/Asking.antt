@@ -7,7 +7,6 @@ use native.Mathlib.Omega.{arith}
 use lib.Dec.{leb}
 use lib.IntN.{ℤ}
 use lib.Ieee.{Float}
-use lib.ListN.{length, take, length-take}
 use borrow.Author.Tests.{le-leb, lt-leb, leb-true, leb-false}
 use Rattle.answer.specs.declared.Answer.{Answer}
 use Rattle.answer.specs.declared.Answer.the-variants.{Done, BadSetting, TooLong, Unsound}
@@ -96,7 +95,3 @@ module _ (a : Account) (ts : List ℕ) (ws : List Float) (ps : List ℕ) (vs : L
 pub return-unsound : (a : Account) (ps : List ℕ) (vs es : List ℤ) (rs : List Float) → soundAccount a ≡ false → recorded a ps vs es rs ≡ record { answer = Unsound; account = a; equities = es; returns = rs }
 unfolding recorded returnAnswer
 return-unsound a ps vs es rs e = simp e
-
--- ---- a front of a column that is as long as the count lies within it
-pub within : {A : Type 0} (n : ℕ) (l : List A) → length (take n l) ≡ n → n ≤ length l
-within n l e = omega (arith, length-take n l)

@@ -23,7 +23,7 @@ use Rattle.layout.proofs.Runs.{length-run}
 use Rattle.portfolio.specs.declared.returns.Noted as portfolio
 use Rattle.portfolio.specs.Answers.{isDone}
 use Rattle.portfolio.specs.Returns.{notedBy}
-use Rattle.trades.specs.Asked.{accountIn, Holds}
+use Rattle.trades.specs.Asked.{Holds}
 use Rattle.trades.specs.Returns.{note, noted}
 
 columns-full : (b : List ℕ) → length b ≡ 2736 → Full (columnsOf (accountOf (wordsOf b) .positions))

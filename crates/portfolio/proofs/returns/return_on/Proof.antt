@@ -1,5 +1,5 @@
 -- A refusal leaves all as it was; else the equity and the return go to the account's counts.
-use Prim.Native.Nat.{ℕ, _<_, _≤_}
+use Prim.Native.Nat.{_<_}
 use mathlib.Core.Path.{_≡_, _∙_, sym, ap}
 use mathlib.Core.Bool.{true}
 use mathlib.Core.List.{List}
@@ -9,7 +9,7 @@ use mir.Val.{SFits}
 use mir.Facts.{toZ-ofZ}
 use borrow.Author.Needs.{needs}
 use borrow.Author.Tests.{not-true, not-false}
-use lib.IntN.{ℤ, pos}
+use lib.IntN.{ℤ}
 use lib.Ieee.{Float}
 use lib.ListN.{length, set}
 use Rattle.answer.specs.declared.Answer.{Answer}
@@ -19,7 +19,7 @@ use Rattle.account.specs.declared.account.Series.{Series}
 use Rattle.account.specs.Account.{withSeries, accountWith}
 use Rattle.feeds.specs.Lists.{priceOf}
 use Rattle.table.specs.Keyed.{pick}
-use Rattle.table.specs.Rows.{Cols, cols, Full}
+use Rattle.table.specs.Rows.{Cols, cols}
 use Rattle.portfolio.specs.Answers.{isDone, returnAnswer}
 use Rattle.portfolio.specs.Returns.{Recorded, recorded, returnOf, isDue, nextSeries}
 use Rattle.portfolio.proofs.Refusals.{Returned, Queried, done-is, return-done, query-done}

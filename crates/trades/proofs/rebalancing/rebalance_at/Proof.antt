@@ -12,7 +12,6 @@ use Rattle.portfolio.specs.Answers.{places}
 use Rattle.portfolio.specs.Rebalance.{rebalanced}
 use Rattle.portfolio.specs.Trades.{filed, filedBy, tradedOn}
 use Rattle.trades.specs.Asked.{kindOf}
-use Rattle.trades.proofs.Asking.{within}
 use Rattle.trades.proofs.Finishing.{few-records, count-is, finished-told}
 use Rattle.trades.proofs.rebalancing.rebalance_at.Statement.{statement}
 use Rattle.trades.proofs.rebalancing.rebalance_at.Tie as tie
@@ -65,25 +64,25 @@ prices-into-requires : tie.Need-prices-into-requires
 prices-into-requires c κs = search needs
 
 array-share-prefix-ts : tie.Need-array-share-prefix-ts
-array-share-prefix-ts c = within _ _ (targets-lent (c .before .before .before .before .before .before .before .before) .symbols-long)
+array-share-prefix-ts c = targets-lent (c .before .before .before .before .before .before .before .before) .symbols-room
 
 slice-aggregate-rebalance-on : tie.Need-slice-aggregate-rebalance-on
 slice-aggregate-rebalance-on c = sym (targets-lent (c .before .before .before .before .before .before .before .before .before) .symbols-long)
 
 array-share-prefix-ws : tie.Need-array-share-prefix-ws
-array-share-prefix-ws c = within _ _ (targets-lent (c .before .before .before .before .before .before .before .before .before) .values-long)
+array-share-prefix-ws c = targets-lent (c .before .before .before .before .before .before .before .before .before) .values-room
 
 slice-aggregate-rebalance-on-2 : tie.Need-slice-aggregate-rebalance-on-2
 slice-aggregate-rebalance-on-2 c = sym (targets-lent (c .before .before .before .before .before .before .before .before .before .before) .values-long)
 
 array-share-prefix-ss : tie.Need-array-share-prefix-ss
-array-share-prefix-ss c = within _ _ (prices-lent (c .before .before .before .before .before .before .before) .symbols-long)
+array-share-prefix-ss c = prices-lent (c .before .before .before .before .before .before .before) .symbols-room
 
 slice-aggregate-rebalance-on-3 : tie.Need-slice-aggregate-rebalance-on-3
 slice-aggregate-rebalance-on-3 c = sym (prices-lent (c .before .before .before .before .before .before .before .before) .symbols-long)
 
 array-share-prefix-ps : tie.Need-array-share-prefix-ps
-array-share-prefix-ps c = within _ _ (prices-lent (c .before .before .before .before .before .before .before .before) .values-long)
+array-share-prefix-ps c = prices-lent (c .before .before .before .before .before .before .before .before) .values-room
 
 slice-aggregate-rebalance-on-4 : tie.Need-slice-aggregate-rebalance-on-4
 slice-aggregate-rebalance-on-4 c = sym (prices-lent (c .before .before .before .before .before .before .before .before .before) .values-long)

@@ -1,6 +1,5 @@
 -- The call, and the series written where it was done.
 use mathlib.Core.Path.{_≡_, sym, ap, _∙_}
-use lib.ListN.{length, take}
 use borrow.Author.Needs.{needs}
 use Rattle.table.specs.Rows.{Cols, cols}
 use Rattle.account.specs.declared.account.Account.{Account}
@@ -10,7 +9,6 @@ use Rattle.lists.proofs.Lists.{Fronts, price-fronts}
 use Rattle.portfolio.specs.Returns.{recorded, notedBy}
 use Rattle.trades.specs.Asked.{accountIn}
 use Rattle.trades.specs.Returns.{noted}
-use Rattle.trades.proofs.Asking.{within}
 use Rattle.trades.proofs.Holding.{series-kept}
 use Rattle.trades.proofs.recording.record_at.Statement.{statement}
 use Rattle.trades.proofs.recording.record_at.Tie as tie
@@ -43,13 +41,13 @@ prices-into-requires : tie.Need-prices-into-requires
 prices-into-requires c κs = search needs
 
 array-share-prefix-ss : tie.Need-array-share-prefix-ss
-array-share-prefix-ss c = within _ _ (fronts c .symbols-long)
+array-share-prefix-ss c = fronts c .symbols-room
 
 slice-aggregate-return-on : tie.Need-slice-aggregate-return-on
 slice-aggregate-return-on c = sym (fronts (c .before) .symbols-long)
 
 array-share-prefix-ps : tie.Need-array-share-prefix-ps
-array-share-prefix-ps c = within _ _ (fronts (c .before) .values-long)
+array-share-prefix-ps c = fronts (c .before) .values-room
 
 slice-aggregate-return-on-2 : tie.Need-slice-aggregate-return-on-2
 slice-aggregate-return-on-2 c = sym (fronts (c .before .before) .values-long)
