@@ -100,9 +100,6 @@ return-as-query a ps vs n m = go (soundAccount a)
     go false = refl
 
 module _ (a : Account) (ps : List ℕ) (vs : List ℤ) (n m : ℕ) where
-  pub return-unqueried : isDone (queryAnswer a ps vs) ≡ false → returnAnswer a ps vs n m ≡ queryAnswer a ps vs
-  return-unqueried e = return-as-query a ps vs n m ∙ rw e
-
   module _ (e : isDone (queryAnswer a ps vs) ≡ true) where
     pub return-no-equity : n ≤ a .series .«equity_count» → returnAnswer a ps vs n m ≡ BufferFull
     return-no-equity h = return-as-query a ps vs n m ∙ simp (e, lt-leb (a .series .«equity_count» + 1) n (omega arith))
