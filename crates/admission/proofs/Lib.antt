@@ -4,3 +4,4 @@ pub mod Inserting
 pub mod Admitting
 pub mod Running
 pub mod Kept
+pub mod Limited

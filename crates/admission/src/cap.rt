@@ -1,6 +1,6 @@
 // Which orders of a plan the caps admit.
 ghost use mathlib.Core.Path.{_≡_};
-ghost use Rattle.admission.specs.Admission.{capped, reached};
+ghost use Rattle.admission.specs.Admission.{capped, reached, mostOf};
 ghost use Rattle.admission.specs.Offers.{partOffered, offered, Admits};
 use crate::place::used;
 use account::Settings;
@@ -35,6 +35,17 @@ fn is_reached(cap: TradeCap, n: usize) -> bool
     match cap {
         TradeCap::AtMost(most) => most <= n as u64,
         TradeCap::Absent => false,
+    }
+}
+
+// The most orders that it admits of a plan, which has 64 places.
+pub fn most_of(s: Settings) -> usize
+    ensures { λ r. ⌜ r ≡ mostOf s ⌝ }
+{
+    let cap = s.max_trades_per_rebalance;
+    match cap {
+        TradeCap::AtMost(most) => used(most as usize),
+        TradeCap::Absent => 64,
     }
 }
 

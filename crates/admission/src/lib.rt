@@ -7,6 +7,7 @@ mod run;
 
 pub use cap::admit;
 pub use cap::is_capped;
+pub use cap::most_of;
 pub use place::place_by_drift;
 pub use place::place_to_run;
 pub use plan::add_order;

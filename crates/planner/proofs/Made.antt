@@ -1,42 +1,45 @@
 -- A plan made of closes and then of targets, and cut to its caps.
 use Prim.Native.Nat.{ℕ, _+_, _≤_}
-use mathlib.Core.Path.{_≡_, refl, sym, ap, _∙_}
+use mathlib.Core.Path.{_≡_, sym, ap, _∙_}
 use mathlib.Core.List.{List, [], _++_}
 use native.Mathlib.Omega.{arith}
 use mathlib.Core.Bool.{true, false}
 use lib.IntN.{ℤ, pos}
+use lib.ListN.{take}
+use lib.Seq.{take-nil}
 use Rattle.account.specs.declared.settings.Settings.{Settings}
 use Rattle.planning.specs.declared.plan.PlannedOrder.{PlannedOrder}
 use Rattle.planning.specs.Plan.{orderCount}
 use Rattle.planning.proofs.Room.{count-append}
-use Rattle.admission.specs.Admission.{capped, addedAll, admitted}
+use Rattle.admission.specs.Admission.{mostOf, addedAll, admitted}
 use Rattle.admission.specs.Columns.{Cols, cols, Full, plans, Counted, counted}
 use Rattle.admission.specs.Offers.{Admits}
 use Rattle.admission.specs.Running.{cashFirst, inRunningOrder, notionalFrom}
 use Rattle.admission.specs.Runs.{Runs}
+use Rattle.admission.proofs.Limited.{admitted-take}
 use Rattle.admission.proofs.Plans.{plans-few, shorter-le}
 use Rattle.planner.specs.Adding.{addedAllTo, Admitted}
 use Rattle.planner.specs.Planning.{Stands}
-use Rattle.planner.proofs.Adding.{Added, all-lists, added-append}
+use Rattle.planner.proofs.Adding.{Added, all-lists, added-few, added-append}
 
 module _ (s : Settings) (closes targets : List PlannedOrder) (c : Cols) (f : Full c) (h : orderCount (closes ++ targets) ≤ 64) where
-  module _ (u v : Counted) (eu : u ≡ addedAllTo (capped s) closes (counted 0 c)) (ev : v ≡ addedAllTo (capped s) targets u) where
-    closed : Added s closes 0 c u
-    closed = rw eu (all-lists s closes 0 c f (omega (arith, h, count-append closes targets)))
+  module _ (u v : Counted) (eu : u ≡ addedAllTo s closes (counted 0 c)) (ev : v ≡ addedAllTo s targets u) where
+    closed : Added s closes 0 [] u
+    closed = rw eu (all-lists s closes 0 c [] f (omega (arith, h, count-append closes targets)) (plans-few 0 c (omega arith) ∙ sym (take-nil (mostOf s))))
 
-    targeted : Added s targets (u .count) (u .columns) v
-    targeted = rw ev (all-lists s targets (u .count) (u .columns) (closed .full) (omega (arith, h, closed .most, count-append closes targets)))
+    targeted : Added s targets (u .count) (addedAll s closes []) v
+    targeted = rw ev (all-lists s targets (u .count) (u .columns) (addedAll s closes []) (closed .full) (omega (arith, h, closed .most, count-append closes targets)) (closed .same))
 
     pub made : (r : ℕ) (cut : List ℤ) → Admits s (v .count) (v .columns .quantity) (v .columns .price) r cut
         → Admitted s (closes ++ targets) (counted r (cols (v .columns .symbol) cut (v .columns .price) (v .columns .drift)))
     made r cut g =
         let full = targeted .full in
-        let none : plans 0 c ≡ [] = plans-few 0 c (omega arith) in
         record {
           full = record { symbol = full .symbol; quantity = g .kept ∙ full .quantity; price = full .price; drift = full .drift };
           few = omega (arith, g .no-more, targeted .most, closed .most, h, count-append closes targets);
           same = g .same (full .quantity) (v .columns .symbol) (v .columns .drift)
-              ∙ ap (admitted s) (targeted .same ∙ ap (addedAll s targets) (closed .same ∙ ap (addedAll s closes) none) ∙ sym (added-append s closes targets []));
+              ∙ ap (admitted s) (targeted .same ∙ ap (take (mostOf s)) (sym (added-append s closes targets [])))
+              ∙ admitted-take s (addedAll s (closes ++ targets) []) (omega (arith, added-few s (closes ++ targets) [], h));
         }
 
 -- ---- the admitted plan, run as it stands or by cash

@@ -1,7 +1,6 @@
 -- Orders added to the columns of a plan one after another, and the orders that the places of a table and of the targets ask for.
 use Prim.Native.Nat.{ℕ, _≤_}
 use mathlib.Core.Path.{_≡_}
-use mathlib.Core.Bool.{Bool}
 use mathlib.Core.List.{List, [], _∷_, _++_}
 use lib.IntN.{ℤ, pos}
 use lib.ListN.{length, take, getD}
@@ -15,12 +14,16 @@ use Rattle.feeds.specs.Lists.{among, priceOf}
 use Rattle.account.specs.declared.settings.Settings.{Settings}
 use Rattle.planning.specs.declared.plan.PlannedOrder.{PlannedOrder}
 use Rattle.planning.specs.Plan.{plannedClose, plannedTarget, orderCount}
-use Rattle.admission.specs.Admission.{capped, addedAll, admitted}
-use Rattle.admission.specs.Columns.{Full, from, plans, Counted, addedTo}
+use Rattle.admission.specs.Admission.{capped, mostOf, addedAll, admitted}
+use Rattle.admission.specs.Columns.{Full, from, plans, Counted, counted, addedTo}
 
-unfoldable pub addedAllTo : Bool → List PlannedOrder → Counted → Counted
-addedAllTo sorted [] t = t
-addedAllTo sorted (o ∷ os) t = addedAllTo sorted os (addedTo sorted o t)
+-- one order more, in a plan that is kept to the most that its trade cap admits
+abbrev pub keptWith : Settings → PlannedOrder → Counted → Counted
+keptWith s o t = let u = addedTo (capped s) o t in counted (shorter (u .count) (mostOf s)) (u .columns)
+
+unfoldable pub addedAllTo : Settings → List PlannedOrder → Counted → Counted
+addedAllTo s [] t = t
+addedAllTo s (o ∷ os) t = addedAllTo s os (keptWith s o t)
 
 -- the close of the holding at a place of a column of symbols and a column of quantities
 abbrev pub closeAt : Settings → ℤ → (ℕ → ℤ) → List ℕ → List ℕ → List ℤ → ℕ → PlannedOrder
@@ -33,7 +36,7 @@ closesAt s equity price targets n ks qs = from (closeAt s equity price targets k
 
 -- the plan t to u: the closes are added, where the symbols of the prices ascend
 pub record Closes (s : Settings) (equity : ℤ) (ks : List ℕ) (qs : List ℤ) (n : ℕ) (targets symbols : List ℕ) (prices : List ℤ) (t u : Counted) : Type 0 where
-  pub settled : Rising symbols → u ≡ addedAllTo (capped s) (closesAt s equity (priceOf symbols prices) targets n ks qs) t
+  pub settled : Rising symbols → u ≡ addedAllTo s (closesAt s equity (priceOf symbols prices) targets n ks qs) t
 
 -- the quantity at a place that was found, 0 where none was
 abbrev pub quantityAt : Found → List ℤ → ℤ
@@ -55,7 +58,7 @@ targetsAt s equity price ks qs targets weights = from (targetAt s equity price k
 
 -- the plan t to u: the orders for the targets are added, where the symbols of the prices and those of the holdings ascend
 pub record Targets (s : Settings) (equity : ℤ) (ks : List ℕ) (qs : List ℤ) (n : ℕ) (targets : List ℕ) (weights : List Float) (symbols : List ℕ) (prices : List ℤ) (t u : Counted) : Type 0 where
-  pub settled : Rising symbols → Rising (take n ks) → u ≡ addedAllTo (capped s) (targetsAt s equity (priceOf symbols prices) (take n ks) qs targets weights) t
+  pub settled : Rising symbols → Rising (take n ks) → u ≡ addedAllTo s (targetsAt s equity (priceOf symbols prices) (take n ks) qs targets weights) t
 
 -- all of them, in order
 unfoldable pub wantedAt : Settings → ℤ → (ℕ → ℤ) → ℕ → List ℕ → List ℤ → List ℕ → List Float → List PlannedOrder

@@ -7,6 +7,7 @@ use crate::place::used;
 use account::Settings;
 use admission::add_order;
 use admission::is_capped;
+use admission::most_of;
 use feeds::is_among;
 use feeds::quote;
 use planning::planned_close;
@@ -27,6 +28,7 @@ fn is_target(symbol: u64, targets: &[u64], hint: usize) -> bool
 
 // Adds the closes of n holdings to a plan of m orders; returns the count. Symbols that ascend find their prices each at the
 // place after the last, and a holding that is kept likely stands at its own place among the targets: it needs no price.
+// A trade cap admits the first of the plan alone, and those are the same whatever stood after them: the rest is dropped at each step.
 pub fn plan_closes<'a>(
     key: &'a [u64; 64],
     held: &'a [i64; 64],
@@ -48,6 +50,7 @@ pub fn plan_closes<'a>(
 {
     let places = used(n, 64);
     let capped = is_capped(s);
+    let most = most_of(s);
     let mut count = m;
     let mut hint = 0usize;
     let mut i = 0usize;
@@ -60,6 +63,7 @@ pub fn plan_closes<'a>(
             let o = planned_close(s, equity, Symbol(k), Shares(h), q.price, false);
             count = add_order(symbol, quantity, price, drift, count, o, capped);
         }
+        count = used(count, most);
         i += 1;
     }
     count

@@ -8,6 +8,7 @@ use crate::place::used;
 use account::Settings;
 use admission::add_order;
 use admission::is_capped;
+use admission::most_of;
 use feeds::quote;
 use planning::planned_target;
 use position::Shares;
@@ -42,6 +43,7 @@ fn quantity_of<'a>(
 }
 
 // Adds the orders for the targets to a plan of m orders; returns the count. A target is likely held at its own place in the list.
+// The plan is kept to what its trade cap admits, as that of the closes is.
 pub fn plan_targets<'a>(
     key: &'a [u64; 64],
     held: &'a [i64; 64],
@@ -64,6 +66,7 @@ pub fn plan_targets<'a>(
 {
     let places = used(targets.len(), weights.len());
     let capped = is_capped(s);
+    let most = most_of(s);
     let mut count = m;
     let mut hint = 0usize;
     let mut i = 0usize;
@@ -75,6 +78,7 @@ pub fn plan_targets<'a>(
         let h = quantity_of(key, held, n, k, i);
         let o = planned_target(s, equity, Symbol(k), Shares(h), q.price, w);
         count = add_order(symbol, quantity, price, drift, count, o, capped);
+        count = used(count, most);
         i += 1;
     }
     count
