@@ -1,4 +1,4 @@
--- When an account is sound, and the account as scalars and a list of positions.
+-- When an account is sound, the table that holds a list of positions, and an account taken apart into a ledger and columns.
 use Prim.Native.Nat.{ℕ, zero, suc, _-_}
 use mathlib.Core.Bool.{Bool, true}
 use mathlib.Core.List.{List, [], _∷_, _++_, map}

@@ -1,4 +1,4 @@
-// An account goes in by value and comes back by value.
+// An account, which goes in and comes back by value, and the ledger that stands for it where its columns are lent.
 ghost use mathlib.Core.Path.{_≡_};
 ghost use Rattle.account.specs.Account.{soundAccount};
 use crate::settings::Settings;
@@ -31,8 +31,8 @@ pub struct Account {
     pub positions: Table,
 }
 
-// An account but for the columns of its positions, which a caller lends. An account by value is some 2,700 bytes, and each function
-// that takes it copies it.
+// An account but for the columns of its positions, which a caller lends. An account by value is some 2,700 bytes, copied at each function
+// that takes it and is not compiled into its caller.
 pub struct Ledger {
     pub cash: i64,
     pub settings: Settings,

@@ -75,7 +75,7 @@ impl Account {
         found_in(t, f)
     }
 
-    // The position at a place, the lowest symbol at place 0: what walks over all of them call.
+    // The position at a place, the lowest symbol at place 0: for a walk over all of them.
     pub fn position_at(self, index: usize) -> Held
         ensures { λ r. ⌜ r ≡ positionAt index self ⌝ }
     {

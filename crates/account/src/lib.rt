@@ -1,4 +1,4 @@
-// The account: cash, settings, counters, series and positions, by value.
+// The account: cash, settings, counters, series and positions, by value or as a ledger and lent columns.
 mod account;
 mod change;
 mod holding;

@@ -38,7 +38,7 @@ fn is_reached(cap: TradeCap, n: usize) -> bool
     }
 }
 
-// The most orders that it admits of a plan, which has 64 places.
+// The most orders that the trade cap admits of a plan, which has 64 places.
 pub fn most_of(s: Settings) -> usize
     ensures { λ r. ⌜ r ≡ mostOf s ⌝ }
 {

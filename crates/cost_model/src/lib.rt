@@ -63,8 +63,8 @@ impl CostModel {
         1.0 + side(buying) * self.slippage_bps / 10_000.0
     }
 
-    // The price after slippage of a fill of so many micro-shares, below 0 for a sale. Each side has one factor,
-    // whatever the quantity, so that a loop of fills makes it once.
+    // The price after slippage of a fill of so many micro-shares, below 0 for a sale. Each side's factor does not depend on the quantity, so that
+    // a compiler can take it out of a loop of fills.
     pub fn effective_price(self, quantity: Shares, price: i64) -> i64
         ensures { λ r. ⌜ r ≡ effective self (isPositive (quantity .0)) price ⌝ }
     {

@@ -15,7 +15,7 @@ fn price_at(prices: &[i64], i: usize) -> i64
 }
 
 // The price of a symbol in a list whose symbols ascend, as the caller has checked once for all its lookups.
-// Symbols that are looked up in ascending order are found at the hinted place; the price does not depend on the hint.
+// Symbols looked up in ascending order are likely found at the hinted place; the price does not depend on the hint.
 pub fn quote(symbols: &[u64], prices: &[i64], symbol: u64, hint: usize) -> Quote
     ensures { λ r. ⌜ Quotes (now (symbols .entry)) (now (prices .entry)) symbol r ⌝ }
 {

@@ -71,11 +71,12 @@ pub record Room (n : ℕ) (ks symbols : List ℕ) (wanted : List PlannedOrder) (
   pub full : Full (t .columns)
   pub most : orderCount wanted ≤ 64
 
--- the columns of t to the plan u: the orders that are wanted, as the caps admit them
+-- the plan u holds the orders that are wanted, as the caps admit them
 pub record Admitted (s : Settings) (wanted : List PlannedOrder) (u : Counted) : Type 0 where
   pub full : Full (u .columns)
   pub few : u .count ≤ 64
   pub same : plans (u .count) (u .columns) ≡ admitted s (addedAll s wanted [])
 
+-- the columns of t to the plan u
 pub record Makes (s : Settings) (equity : ℤ) (ks : List ℕ) (qs : List ℤ) (n : ℕ) (targets : List ℕ) (weights : List Float) (symbols : List ℕ) (prices : List ℤ) (t u : Counted) : Type 0 where
   pub settled : let wanted = wantedAt s equity (priceOf symbols prices) n ks qs targets weights in Room n ks symbols wanted t → Admitted s wanted u

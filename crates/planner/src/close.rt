@@ -26,8 +26,8 @@ fn is_target(symbol: u64, targets: &[u64], hint: usize) -> bool
     is_among(symbol, targets)
 }
 
-// Adds the closes of n holdings to a plan of m orders; returns the count. Symbols that ascend find their prices each at the
-// place after the last, and a holding that is kept likely stands at its own place among the targets: it needs no price.
+// Adds the closes of n holdings to a plan of m orders; returns the count. A holding that is kept likely stands at its own place among the
+// targets, and needs no price; the price of the next close likely stands at the place after the last one's.
 // A trade cap admits the first of the plan alone, and those are the same whatever stood after them: the rest is dropped at each step.
 pub fn plan_closes<'a>(
     key: &'a [u64; 64],

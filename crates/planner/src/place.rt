@@ -1,8 +1,8 @@
-// The places of a column that are in use.
+// The smaller of two counts.
 ghost use mathlib.Core.Path.{_≡_};
 ghost use Rattle.table.specs.Places.{shorter};
 
-// Their count, of the most that there are, however many there are said to be.
+// n, or the most that there may be: places in use, or orders that the trade cap admits.
 pub(crate) fn used(n: usize, most: usize) -> usize
     ensures { λ r. ⌜ r ≡ shorter n most ⌝ }
 {

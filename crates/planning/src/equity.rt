@@ -11,8 +11,8 @@ fn used(n: usize) -> usize
     if n < 64 { n } else { 64 }
 }
 
-// "the finished sum of position values in symbol order, each step saturating; a missing price counts 0". Symbols that ascend find their
-// prices each at the place after the last.
+// "the finished sum of position values in symbol order, each step saturating; a missing price counts 0". Symbols that ascend likely
+// find their prices each at the place after the last.
 pub fn total_worth<'a>(
     symbol: &'a [u64; 64],
     quantity: &'a [i64; 64],

@@ -84,7 +84,8 @@ fn gap_of(equity: i64, held: Shares, price: i64, weight: f64) -> i64
     words::saturating_sub(target, words::value(held.0, price))
 }
 
-// "the gap becomes shares"; "an unpriced one is passed over". Within the band, where most targets are most days, the gap need not become shares.
+// "the gap becomes shares"; "an unpriced one is passed over". Within the band the gap need not become shares, so the band is tested here before
+// `ordered` tests it.
 pub fn planned_target(
     s: Settings,
     equity: i64,

@@ -31,7 +31,7 @@ sameSide a b = cond (isPositive a) (isPositive b) (not (isPositive b))
 unfoldable pub entered : ℕ → ℤ → ℤ → ℤ → Position
 entered s q r price = row s q price r (value q price)
 
--- ---- adding: the average is worked out of the new total
+-- ---- adding: the average is worked out from the new total
 unfoldable pub averaged : ℕ → ℤ → ℤ → ℤ → Position
 averaged s q r t = row s q (priceAt t q) r t
 

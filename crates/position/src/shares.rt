@@ -79,7 +79,7 @@ impl Shares {
         self.0 < 0
     }
 
-    // "Share sums, negation and absolute value saturate": here and in the four after it.
+    // "Share sums, negation and absolute value saturate": here, in add, in sub and in neg.
     pub fn abs(self) -> Shares
         ensures { λ r. ⌜ r ≡ shares (satAbs (self .0)) ⌝ }
     {

@@ -13,7 +13,7 @@ pub(crate) struct Prices {
     pub price: [i64; 64],
 }
 
-// In a list whose symbols ascend. Symbols that ascend find their prices each at the place after the last.
+// In a list whose symbols ascend. Symbols that ascend likely find their prices each at the place after the last.
 fn looked_up(symbol: &[u64; 64], n: usize, symbols: &[u64], prices: &[i64]) -> Prices
     requires { ⌜ n ≤ 64 ⌝ }
     ensures { λ r. ⌜ Looks n (now (symbol .entry)) (now (symbols .entry)) (now (prices .entry)) (r .price) ⌝ }

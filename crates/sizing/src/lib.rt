@@ -27,7 +27,7 @@ pub fn notional_of(quantity: Shares, price: i64) -> i64
     words::magnitude(quantity.0, price)
 }
 
-// n over the price, snapped to the step: n over the price of a step, once, where that price takes one word.
+// n over the price, snapped to the step, by one division: by the price of a step, which takes one word.
 fn snapped_quotient(n: u64, price: u64, step: u64) -> u64
     requires { ⌜ (price < 2 ^ 32) × (step < 2 ^ 32) ⌝ }
     ensures { λ r. ⌜ r ≡ snap (n / price) step ⌝ }
@@ -146,7 +146,7 @@ fn probe(lo: u64, hi: u64, hint: u64) -> u64
     lo + (hi - lo + 1) / 2
 }
 
-// The hint after mid was tested: below the first guess its neighbour; after that none, and the interval is halved.
+// The hint after mid was tested: after the first guess the count below it; after any other none, and the interval is halved.
 fn after(mid: u64, over: u64) -> u64 {
     if mid == over {
         std::num::wrapping_sub_u64(mid, 1)

@@ -1,4 +1,4 @@
-// Sums on 64-bit words: document 01, 'Sums'. Every function is total and says by one equation what it answers.
+// Sums on 64-bit words: document 01, 'Sums'. Every public function is total and says by one equation what it answers.
 ghost use mathlib.Core.Path.{_≡_};
 ghost use Prim.Native.Nat.{_+_, _*_, _/_, _^_, _≤_, _<_, min};
 ghost use lib.IntN.{natAbs};
