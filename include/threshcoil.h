@@ -46,7 +46,7 @@ enum tc_answer {
     TC_TWICE = 3,           /* a symbol stands twice in one list */
     TC_BAD_PRICE = 4,       /* a price is below 1 */
     TC_BAD_WEIGHT = 5,      /* a weight is not finite */
-    TC_TOO_LONG = 6,        /* a list or return series is over its bound, or no whole number of entries */
+    TC_TOO_LONG = 6,        /* a list or series is over its bound or no whole number of entries, or a place to write has another length */
     TC_TOO_MANY = 7,        /* held symbols and target symbols together exceed 64 */
     TC_NO_RECORD_ROOM = 8,  /* recording is on and the record buffer has too few places */
     TC_NOT_HELD = 9,        /* a close names an absent or flat position */

@@ -1,4 +1,4 @@
--- What is told of equal calls that were made so many times: how many were done, which is all or none, and in lent bytes what the last one left.
+-- What is told of a call that is made `times` times on one account: `times` where it is done, else 0, and in lent bytes what it left.
 use Prim.Native.Nat.{ℕ}
 use mathlib.Core.List.{List, [], _∷_}
 use Rattle.answer.specs.declared.Answer.{Answer}

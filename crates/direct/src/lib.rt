@@ -1,5 +1,5 @@
-// Calls by value, each made as often as it is asked for: what a call takes without the bytes of the C interface is timed through these.
-// What the last one left is written to lent bytes, so that no compiler can leave out a part of the work as unused.
+// Calls by value, each made as often as it is asked for, and at least once: what a call takes without the bytes of the C interface is timed
+// through these. What the last one left is written to lent bytes, so that its work is not left out as unused.
 mod made;
 mod rebalancing;
 mod recording;

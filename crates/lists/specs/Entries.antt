@@ -10,7 +10,7 @@ use Rattle.table.specs.Keyed.{pick, both}
 abbrev pub wholeOf : ℕ → ℕ → Bool
 wholeOf most n = both (eqb (n % 16) 0) (leb (n / 16) most)
 
--- "bytes that are no whole number of entries" and a list "over its bound" are not read
+-- bytes that are no whole number of entries, and a list "over its bound", are not read
 abbrev pub countOf : ℕ → ℕ → ℕ
 countOf most n = pick (wholeOf most n) (n / 16) 0
 

@@ -35,7 +35,7 @@ fn put_ints(ints: &[i64], i: usize, out: &mut [u8])
     }
 }
 
-// Writes the first records of number slices, as many as `count` and all three slices allow. "The rest are as found."
+// Writes the first records of number slices, as many as `count` and all three slices allow. "the rest are as found".
 pub fn write_records(words: &[u64], ints: &[i64], count: usize, out: &mut [u8])
     ensures { λ _. ⌜ now (out .exit) ≡ writtenRecords (now (words .entry)) (now (ints .entry)) count (now (out .entry)) ⌝ }
 {

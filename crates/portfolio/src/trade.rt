@@ -32,7 +32,7 @@ pub struct Ran {
     pub ledger: Ledger,
 }
 
-// An account but for its columns. An account by value tells that they have 64 places; columns that are lent do not.
+// An account but for its columns. An account by value tells that they have 64 places; of lent columns only a copy would.
 pub(crate) fn ledger_of(a: Account) -> Ledger
     ensures { λ r. ⌜ Begins a r ⌝ }
 {

@@ -54,8 +54,7 @@ fn unsound_or<'a>(
     }
 }
 
-// Done where the call on an account that was read is to be made. It tells an unsound account itself, so that soundness is looked at twice only
-// where something else is bad.
+// Done where the call on an account that was read is to be made. It tells an unsound account itself, so that soundness is looked at once.
 pub(crate) fn early<'a>(
     h: Ledger,
     symbol: &'a [u64; 64],

@@ -1,6 +1,6 @@
 //! A portfolio account whose every call is proved: rebalancing to target weights, closing positions, recording returns.
 //!
-//! The work is done by the Rattle crate `threshcoil`, reached through its C interface; here it has the names and types
+//! The work is done by proved Rattle crates, reached through their C interface; here it has the names and types
 //! that Rust callers expect. An [`Account`] owns its bytes, and everything else that a call fills is lent by the caller:
 //! nothing allocates, and no input makes a call panic. What a call does not accept it refuses, by a [`Refusal`], and then
 //! the account and every lent place are as they were.
