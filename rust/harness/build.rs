@@ -10,9 +10,9 @@ fn main() {
             .join("../../target/archive")
             .join(env::var_os("TARGET").unwrap()),
     };
-    let archive = folder.join("libdirect.a");
+    let archive = folder.join("libc_timed.a");
     println!("cargo::rerun-if-changed={}", archive.display());
     assert!(archive.is_file(), "no {}: tools/archive makes it", archive.display());
     println!("cargo::rustc-link-search=native={}", folder.display());
-    println!("cargo::rustc-link-lib=static=direct");
+    println!("cargo::rustc-link-lib=static=c_timed");
 }

@@ -1,7 +1,7 @@
 // Opening an account.
 ghost use mathlib.Core.Path.{_≡_};
 ghost use lib.IntN.{pos};
-ghost use Rattle.words.specs.Sums.{SCALE};
+ghost use Rattle.sums.specs.Sums.{SCALE};
 ghost use Rattle.account.specs.Settings.{openingSettings};
 ghost use Rattle.account.specs.Calls.{answered, emptyAccount, zeroAccount, opened, opening};
 use crate::account::Account;

@@ -12,9 +12,9 @@ use lib.ListN.{length, getD, set}
 use lib.Seq.{getD-set-same, getD-set-other}
 use mir.Syntax.{w64}
 use mir.Val.{SFits}
-use Rattle.words.specs.Sums.{notional}
-use Rattle.words.proofs.Ints.{P-sub, fits-of, one-sided, lt-no, P-fits, N-fits}
-use Rattle.words.proofs.Laws.{N-notional}
+use Rattle.sums.specs.Sums.{notional}
+use Rattle.sums.proofs.Ints.{P-sub, fits-of, one-sided, lt-no, P-fits, N-fits}
+use Rattle.sums.proofs.Laws.{N-notional}
 use Rattle.position.proofs.Counts.{not-lt-ge}
 use Rattle.table.specs.Keyed.{pick}
 use Rattle.table.specs.Places.{shorter}
@@ -23,8 +23,8 @@ use Rattle.sizing.specs.Sizing.{cutTo}
 use Rattle.account.specs.declared.settings.Settings.{Settings}
 use Rattle.account.specs.declared.settings.TradeCap.{TradeCap}
 use Rattle.account.specs.declared.settings.TradeCap.the-variants.{Absent, AtMost}
-use Rattle.planning.specs.declared.plan.PlannedOrder.{PlannedOrder}
-use Rattle.planning.specs.Plan.{planned}
+use Rattle.wanted.specs.declared.plan.PlannedOrder.{PlannedOrder}
+use Rattle.wanted.specs.Plan.{planned}
 use Rattle.admission.specs.declared.cap.Offered.{Offered}
 use Rattle.admission.specs.declared.cap.Offered.the-variants.{Whole, Part, Ends}
 use Rattle.admission.specs.Admission.{hasCap, capped, reached, notionalOf, lastAdmitted, admittedFrom, admitted}

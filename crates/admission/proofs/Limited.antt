@@ -15,7 +15,7 @@ use Rattle.table.specs.Rows.{isZero}
 use Rattle.account.specs.declared.settings.Settings.{Settings}
 use Rattle.account.specs.declared.settings.TradeCap.{TradeCap}
 use Rattle.account.specs.declared.settings.TradeCap.the-variants.{Absent, AtMost}
-use Rattle.planning.specs.declared.plan.PlannedOrder.{PlannedOrder}
+use Rattle.wanted.specs.declared.plan.PlannedOrder.{PlannedOrder}
 use Rattle.admission.specs.Admission.{capped, drawnBefore, insertBy, added, reached, mostIn, mostOf, notionalOf, admittedFrom, admitted}
 use Rattle.admission.specs.Columns.{Cols, Full, plans}
 use Rattle.admission.proofs.Plans.{plans-length, shorter-below}

@@ -10,7 +10,7 @@ use lib.ListN.{length}
 use borrow.Author.Tests.{ltb-true, ltb-false}
 use Rattle.table.specs.Keyed.{pick}
 use Rattle.table.specs.Places.{shorter}
-use Rattle.planning.specs.declared.plan.PlannedOrder.{PlannedOrder}
+use Rattle.wanted.specs.declared.plan.PlannedOrder.{PlannedOrder}
 use Rattle.admission.specs.Columns.{Cols, orderAt, from, plans, placeOf}
 
 -- ---- the count of places in use

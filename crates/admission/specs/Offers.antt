@@ -6,7 +6,7 @@ use lib.ListN.{length}
 use lib.IntN.{ℤ, pos, _-ℤ_}
 use lib.Signed.{ltZ, leZ}
 use lib.Ieee.{Float}
-use Rattle.words.specs.Sums.{notional}
+use Rattle.sums.specs.Sums.{notional}
 use Rattle.table.specs.Keyed.{pick}
 use Rattle.table.specs.Rows.{isZero}
 use Rattle.sizing.specs.Sizing.{cutTo}

@@ -2,7 +2,7 @@
 use mathlib.Core.Bool.{true}
 use mathlib.Core.Path.{_≡_, refl}
 use lib.Ieee.{add, mul, div, lt, le, ofInt, toSigned}
-use Rattle.words.specs.Sums.{clamp64, satAdd, satSub, satAbs, value, notional, priceAt, signed, snap}
+use Rattle.sums.specs.Sums.{clamp64, satAdd, satSub, satAbs, value, notional, priceAt, signed, snap}
 use Rattle.doubles.specs.Doubles.{roundAway}
 use Rattle.position.specs.Shares.{isZero}
 use Rattle.position.specs.Fills.{applied, sameSide, entered, averaged, grown, closedBy, gain, realizedBy, closedCost, closed, partlyClosed, reduced}
@@ -11,7 +11,7 @@ use Rattle.sizing.specs.Sizing.{above, sharesFor, sized, drift}
 use Rattle.sizing.specs.Afford.{need, fits, largest, affordable}
 use Rattle.fills.specs.Orders.{paid}
 use Rattle.fills.specs.Fill.{cashTaken, fillsWhole, made, counted, settled, trimmedFill, fill, fillAll}
-use Rattle.planning.specs.Plan.{withinBand}
+use Rattle.wanted.specs.Plan.{withinBand}
 use Rattle.cases.specs.Rows.{allRight}
 use Rattle.cases.specs.Table.{table}
 

@@ -4,7 +4,7 @@ use mathlib.Core.Bool.{Bool, true, false}
 use mathlib.Core.List.{List, [], _∷_}
 use lib.IntN.{ℤ, pos, negsuc, negℤ}
 use lib.Ieee.{Float, fin}
-use Rattle.words.specs.Sums.{value}
+use Rattle.sums.specs.Sums.{value}
 use Rattle.position.specs.declared.position.Position.{Position}
 use Rattle.position.specs.Rows.{shares, symbol, fresh, held, avg, realized, total}
 use Rattle.position.specs.Fills.{applied}
@@ -20,7 +20,7 @@ use Rattle.fills.specs.Orders.{State}
 use Rattle.fills.specs.Fill.{fill, fillAll}
 use Rattle.account.specs.declared.settings.Settings.{Settings}
 use Rattle.account.specs.declared.settings.TradeCap.the-variants.{Absent}
-use Rattle.planning.specs.Plan.{withinBand}
+use Rattle.wanted.specs.Plan.{withinBand}
 use Rattle.cases.specs.Rows.{Row, says}
 
 -- whole shares as micro-shares

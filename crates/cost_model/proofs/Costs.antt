@@ -14,7 +14,7 @@ use Rattle.doubles.specs.Doubles.{finite}
 use Rattle.doubles.proofs.Laws.{toI64-fits}
 use Rattle.doubles.proofs.Chain.{buy-price-above-zero, sell-price-not-negative}
 use Rattle.doubles.proofs.Chain as Chain
-use Rattle.words.proofs.Ints.{P, N, natAbs-parts, P-fits, N-fits, le-yes, lt-yes, lt-no, le-is}
+use Rattle.sums.proofs.Ints.{P, N, natAbs-parts, P-fits, N-fits, le-yes, lt-yes, lt-no, le-is}
 use Rattle.cost_model.specs.Costs as Costs
 use Rattle.cost_model.specs.Costs.{tenThousand, commission, atLeast, cost, slippageFactor, slipped, effective, goodRate, goodCosts}
 use Rattle.cost_model.specs.declared.CostModel.{CostModel}

@@ -87,7 +87,7 @@ pub fn slipped(factor: f64, price: i64) -> i64
 fn commission(bps: f64, notional: i64) -> i64
     ensures { λ r. ⌜ r ≡ commission bps (natAbs notional) ⌝ }
 {
-    let amount = doubles::u64_to_f64(words::unsigned_abs(notional));
+    let amount = doubles::u64_to_f64(sums::unsigned_abs(notional));
     doubles::round_to_i64(amount * bps / 10_000.0)
 }
 

@@ -8,9 +8,9 @@ use lib.IntN.{ℤ, pos, _-ℤ_}
 use lib.Signed.{ltZ, leZ}
 use mir.Syntax.{w64}
 use mir.Val.{SFits}
-use Rattle.words.specs.Sums.{satAdd, satSub, notional}
-use Rattle.words.proofs.Ints.{P, N, one-sided, P-sub, P-clamp, N-clamp, satSub-clamp, satSub-exact, fits-of, P-fits, le-yes, le-no, le-is, gt-is, lt-yes, lt-is, lt-le, N-zero}
-use Rattle.words.proofs.Laws.{notional-is-value}
+use Rattle.sums.specs.Sums.{satAdd, satSub, notional}
+use Rattle.sums.proofs.Ints.{P, N, one-sided, P-sub, P-clamp, N-clamp, satSub-clamp, satSub-exact, fits-of, P-fits, le-yes, le-no, le-is, gt-is, lt-yes, lt-is, lt-le, N-zero}
+use Rattle.sums.proofs.Laws.{notional-is-value}
 use Rattle.position.specs.Shares.{isZero}
 use Rattle.position.proofs.Fills.{short-parts}
 use Rattle.cost_model.specs.Costs.{cost, goodCosts}

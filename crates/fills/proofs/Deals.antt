@@ -4,7 +4,7 @@ use mathlib.Core.Bool.{true, false}
 use lib.IntN.{ℤ, pos}
 use lib.Signed.{ltZ, leZ}
 use Rattle.position.proofs.Counts.{lt-not-ge, not-lt-ge}
-use Rattle.words.specs.Sums.{satAdd, satSub}
+use Rattle.sums.specs.Sums.{satAdd, satSub}
 use Rattle.fills.specs.declared.deal.Deal.{Deal}
 use Rattle.fills.specs.declared.order.Terms.{Terms}
 use Rattle.fills.specs.Fill.{cashTaken}

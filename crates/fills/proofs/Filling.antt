@@ -7,7 +7,7 @@ use mathlib.Core.Option.{Option, none, some}
 use lib.IntN.{ℤ, pos}
 use lib.ListN.{take}
 use lib.Signed.{leZ}
-use Rattle.words.specs.Sums.{satSub, notional}
+use Rattle.sums.specs.Sums.{satSub, notional}
 use Rattle.position.specs.declared.position.Position.{Position}
 use Rattle.position.specs.Rows.{fresh, keyOf}
 use Rattle.position.specs.Shares.{isZero}

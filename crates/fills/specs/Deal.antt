@@ -4,7 +4,7 @@ use mathlib.Core.Bool.{Bool, true, false}
 use mathlib.Core.List.{[], _∷_, _++_}
 use lib.IntN.{ℤ, pos}
 use lib.Signed.{leZ}
-use Rattle.words.specs.Sums.{satAdd, satSub, notional}
+use Rattle.sums.specs.Sums.{satAdd, satSub, notional}
 use Rattle.position.specs.Rows.{shares, keyOf}
 use Rattle.position.specs.Shares.{isZero}
 use Rattle.position.specs.Fills.{applied}

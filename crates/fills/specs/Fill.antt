@@ -4,7 +4,7 @@ use mathlib.Core.List.{List, [], _∷_, _++_}
 use mathlib.Core.Option.{Option}
 use lib.IntN.{ℤ, pos}
 use lib.Signed.{leZ}
-use Rattle.words.specs.Sums.{satAdd, satSub, value, notional}
+use Rattle.sums.specs.Sums.{satAdd, satSub, value, notional}
 use Rattle.position.specs.declared.position.Position.{Position}
 use Rattle.position.specs.Rows.{fresh, keyOf}
 use Rattle.position.specs.Shares.{isZero}

@@ -6,7 +6,7 @@ use lib.Dec.{leb}
 use lib.ListN.{length, drop}
 use lib.Seq.{sets}
 use lib.IntN.{ℤ}
-use Rattle.words.specs.Sums.{satSub, notional}
+use Rattle.sums.specs.Sums.{satSub, notional}
 use Rattle.table.specs.Keyed.{pick, both}
 use Rattle.position.specs.Rows.{shares}
 use Rattle.cost_model.specs.Costs.{cost}

@@ -39,8 +39,8 @@ fn dealt(t: Terms, quantity: Shares, price: i64, cash: i64, trimmed: bool, lost:
 {
     let notional = sizing::notional_of(quantity, price);
     let cost = t.costs.compute_cost(notional);
-    let taken = words::saturating_add(words::value(quantity.0, price), cost);
-    let cash_after = words::saturating_sub(cash, taken);
+    let taken = sums::saturating_add(sums::value(quantity.0, price), cost);
+    let cash_after = sums::saturating_sub(cash, taken);
     Deal {
         quantity,
         price,
@@ -57,7 +57,7 @@ fn trimmed_to(t: Terms, requested: Shares, got: Shares, price: i64, cash: i64) -
     ensures { λ r. ⌜ r ≡ trimmedTo t (requested .0) (got .0) price cash ⌝ }
 {
     let asked = sizing::notional_of(requested, price);
-    let lost = words::saturating_sub(asked, sizing::notional_of(got, price));
+    let lost = sums::saturating_sub(asked, sizing::notional_of(got, price));
     if got.is_zero() {
         return no_deal(price, cash, true, lost);
     }

@@ -41,7 +41,7 @@ fn counted(b: Book, d: Deal) -> Book
         return b;
     }
     let trimmed = next_count(b.trimmed);
-    let shortfall = words::saturating_add(b.shortfall, d.lost);
+    let shortfall = sums::saturating_add(b.shortfall, d.lost);
     Book {
         trimmed,
         shortfall,

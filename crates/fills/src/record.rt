@@ -55,7 +55,7 @@ pub fn record_of(t: Terms, o: Order, d: Deal, sequence: u64, cash: i64) -> Execu
     let cost = d.cost;
     let cash_after = d.cash_after;
     let reference_notional = sizing::notional_of(quantity, reference_price);
-    let cash_delta = words::saturating_sub(cash_after, cash);
+    let cash_delta = sums::saturating_sub(cash_after, cash);
     ExecutionRecord {
         sequence,
         period_index,

@@ -7,7 +7,7 @@ use native.Mathlib.Omega.{arith}
 use lib.Dec.{lit≤}
 use lib.IntN.{ℤ, pos, _+ℤ_}
 use lib.Ieee.{add, mul, div, le, ofInt, toSigned}
-use Rattle.words.specs.Sums.{clamp64, satAdd, satSub, satAbs, value, notional, priceAt}
+use Rattle.sums.specs.Sums.{clamp64, satAdd, satSub, satAbs, value, notional, priceAt}
 use Rattle.doubles.specs.Doubles.{roundAway}
 use Rattle.position.specs.Shares.{isZero}
 use Rattle.position.specs.Fills.{applied, sameSide, entered, averaged, grown, closedBy, gain, realizedBy, closedCost, closed, partlyClosed, reduced}

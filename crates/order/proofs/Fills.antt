@@ -7,7 +7,7 @@ use native.Mathlib.Omega.{arith}
 use lib.Dec.{T}
 use lib.IntN.{ℤ, pos, negℤ}
 use lib.Signed.{ltZ, leZ}
-use Rattle.words.proofs.Ints.{P, N, P-neg, N-neg, le-yes, lt-yes, lt-is}
+use Rattle.sums.proofs.Ints.{P, N, P-neg, N-neg, le-yes, lt-yes, lt-is}
 use Rattle.position.specs.declared.position.Position.{Position}
 use Rattle.position.specs.Rows.{fresh, keyOf}
 use Rattle.position.proofs.Fills.{applied-keeps-symbol}

@@ -10,8 +10,8 @@ use lib.Dec.{T, T-not}
 use lib.ListN.{length}
 use lib.IntN.{ℤ, pos, negℤ, _+ℤ_, _-ℤ_}
 use lib.Signed.{ltZ, leZ}
-use Rattle.words.specs.Sums.{satSub}
-use Rattle.words.proofs.Ints.{P, N, P-pos, N-pos, P-neg, N-neg, P-add, P-sub, P-zero, N-zero, fits-of, satSub-exact, eq-of, le-yes, le-is, lt-yes, lt-no}
+use Rattle.sums.specs.Sums.{satSub}
+use Rattle.sums.proofs.Ints.{P, N, P-pos, N-pos, P-neg, N-neg, P-add, P-sub, P-zero, N-zero, fits-of, satSub-exact, eq-of, le-yes, le-is, lt-yes, lt-no}
 use Rattle.table.specs.Keyed.{seek, put, put64, new}
 use Rattle.table.proofs.Keyed.{seek-key, seek-put, put-swap, put-length, put-room}
 use Rattle.order.specs.Running.{Perm, done, keep, swap, then, total, All, nothing, and, Pairs, parted, Last, Different, Room, NotBelow0, InRange}

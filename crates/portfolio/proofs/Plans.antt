@@ -14,18 +14,18 @@ use borrow.Author.Tests.{leb-true, eqb-true, le-leb}
 use Rattle.table.specs.Keyed.{pick}
 use Rattle.table.specs.Rows.{columnsOf}
 use Rattle.table.proofs.Keyed.{both-true}
-use Rattle.feeds.specs.Lists.{priceOf}
-use Rattle.feeds.specs.Sorted.{columns, roomy, sortedInto}
-use Rattle.feeds.proofs.Sorted.{sorted-serves}
+use Rattle.call_lists.specs.Lists.{priceOf}
+use Rattle.call_lists.specs.Sorted.{columns, roomy, sortedInto}
+use Rattle.call_lists.proofs.Sorted.{sorted-serves}
 use Rattle.account.specs.declared.account.Account.{Account}
 use Rattle.account.specs.declared.settings.Settings.{Settings}
 use Rattle.account.specs.Account.{heldIn}
 use Rattle.account.proofs.Holdings.{account-ordered}
-use Rattle.planning.specs.declared.plan.PlannedOrder.{PlannedOrder}
-use Rattle.planning.specs.Equity.{equityOf}
-use Rattle.planning.specs.Plan.{closings, targetings, wanted, orderCount}
-use Rattle.planning.proofs.Plans.{targetings-length}
-use Rattle.planning.proofs.Room.{count-append, count-most, orders-at-most}
+use Rattle.wanted.specs.declared.plan.PlannedOrder.{PlannedOrder}
+use Rattle.wanted.specs.Equity.{equityOf}
+use Rattle.wanted.specs.Plan.{closings, targetings, wanted, orderCount}
+use Rattle.wanted.proofs.Plans.{targetings-length}
+use Rattle.wanted.proofs.Room.{count-append, count-most, orders-at-most}
 use Rattle.fills.specs.declared.record.ExecutionKind.{ExecutionKind}
 use Rattle.fills.specs.Runs.{orders}
 use Rattle.fills.proofs.Running.{next-order, no-order}
@@ -34,10 +34,10 @@ use Rattle.admission.specs.Running.{cashFirst, inRunningOrder, notionalFrom}
 use Rattle.admission.specs.Columns.{Cols, Full, from, orderAt, plans}
 use Rattle.admission.proofs.Plans.{plans-few, plans-length, shorter-same}
 use Rattle.admission.proofs.Kept.{running-length}
-use Rattle.planner.specs.declared.plan.Planned.{Planned}
-use Rattle.planner.specs.Adding.{wantedAt}
-use Rattle.planner.specs.Planning.{Stands}
-use Rattle.planner.proofs.Held.{wanted-of-rows, plan-of-rows}
+use Rattle.plan.specs.declared.plan.Planned.{Planned}
+use Rattle.plan.specs.Adding.{wantedAt}
+use Rattle.plan.specs.Planning.{Stands}
+use Rattle.plan.proofs.Held.{wanted-of-rows, plan-of-rows}
 use Rattle.portfolio.specs.Answers.{hasRoom, notHeld}
 use Rattle.portfolio.specs.Rebalance.{orderOf, admittedPlan, afterPlan, afterRebalance}
 use Rattle.portfolio.specs.Trades.{afterOrders}

@@ -16,8 +16,8 @@ use Rattle.answer.specs.Numbers.{numberOf}
 use Rattle.table.specs.Keyed.{both, Rising}
 use Rattle.table.specs.Rows.{columnsOf, Full, ordered}
 use Rattle.table.proofs.Keyed.{both-true}
-use Rattle.feeds.specs.Checks.{unless, listsAnswer, pricesAnswer}
-use Rattle.feeds.proofs.Checks.{Accepted, done-accepted}
+use Rattle.call_lists.specs.Checks.{unless, listsAnswer, pricesAnswer}
+use Rattle.call_lists.proofs.Checks.{Accepted, done-accepted}
 use Rattle.account.specs.declared.account.Account.{Account}
 use Rattle.position.specs.Symbols.{goodSymbol}
 use Rattle.account.specs.Account.{soundAccount, soundColumns, heldIn}

@@ -19,8 +19,8 @@ use Rattle.table.specs.Keyed.{pick, both, all}
 use Rattle.table.specs.Rows.{columnsOf, isZero, Full}
 use Rattle.table.proofs.Keyed.{and-both, both-true, rising-ascends}
 use Rattle.table.proofs.Zipped.{keys-of}
-use Rattle.feeds.specs.Lists.{allGood, priceOf}
-use Rattle.feeds.proofs.Prices.{price-fits}
+use Rattle.call_lists.specs.Lists.{allGood, priceOf}
+use Rattle.call_lists.proofs.Prices.{price-fits}
 use Rattle.fills.specs.declared.order.Order.{Order}
 use Rattle.fills.specs.declared.record.ExecutionKind.{ExecutionKind}
 use Rattle.fills.specs.Orders.{State}
@@ -33,10 +33,10 @@ use Rattle.account.proofs.Changes.{good-parts, account-settings, account-cash, 
 use Rattle.account.proofs.Columns.{rows-length, sound-rows}
 use Rattle.account.proofs.Holdings.{account-table, account-ordered}
 use Rattle.account.proofs.Tables.{table-sound}
-use Rattle.planning.specs.declared.plan.PlannedOrder.{PlannedOrder}
-use Rattle.planning.specs.Equity.{equityOf}
-use Rattle.planning.specs.Plan.{closings, targetings, wanted}
-use Rattle.planning.proofs.Plans as planning
+use Rattle.wanted.specs.declared.plan.PlannedOrder.{PlannedOrder}
+use Rattle.wanted.specs.Equity.{equityOf}
+use Rattle.wanted.specs.Plan.{closings, targetings, wanted}
+use Rattle.wanted.proofs.Plans as planning
 use Rattle.admission.specs.Admission.{addedAll}
 use Rattle.admission.specs.Kept.{All}
 use Rattle.admission.specs.Running.{inRunningOrder, planOf}

@@ -25,7 +25,7 @@ use Rattle.account.specs.Account.{heldIn, accountWith}
 use Rattle.account.proofs.Tables.{ordered-table}
 use Rattle.portfolio.specs.Answers.{isDone, places, hasRoom, closeAnswer}
 use Rattle.portfolio.specs.Rebalance.{Outcome, termsBy, termsOf, stateOf, accountAfter}
-use Rattle.words.specs.Sums.{satNeg}
+use Rattle.sums.specs.Sums.{satNeg}
 use Rattle.table.specs.Rows.{holding}
 use Rattle.portfolio.specs.Close.{afterClose, closed}
 use Rattle.portfolio.specs.Trades.{Filed, filed, stateAfter, afterOrders, bookOf, ledgerFrom}

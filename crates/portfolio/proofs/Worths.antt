@@ -4,15 +4,15 @@ use mathlib.Core.Path.{_≡_, refl, sym, ap, _∙_}
 use mathlib.Core.Bool.{true}
 use mathlib.Core.List.{List}
 use lib.IntN.{ℤ, pos}
-use Rattle.words.specs.Sums.{satAdd}
+use Rattle.sums.specs.Sums.{satAdd}
 use Rattle.table.specs.Places.{shorter}
 use Rattle.table.specs.Rows.{columnsOf, Full}
-use Rattle.feeds.specs.Lists.{priceOf}
+use Rattle.call_lists.specs.Lists.{priceOf}
 use Rattle.account.specs.declared.account.Account.{Account}
 use Rattle.account.specs.Account.{soundAccount, heldIn}
 use Rattle.account.proofs.Holdings.{account-ordered}
-use Rattle.planning.specs.Equity.{worthPlaces, equityOf}
-use Rattle.planning.proofs.Worth.{worth-of-rows, shorter-same}
+use Rattle.wanted.specs.Equity.{worthPlaces, equityOf}
+use Rattle.wanted.proofs.Worth.{worth-of-rows, shorter-same}
 
 pub equity-of-places : (price : ℕ → ℤ) (a : Account) → soundAccount a ≡ true → Full (columnsOf (a .positions))
     → satAdd (a .cash) (worthPlaces price (shorter (a .positions .count) 64) (a .positions .symbol) (a .positions .quantity))

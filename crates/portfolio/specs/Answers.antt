@@ -14,7 +14,7 @@ use Rattle.position.specs.Rows.{keyOf}
 use Rattle.position.specs.Symbols.{goodSymbol}
 use Rattle.table.specs.Keyed.{pick, both, there, seek}
 use Rattle.table.specs.Rows.{holding, isZero}
-use Rattle.feeds.specs.Checks.{unless, listsAnswer, pricesAnswer}
+use Rattle.call_lists.specs.Checks.{unless, listsAnswer, pricesAnswer}
 use Rattle.account.specs.declared.account.Account.{Account}
 use Rattle.account.specs.Account.{soundAccount, heldIn}
 

@@ -2,7 +2,7 @@
 use Prim.Native.Nat.{ℕ}
 use lib.IntN.{ℤ}
 use Rattle.answer.specs.declared.Answer.the-variants.{Done}
-use Rattle.words.specs.Sums.{satNeg}
+use Rattle.sums.specs.Sums.{satNeg}
 use Rattle.position.specs.Rows.{shares, symbol}
 use Rattle.table.specs.Keyed.{pick}
 use Rattle.table.specs.Rows.{holding}

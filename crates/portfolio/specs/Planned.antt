@@ -7,25 +7,25 @@ use lib.ListN.{length, take}
 use lib.IntN.{ℤ, pos}
 use lib.Signed.{leZ}
 use lib.Ieee.{Float}
-use Rattle.words.specs.Sums.{satAdd}
+use Rattle.sums.specs.Sums.{satAdd}
 use Rattle.table.specs.Keyed.{pick, Rising}
 use Rattle.table.specs.Places.{shorter, found}
 use Rattle.table.specs.declared.found.Found.{Found}
 use Rattle.table.specs.declared.found.Found.the-variants.{At, Absent}
 use Rattle.table.specs.Rows.{columnsOf}
 use Rattle.table.specs.Rows as table
-use Rattle.feeds.specs.Lists.{distinct, priceOf}
+use Rattle.call_lists.specs.Lists.{distinct, priceOf}
 use Rattle.account.specs.declared.account.Account.{Account}
 use Rattle.account.specs.declared.settings.Settings.{Settings}
 use Rattle.account.specs.Account.{soundAccount, heldIn}
-use Rattle.planning.specs.declared.plan.PlannedOrder.{PlannedOrder}
-use Rattle.planning.specs.Plan.{orderCount}
-use Rattle.planning.specs.Equity.{worthPlaces}
+use Rattle.wanted.specs.declared.plan.PlannedOrder.{PlannedOrder}
+use Rattle.wanted.specs.Plan.{orderCount}
+use Rattle.wanted.specs.Equity.{worthPlaces}
 use Rattle.admission.specs.Admission.{addedAll, admitted}
 use Rattle.admission.specs.Columns.{Cols, Full}
-use Rattle.planner.specs.declared.plan.Planned.{Planned}
-use Rattle.planner.specs.Adding.{wantedAt}
-use Rattle.planner.specs.Planning.{Stands}
+use Rattle.plan.specs.declared.plan.Planned.{Planned}
+use Rattle.plan.specs.Adding.{wantedAt}
+use Rattle.plan.specs.Planning.{Stands}
 use Rattle.portfolio.specs.Answers.{hasRoom, notHeld}
 
 -- ---- targets that are not held

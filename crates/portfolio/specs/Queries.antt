@@ -5,11 +5,11 @@ use lib.IntN.{ℤ, pos}
 use Rattle.answer.specs.declared.Answer.{Answer}
 use Rattle.answer.specs.declared.Answer.the-variants.{Done}
 use Rattle.table.specs.Keyed.{pick}
-use Rattle.feeds.specs.Lists.{priceOf}
+use Rattle.call_lists.specs.Lists.{priceOf}
 use Rattle.account.specs.declared.account.Account.{Account}
 use Rattle.account.specs.declared.query.Cents.{Cents}
 use Rattle.account.specs.Account.{heldIn}
-use Rattle.planning.specs.Equity.{equityOf}
+use Rattle.wanted.specs.Equity.{equityOf}
 use Rattle.portfolio.specs.Answers.{isDone, queryAnswer}
 
 abbrev pub answeredCents : Answer → ℤ → Cents

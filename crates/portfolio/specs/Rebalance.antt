@@ -8,7 +8,7 @@ use lib.Ieee.{Float}
 use Rattle.answer.specs.declared.Answer.{Answer}
 use Rattle.answer.specs.declared.Answer.the-variants.{Done}
 use Rattle.table.specs.Keyed.{pick}
-use Rattle.feeds.specs.Lists.{priceOf}
+use Rattle.call_lists.specs.Lists.{priceOf}
 use Rattle.fills.specs.declared.order.Order.{Order}
 use Rattle.fills.specs.declared.order.Terms.{Terms}
 use Rattle.fills.specs.declared.record.ExecutionKind.{ExecutionKind}
@@ -18,8 +18,8 @@ use Rattle.fills.specs.Fill.{fillAll}
 use Rattle.account.specs.declared.account.Account.{Account}
 use Rattle.account.specs.declared.settings.Settings.{Settings}
 use Rattle.account.specs.Account.{heldIn, tableOf}
-use Rattle.planning.specs.declared.plan.PlannedOrder.{PlannedOrder}
-use Rattle.planning.specs.Equity.{equityOf}
+use Rattle.wanted.specs.declared.plan.PlannedOrder.{PlannedOrder}
+use Rattle.wanted.specs.Equity.{equityOf}
 use Rattle.admission.specs.Running.{planOf, inRunningOrder, notionalFrom}
 use Rattle.portfolio.specs.Answers.{isDone, rebalanceAnswer}
 

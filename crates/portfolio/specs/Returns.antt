@@ -9,15 +9,15 @@ use lib.Signed.{ltZ}
 use lib.Ieee.{Float, fin, binary64, div}
 use Rattle.answer.specs.declared.Answer.{Answer}
 use Rattle.answer.specs.declared.Answer.the-variants.{Done}
-use Rattle.words.specs.Sums.{satSub}
+use Rattle.sums.specs.Sums.{satSub}
 use Rattle.doubles.specs.Doubles.{ofI64}
 use Rattle.table.specs.Keyed.{pick}
-use Rattle.feeds.specs.Lists.{priceOf}
+use Rattle.call_lists.specs.Lists.{priceOf}
 use Rattle.account.specs.declared.account.Account.{Account}
 use Rattle.account.specs.declared.account.Series.{Series}
 use Rattle.account.specs.declared.change.Changed.{Changed}
 use Rattle.account.specs.Account.{heldIn, withSeries}
-use Rattle.planning.specs.Equity.{equityOf}
+use Rattle.wanted.specs.Equity.{equityOf}
 use Rattle.portfolio.specs.declared.returns.Noted.{Noted}
 use Rattle.portfolio.specs.Answers.{isDone, returnAnswer}
 

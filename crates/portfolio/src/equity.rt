@@ -1,21 +1,21 @@
 // What an account is worth.
 ghost use mathlib.Core.Path.{_≡_};
 ghost use Rattle.answer.specs.declared.Answer.the-variants.{Done};
-ghost use Rattle.words.specs.Sums.{satAdd};
+ghost use Rattle.sums.specs.Sums.{satAdd};
 ghost use Rattle.table.specs.Places.{shorter};
-ghost use Rattle.feeds.specs.Lists.{priceOf};
-ghost use Rattle.feeds.specs.Checks.{pricesAnswer};
+ghost use Rattle.call_lists.specs.Lists.{priceOf};
+ghost use Rattle.call_lists.specs.Checks.{pricesAnswer};
 ghost use Rattle.account.specs.Account.{heldIn};
-ghost use Rattle.planning.specs.Equity.{worthPlaces, equityOf};
+ghost use Rattle.wanted.specs.Equity.{worthPlaces, equityOf};
 ghost use Rattle.portfolio.specs.Answers.{queryAnswer};
 ghost use Rattle.portfolio.specs.Queries.{toldEquity};
 use crate::refusal::is_done;
 use crate::refusal::query_answer;
 use account::Account;
 use account::Cents;
-use feeds::is_ascending;
-use feeds::sort_prices;
-use planning::total_worth;
+use call_lists::is_ascending;
+use call_lists::sort_prices;
+use wanted::total_worth;
 
 // Cash and what the first n places are worth. Prices whose symbols ascend are used in place; others are sorted first.
 pub(crate) fn equity_in<'a>(
@@ -30,12 +30,12 @@ pub(crate) fn equity_in<'a>(
     ensures { λ r. ⌜ r ≡ satAdd cash (worthPlaces (priceOf (now (symbols .entry)) (now (prices .entry))) (shorter n 64) (now (symbol .entry)) (now (quantity .entry))) ⌝ }
 {
     if is_ascending(symbols) {
-        return words::saturating_add(cash, total_worth(symbol, quantity, n, symbols, prices));
+        return sums::saturating_add(cash, total_worth(symbol, quantity, n, symbols, prices));
     }
     let mut keys = [0u64; 128];
     let mut values = [0i64; 128];
     let m = sort_prices(symbols, prices, &mut keys[..], &mut values[..]);
-    words::saturating_add(
+    sums::saturating_add(
         cash,
         total_worth(symbol, quantity, n, &keys[..m], &values[..m]),
     )

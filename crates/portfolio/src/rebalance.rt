@@ -1,7 +1,7 @@
 // A rebalance: the plan at the prices of the call, and its fills.
 ghost use mathlib.Core.Path.{_≡_};
 ghost use lib.ListN.{length};
-ghost use Rattle.feeds.specs.Lists.{priceOf};
+ghost use Rattle.call_lists.specs.Lists.{priceOf};
 ghost use Rattle.table.specs.Rows.{cols, Full};
 ghost use Rattle.account.specs.Account.{accountWith};
 ghost use Rattle.admission.specs.Columns as admission;
@@ -20,12 +20,12 @@ use crate::trade::traded_on;
 use account::Account;
 use account::Ledger;
 use account::Settings;
-use feeds::is_ascending;
-use feeds::sort_prices;
+use call_lists::is_ascending;
+use call_lists::sort_prices;
 use fills::ExecutionKind;
-use planner::Planned;
-use planner::make_plan;
-use planning::total_worth;
+use plan::Planned;
+use plan::make_plan;
+use wanted::total_worth;
 
 // "At equity 0 or below the call is done with no orders and both last-rebalance figures 0": else the plan of what is held, in columns that the
 // caller lends.
@@ -54,7 +54,7 @@ fn plan_at<'a>(
         (admission.cols (now (symbol .exit)) (now (quantity .exit)) (now (price .exit)) (now (drift .exit)))
         (admission.cols (now («run_symbol» .exit)) (now («run_quantity» .exit)) (now («run_price» .exit)) (now («run_drift» .exit))) r ⌝ }
 {
-    let equity = words::saturating_add(cash, total_worth(key, held, n, symbols, prices));
+    let equity = sums::saturating_add(cash, total_worth(key, held, n, symbols, prices));
     if equity <= 0 {
         return Planned {
             count: 0,

@@ -16,7 +16,7 @@ use account::Ledger;
 use account::Series;
 use account::sound_account;
 use answer::Answer;
-use feeds::check_prices;
+use call_lists::check_prices;
 
 // An answer, and the series after the call.
 pub struct Noted {
@@ -29,7 +29,7 @@ fn return_of(previous: i64, equity: i64) -> f64
     ensures { λ r. ⌜ r ≡ returnOf previous equity ⌝ }
 {
     if 0 < previous {
-        let change = words::saturating_sub(equity, previous);
+        let change = sums::saturating_sub(equity, previous);
         return doubles::i64_to_f64(change) / doubles::i64_to_f64(previous);
     }
     0.0

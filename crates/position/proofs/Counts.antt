@@ -10,8 +10,8 @@ use lib.Dec.{eqb}
 use borrow.Author.Tests.{eqb-true, ne-eqb}
 use mir.Syntax.{w64}
 use mir.Val.{SFits, ofZ}
-use Rattle.words.specs.Sums.{SCALE}
-use Rattle.words.proofs.Ints.{P, N, P-neg, N-neg, fits-of, lt-yes, lt-no, le-is, gt-is, clamp-top, clamp-low, clamp-same}
+use Rattle.sums.specs.Sums.{SCALE}
+use Rattle.sums.proofs.Ints.{P, N, P-neg, N-neg, fits-of, lt-yes, lt-no, le-is, gt-is, clamp-top, clamp-low, clamp-same}
 use Rattle.position.specs.Shares.{fromWhole, wholeShares, isZero}
 
 -- ---- zero

@@ -9,9 +9,9 @@ use lib.Signed.{ltZ, leZ}
 use borrow.Author.Tests.{eqb-false, ltb-true, ltb-false, lt-ltb, ne-eqb, not-true}
 use mir.Syntax.{w64}
 use mir.Val.{SFits}
-use Rattle.words.specs.Sums.{clamp64, satAdd, satSub, satAbs, value, priceAt}
-use Rattle.words.proofs.Ints.{P, N, one-sided, natAbs-parts, P-add, P-sub, le-yes, lt-yes, lt-no, le-is, P-clamp, N-clamp, satAdd-fits, satSub-fits, satAdd-clamp, satSub-clamp, satAdd-mono, satSub-mono, satSub-exact, fits-of, P-fits, ge-is}
-use Rattle.words.proofs.Laws.{value-fits, value-nonneg, value-nonpos, value-mono-quantity, priceAt-fits, price-long-nonneg, price-short-nonneg, average-long, average-short}
+use Rattle.sums.specs.Sums.{clamp64, satAdd, satSub, satAbs, value, priceAt}
+use Rattle.sums.proofs.Ints.{P, N, one-sided, natAbs-parts, P-add, P-sub, le-yes, lt-yes, lt-no, le-is, P-clamp, N-clamp, satAdd-fits, satSub-fits, satAdd-clamp, satSub-clamp, satAdd-mono, satSub-mono, satSub-exact, fits-of, P-fits, ge-is}
+use Rattle.sums.proofs.Laws.{value-fits, value-nonneg, value-nonpos, value-mono-quantity, priceAt-fits, price-long-nonneg, price-short-nonneg, average-long, average-short}
 use Rattle.position.specs.Rows.{fresh, keyOf, held, avg, realized, total}
 use Rattle.position.specs.Shares.{isZero, isPositive}
 use Rattle.position.specs.Symbols.{goodSymbol}

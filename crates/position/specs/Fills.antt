@@ -4,7 +4,7 @@ use Prim.Native.Nat.{ℕ}
 use lib.IntN.{ℤ, pos}
 use lib.Signed.{ltZ, leZ}
 use Rattle.answer.specs.declared.Answer.the-variants.{Done, BadPrice, Unsound}
-use Rattle.words.specs.Sums.{satAdd, satSub, satAbs, value, priceAt}
+use Rattle.sums.specs.Sums.{satAdd, satSub, satAbs, value, priceAt}
 use Rattle.position.specs.Rows.{row, keyOf, held, avg, realized, total}
 use Rattle.position.specs.Shares.{isZero, isPositive}
 use Rattle.position.specs.Symbols.{goodSymbol}

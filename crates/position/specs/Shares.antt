@@ -5,7 +5,7 @@ use lib.Dec.{eqb}
 use lib.Signed.{quotZ, ltZ}
 use lib.Ieee.{Float, binary64, div}
 use Rattle.doubles.specs.Doubles.{ofI64}
-use Rattle.words.specs.Sums.{clamp64, SCALE}
+use Rattle.sums.specs.Sums.{clamp64, SCALE}
 
 -- whole shares as micro-shares
 unfoldable pub fromWhole : ℤ → ℤ

@@ -93,7 +93,7 @@ impl Position {
     fn grown(self, quantity: Shares, price: i64) -> Position
         ensures { λ r. ⌜ r ≡ grown self (quantity .0) price ⌝ }
     {
-        let total = words::saturating_add(self.total_cost, words::value(quantity.0, price));
+        let total = sums::saturating_add(self.total_cost, sums::value(quantity.0, price));
         averaged(
             self.symbol,
             self.quantity.add(quantity),
@@ -123,7 +123,7 @@ impl Position {
         ensures { λ r. ⌜ r ≡ realizedBy self (quantity .0) price ⌝ }
     {
         let part = closed_by(self.quantity, quantity);
-        words::saturating_add(self.realized_pnl, words::value(part.0, self.gain(price)))
+        sums::saturating_add(self.realized_pnl, sums::value(part.0, self.gain(price)))
     }
 
     // long: sell higher = profit; short: buy lower = profit. On a sound position and a price of at least 0 neither difference saturates.
@@ -131,9 +131,9 @@ impl Position {
         ensures { λ r. ⌜ r ≡ gain self price ⌝ }
     {
         if self.quantity.is_positive() {
-            words::saturating_sub(price, self.avg_entry_price)
+            sums::saturating_sub(price, self.avg_entry_price)
         } else {
-            words::saturating_sub(self.avg_entry_price, price)
+            sums::saturating_sub(self.avg_entry_price, price)
         }
     }
 
@@ -141,7 +141,7 @@ impl Position {
     fn closed_cost(self, part: Shares) -> i64
         ensures { λ r. ⌜ r ≡ closedCost self (part .0) ⌝ }
     {
-        words::value(part.0, self.avg_entry_price)
+        sums::value(part.0, self.avg_entry_price)
     }
 
     // Fully closed.
@@ -163,7 +163,7 @@ impl Position {
         ensures { λ r. ⌜ r ≡ partlyClosed self (quantity .0) realized ⌝ }
     {
         let cost = self.closed_cost(closed_by(self.quantity, quantity));
-        let total = words::saturating_sub(self.total_cost, cost);
+        let total = sums::saturating_sub(self.total_cost, cost);
         averaged(self.symbol, self.quantity.add(quantity), realized, total)
     }
 
@@ -171,7 +171,7 @@ impl Position {
     pub fn market_value(self, price: i64) -> i64
         ensures { λ r. ⌜ r ≡ marketValue self price ⌝ }
     {
-        words::value(self.quantity.0, price)
+        sums::value(self.quantity.0, price)
     }
 
     // Unrealized profit at the given market price (cents).
@@ -181,9 +181,9 @@ impl Position {
         if self.quantity.is_zero() {
             return 0;
         }
-        words::value(
+        sums::value(
             self.quantity.0,
-            words::saturating_sub(price, self.avg_entry_price),
+            sums::saturating_sub(price, self.avg_entry_price),
         )
     }
 
@@ -204,7 +204,7 @@ fn sound_numbers(quantity: Shares, average: i64, total: i64) -> bool
     if average < 0 {
         return false;
     }
-    let worth = words::value(quantity.0, average);
+    let worth = sums::value(quantity.0, average);
     if quantity.is_positive() {
         worth <= total
     } else {
@@ -241,7 +241,7 @@ fn entered(symbol: Symbol, quantity: Shares, realized: i64, price: i64) -> Posit
         quantity,
         avg_entry_price: price,
         realized_pnl: realized,
-        total_cost: words::value(quantity.0, price),
+        total_cost: sums::value(quantity.0, price),
     }
 }
 
@@ -252,7 +252,7 @@ fn averaged(symbol: Symbol, quantity: Shares, realized: i64, total: i64) -> Posi
     Position {
         symbol,
         quantity,
-        avg_entry_price: words::price_at(total, quantity.0),
+        avg_entry_price: sums::price_at(total, quantity.0),
         realized_pnl: realized,
         total_cost: total,
     }

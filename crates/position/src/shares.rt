@@ -1,7 +1,7 @@
 // Share counts, kept apart from prices and values.
 ghost use mathlib.Core.Path.{_≡_};
 ghost use lib.IntN.{natAbs};
-ghost use Rattle.words.specs.Sums.{satAdd, satSub, satNeg, satAbs};
+ghost use Rattle.sums.specs.Sums.{satAdd, satSub, satNeg, satAbs};
 ghost use Rattle.position.specs.Rows.{shares};
 ghost use Rattle.position.specs.Shares.{fromWhole, toF64, wholeShares, isZero, isPositive, isNegative};
 
@@ -24,10 +24,10 @@ impl Shares {
         ensures { λ r. ⌜ r ≡ shares (fromWhole n) ⌝ }
     {
         if MOST_WHOLE < n {
-            return Shares(words::MAX);
+            return Shares(sums::MAX);
         }
         if n < -MOST_WHOLE {
-            return Shares(words::MIN);
+            return Shares(sums::MIN);
         }
         Shares(n * Shares::SCALE)
     }
@@ -83,31 +83,31 @@ impl Shares {
     pub fn abs(self) -> Shares
         ensures { λ r. ⌜ r ≡ shares (satAbs (self .0)) ⌝ }
     {
-        Shares(words::saturating_abs(self.0))
+        Shares(sums::saturating_abs(self.0))
     }
 
     // Absolute value as an unsigned raw micro-share count.
     pub fn unsigned_abs(self) -> u64
         ensures { λ r. ⌜ r ≡ natAbs (self .0) ⌝ }
     {
-        words::unsigned_abs(self.0)
+        sums::unsigned_abs(self.0)
     }
 
     pub fn add(self, other: Shares) -> Shares
         ensures { λ r. ⌜ r ≡ shares (satAdd (self .0) (other .0)) ⌝ }
     {
-        Shares(words::saturating_add(self.0, other.0))
+        Shares(sums::saturating_add(self.0, other.0))
     }
 
     pub fn sub(self, other: Shares) -> Shares
         ensures { λ r. ⌜ r ≡ shares (satSub (self .0) (other .0)) ⌝ }
     {
-        Shares(words::saturating_sub(self.0, other.0))
+        Shares(sums::saturating_sub(self.0, other.0))
     }
 
     pub fn neg(self) -> Shares
         ensures { λ r. ⌜ r ≡ shares (satNeg (self .0)) ⌝ }
     {
-        Shares(words::saturating_neg(self.0))
+        Shares(sums::saturating_neg(self.0))
     }
 }

@@ -5,12 +5,12 @@ use mathlib.Core.Bool.{Bool, true, false}
 use mathlib.Core.List.{List, []}
 use lib.IntN.{ℤ, pos}
 use Rattle.answer.specs.declared.Answer.the-variants.{Done}
-use Rattle.words.specs.Sums.{satAdd}
+use Rattle.sums.specs.Sums.{satAdd}
 use Rattle.table.specs.Keyed.{pick}
-use Rattle.feeds.specs.Lists.{priceOf}
+use Rattle.call_lists.specs.Lists.{priceOf}
 use Rattle.account.specs.declared.account.Account.{Account}
 use Rattle.account.specs.Account.{heldIn}
-use Rattle.planning.specs.Equity.{equityOf}
+use Rattle.wanted.specs.Equity.{equityOf}
 use Rattle.portfolio.specs.Answers.{isDone, queryAnswer}
 use Rattle.portfolio.specs.Queries.{answeredCents, toldEquity}
 use Rattle.queries.specs.declared.answered.Weighed.{Weighed}

@@ -10,15 +10,15 @@ use lib.Dec.{ltb}
 use lib.ListN.{length, drop, getD, set}
 use lib.Seq.{getD-set-same, getD-set-other}
 use lib.IntN.{ℤ, pos, negsuc}
-use Rattle.words.specs.Sums.{satAdd, value}
+use Rattle.sums.specs.Sums.{satAdd, value}
 use Rattle.position.specs.declared.position.Position.{Position}
 use Rattle.position.specs.Rows.{fresh, keyOf}
 use Rattle.position.specs.Shares.{isZero as isZeroShares}
 use Rattle.table.specs.Keyed.{pick}
 use Rattle.table.specs.Rows.{Cols, isZero, rows, Ordered}
-use Rattle.feeds.proofs.Lists.{from-place, from-end}
+use Rattle.call_lists.proofs.Lists.{from-place, from-end}
 use Rattle.account.proofs.Columns.{rows-length, row-of}
-use Rattle.planning.specs.Equity.{worth, worthFrom}
+use Rattle.wanted.specs.Equity.{worth, worthFrom}
 use Rattle.queries.specs.Queries.{openOnes, unpriced, firstUnpriced, profitFrom}
 use Rattle.queries.specs.Places.{PricesOf, Priced}
 

@@ -9,10 +9,10 @@ use lib.Ieee.{fin}
 use Rattle.answer.specs.declared.Answer.{Answer}
 use Rattle.answer.specs.declared.Answer.the-variants.{Done}
 use Rattle.table.specs.Keyed.{pick}
-use Rattle.feeds.specs.Lists.{priceOf}
+use Rattle.call_lists.specs.Lists.{priceOf}
 use Rattle.account.specs.declared.account.Account.{Account}
 use Rattle.account.specs.Account.{heldIn, padded}
-use Rattle.planning.specs.Equity.{equityOf}
+use Rattle.wanted.specs.Equity.{equityOf}
 use Rattle.portfolio.specs.Answers.{isDone, queryAnswer}
 use Rattle.queries.specs.declared.answered.Weighed.{Weighed}
 use Rattle.queries.specs.declared.answered.Snapshot.{Snapshot}

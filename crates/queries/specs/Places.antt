@@ -6,14 +6,14 @@ use lib.ListN.{length, getD, set}
 use lib.IntN.{ℤ, pos}
 use lib.Ieee.{Float, binary64, div}
 use Rattle.answer.specs.declared.Answer.the-variants.{Done}
-use Rattle.words.specs.Sums.{value}
+use Rattle.sums.specs.Sums.{value}
 use Rattle.doubles.specs.Doubles.{ofI64}
 use Rattle.position.specs.declared.position.Position.{Position}
 use Rattle.position.specs.Rows.{keyOf, fresh}
 use Rattle.table.specs.Keyed.{pick, Rising}
 use Rattle.table.specs.Rows.{isZero}
-use Rattle.feeds.specs.Lists.{priceOf}
-use Rattle.planning.specs.Equity.{worthFrom}
+use Rattle.call_lists.specs.Lists.{priceOf}
+use Rattle.wanted.specs.Equity.{worthFrom}
 use Rattle.queries.specs.declared.answered.Weighed.{Weighed}
 use Rattle.queries.specs.declared.sum.Sums.{Sums}
 use Rattle.queries.specs.declared.answered.Unpriced.{Unpriced}

@@ -6,13 +6,13 @@ use mathlib.Core.Option.{Option, none, some}
 use lib.IntN.{ℤ, pos}
 use lib.Signed.{ltZ}
 use lib.Ieee.{Float, binary64, div}
-use Rattle.words.specs.Sums.{satAdd}
+use Rattle.sums.specs.Sums.{satAdd}
 use Rattle.doubles.specs.Doubles.{ofI64}
 use Rattle.position.specs.declared.position.Position.{Position}
 use Rattle.position.specs.Rows.{keyOf}
 use Rattle.table.specs.Keyed.{pick, both}
 use Rattle.table.specs.Rows.{isZero}
-use Rattle.planning.specs.Equity.{worth}
+use Rattle.wanted.specs.Equity.{worth}
 
 -- open positions: "without flat positions"
 unfoldable pub openOnes : List Position → List Position

@@ -2,12 +2,12 @@
 ghost use mathlib.Core.Path.{_≡_};
 ghost use Prim.Native.Nat.{_≤_};
 ghost use Rattle.answer.specs.declared.Answer.the-variants.{Done};
-ghost use Rattle.feeds.specs.Lists.{priceOf};
-ghost use Rattle.feeds.specs.Checks.{pricesAnswer};
+ghost use Rattle.call_lists.specs.Lists.{priceOf};
+ghost use Rattle.call_lists.specs.Checks.{pricesAnswer};
 ghost use Rattle.queries.specs.Places.{Looks, PricesOf};
-use feeds::is_ascending;
-use feeds::quote;
-use feeds::sort_prices;
+use call_lists::is_ascending;
+use call_lists::quote;
+use call_lists::sort_prices;
 
 pub(crate) struct Prices {
     pub price: [i64; 64],

@@ -1,7 +1,7 @@
 // The whole of an account at given prices, and its weights alone.
 ghost use mathlib.Core.Path.{_≡_};
 ghost use Rattle.answer.specs.declared.Answer.the-variants.{Done};
-ghost use Rattle.feeds.specs.Lists.{priceOf};
+ghost use Rattle.call_lists.specs.Lists.{priceOf};
 ghost use Rattle.portfolio.specs.Answers.{queryAnswer};
 ghost use Rattle.queries.specs.Answers.{snapshotOf, noSnapshot, toldSnapshot, toldWeights};
 use crate::answered::Snapshot;
@@ -32,7 +32,7 @@ fn snapshot_at(a: Account, symbols: &[u64], prices: &[i64]) -> Snapshot
         n,
         &listed.price,
     );
-    let equity = words::saturating_add(a.cash, sums.worth);
+    let equity = sums::saturating_add(a.cash, sums.worth);
     let weights = weights_at(
         &t.symbol,
         &t.quantity,

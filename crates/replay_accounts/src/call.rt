@@ -9,18 +9,18 @@ use crate::row::within;
 use account::Account;
 use account::Changed;
 use account::TradeCap;
+use account_bytes::read_account;
+use account_bytes::write_account;
 use cost_model::CostModel;
 use fills::ExecutionKind;
-use layout::read_account;
-use layout::write_account;
-use lists::read_prices;
-use lists::read_targets;
-use lists::write_records;
-use octets::float;
-use octets::pattern;
-use octets::signed;
-use octets::unsigned;
+use list_bytes::read_prices;
+use list_bytes::read_targets;
+use list_bytes::write_records;
 use portfolio::Traded;
+use word_bytes::float;
+use word_bytes::pattern;
+use word_bytes::signed;
+use word_bytes::unsigned;
 
 fn opened(r: Row) -> Changed {
     let costs = CostModel {

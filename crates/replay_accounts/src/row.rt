@@ -2,7 +2,7 @@
 // numbers told. Then eight targets and eight prices of two words, eight records of twelve or as many weights of two, and the account after the call: its
 // first 22 words and eight places of five columns.
 ghost use Prim.Native.Nat.{_≤_};
-use octets::word_at;
+use word_bytes::word_at;
 
 pub(crate) struct Row {
     pub head: [u8; 128],

@@ -6,12 +6,12 @@ use crate::row::same_made;
 use crate::row::same_told;
 use crate::row::within;
 use account::Account;
-use layout::read_account;
-use lists::read_prices;
-use lists::write_weights;
-use octets::unsigned;
+use account_bytes::read_account;
+use list_bytes::read_prices;
+use list_bytes::write_weights;
 use position::Symbol;
 use queries::Snapshot;
+use word_bytes::unsigned;
 
 fn flag(on: bool) -> u64 {
     if on { 1 } else { 0 }

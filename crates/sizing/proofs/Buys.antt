@@ -11,9 +11,9 @@ use lib.Signed.{leZ}
 use lib.Dec.{leb·suc-zero}
 use mir.Syntax.{w64}
 use mir.Val.{SFits}
-use Rattle.words.specs.Sums.{satAdd, notional}
-use Rattle.words.proofs.Ints.{N-pos, from-zero, le-trans, satAdd-fits, satAdd-exact, satAdd-mono}
-use Rattle.words.proofs.Laws.{notional-fits, notional-nonneg, notional-mono}
+use Rattle.sums.specs.Sums.{satAdd, notional}
+use Rattle.sums.proofs.Ints.{N-pos, from-zero, le-trans, satAdd-fits, satAdd-exact, satAdd-mono}
+use Rattle.sums.proofs.Laws.{notional-fits, notional-nonneg, notional-mono}
 use Rattle.cost_model.specs.declared.CostModel.{CostModel}
 use Rattle.cost_model.specs.Costs.{cost, goodCosts}
 use Rattle.cost_model.proofs.Costs.{cost-nonneg, cost-mono}

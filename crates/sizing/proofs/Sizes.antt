@@ -8,9 +8,9 @@ use lib.IntN.{ℤ, pos, negsuc, natAbs}
 use lib.Signed.{ltZ, leZ}
 use mir.Syntax.{w64}
 use mir.Val.{SFits}
-use Rattle.words.specs.Sums.{SCALE, signed, snap, notional}
-use Rattle.words.proofs.Ints.{P, N, N-pos, natAbs-parts, P-signed, N-signed, signed-pos, N-zero, P-clamp, N-clamp, clamp-fits, clamp-same, fits-of, le-is}
-use Rattle.words.proofs.Laws.{P-notional, N-notional, snap-le}
+use Rattle.sums.specs.Sums.{SCALE, signed, snap, notional}
+use Rattle.sums.proofs.Ints.{P, N, N-pos, natAbs-parts, P-signed, N-signed, signed-pos, N-zero, P-clamp, N-clamp, clamp-fits, clamp-same, fits-of, le-is}
+use Rattle.sums.proofs.Laws.{P-notional, N-notional, snap-le}
 use Rattle.sizing.specs.Sizing.{above, sharesFor, sized, cutTo}
 
 pub above-is-P : (z : ℤ) → above z ≡ P z

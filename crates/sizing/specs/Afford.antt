@@ -3,7 +3,7 @@ use Prim.Native.Nat.{ℕ, zero, suc, _*_, _/_}
 use mathlib.Core.Bool.{Bool, cond, not, _||_}
 use lib.IntN.{ℤ, pos}
 use lib.Signed.{leZ}
-use Rattle.words.specs.Sums.{satAdd, notional}
+use Rattle.sums.specs.Sums.{satAdd, notional}
 use Rattle.cost_model.specs.declared.CostModel.{CostModel}
 use Rattle.cost_model.specs.Costs.{cost, goodCosts}
 use Rattle.sizing.specs.Sizing.{above}

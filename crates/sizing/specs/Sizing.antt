@@ -3,7 +3,7 @@ use Prim.Native.Nat.{ℕ, _*_, _/_, _-_, _^_, min}
 use lib.IntN.{ℤ, pos, negsuc, natAbs}
 use lib.Signed.{ltZ}
 use lib.Ieee.{Float, binary64, mul, div}
-use Rattle.words.specs.Sums.{SCALE, clamp64, signed, snap}
+use Rattle.sums.specs.Sums.{SCALE, clamp64, signed, snap}
 use Rattle.doubles.specs.Doubles.{ofI64, ofU64}
 use Rattle.cost_model.specs.Costs.{tenThousand}
 

@@ -2,14 +2,14 @@
 ghost use mathlib.Core.Path.{_≡_};
 ghost use mathlib.Core.Bool.{true};
 ghost use Prim.Native.Nat.{_*_, _/_, _<_, _≤_, _^_};
-ghost use Rattle.words.specs.Sums.{notional, snap};
-ghost use Rattle.words.specs.Wide.{wide};
+ghost use Rattle.sums.specs.Sums.{notional, snap};
+ghost use Rattle.sums.specs.Wide.{wide};
 ghost use Rattle.cost_model.specs.Costs.{goodCosts};
 ghost use Rattle.sizing.specs.Afford.{need, fits, largest, affordable};
 ghost use Rattle.sizing.specs.Sizing.{above, sharesFor, sized, cutTo, drift};
 use cost_model::CostModel;
 use position::Shares;
-use words::Wide;
+use sums::Wide;
 
 const SCALE: u64 = 1_000_000;
 
@@ -24,7 +24,7 @@ fn above(x: i64) -> u64
 pub fn notional_of(quantity: Shares, price: i64) -> i64
     ensures { λ r. ⌜ r ≡ notional (quantity .0) price ⌝ }
 {
-    words::magnitude(quantity.0, price)
+    sums::magnitude(quantity.0, price)
 }
 
 // n over the price, snapped to the step, by one division: by the price of a step, which takes one word.
@@ -40,7 +40,7 @@ fn snapped_quotient(n: u64, price: u64, step: u64) -> u64
 fn shares_for(value: u64, price: u64, step: u64) -> Wide
     ensures { λ r. ⌜ r ≡ wide (sharesFor value price step) ⌝ }
 {
-    let total = words::mul_wide(value, SCALE);
+    let total = sums::mul_wide(value, SCALE);
     if total.hi == 0 {
         if price < 0x1_0000_0000 {
             if step < 0x1_0000_0000 {
@@ -51,23 +51,23 @@ fn shares_for(value: u64, price: u64, step: u64) -> Wide
             }
         }
     }
-    words::snap_wide(words::div_wide(total, price), step)
+    sums::snap_wide(sums::div_wide(total, price), step)
 }
 
 // "the gap becomes shares, truncated, snapped toward zero to the step, then clamped"
 pub fn size_qty(diff_value: i64, price: i64, step: i64) -> Shares
     ensures { λ r. ⌜ r .0 ≡ sized «diff_value» price step ⌝ }
 {
-    let snapped = shares_for(words::unsigned_abs(diff_value), above(price), above(step));
-    Shares::from_raw(words::clamped(diff_value < 0, snapped))
+    let snapped = shares_for(sums::unsigned_abs(diff_value), above(price), above(step));
+    Shares::from_raw(sums::clamped(diff_value < 0, snapped))
 }
 
 // "the quantity keeps its sign and becomes maximum × SCALE / price, truncated and snapped to the step"
 pub fn truncate_qty_to_max_value(quantity: Shares, price: i64, step: i64, max_value: i64) -> Shares
     ensures { λ r. ⌜ r .0 ≡ cutTo (quantity .0) price step «max_value» ⌝ }
 {
-    let snapped = shares_for(above(max_value), words::unsigned_abs(price), above(step));
-    let most = words::clamped(false, snapped);
+    let snapped = shares_for(above(max_value), sums::unsigned_abs(price), above(step));
+    let most = sums::clamped(false, snapped);
     if quantity.0 < 0 {
         return Shares::from_raw(0 - most);
     }
@@ -78,7 +78,7 @@ pub fn truncate_qty_to_max_value(quantity: Shares, price: i64, step: i64, max_va
 pub fn drift_bps_of(value: i64, equity: i64) -> f64
     ensures { λ r. ⌜ r ≡ drift value equity ⌝ }
 {
-    doubles::u64_to_f64(words::unsigned_abs(value)) / doubles::i64_to_f64(equity) * 10_000.0
+    doubles::u64_to_f64(sums::unsigned_abs(value)) / doubles::i64_to_f64(equity) * 10_000.0
 }
 
 // "A buy's need is notional plus commission, saturating."
@@ -92,23 +92,23 @@ pub fn buy_cash_required(quantity: Shares, price: i64, costs: CostModel) -> i64
         return 0;
     }
     let notional = notional_of(quantity, price);
-    words::saturating_add(notional, costs.compute_cost(notional))
+    sums::saturating_add(notional, costs.compute_cost(notional))
 }
 
 // A guess at the largest notional that cash pays for with its commission: by the rate or by the floor, whichever leaves less, and
 // one more or less where the rounding was against it.
 fn guessed_notional(cash: i64, costs: CostModel) -> i64 {
-    let flat = words::saturating_sub(cash, costs.min_commission);
+    let flat = sums::saturating_sub(cash, costs.min_commission);
     let rated = doubles::to_i64(
         doubles::i64_to_f64(cash) / (1.0 + costs.commission_bps / 10_000.0),
     );
     let n = if flat < rated { flat } else { rated };
-    let more = words::saturating_add(n, 1);
-    if words::saturating_add(more, costs.compute_cost(more)) <= cash {
+    let more = sums::saturating_add(n, 1);
+    if sums::saturating_add(more, costs.compute_cost(more)) <= cash {
         return more;
     }
-    if cash < words::saturating_add(n, costs.compute_cost(n)) {
-        return words::saturating_sub(n, 1);
+    if cash < sums::saturating_add(n, costs.compute_cost(n)) {
+        return sums::saturating_sub(n, 1);
     }
     n
 }
@@ -120,7 +120,7 @@ fn guessed_over(cash: i64, price: i64, step: u64, costs: CostModel) -> u64
 {
     let n = above(guessed_notional(cash, costs));
     let shares = if n < 0x1000_0000_0000 {
-        words::div_wide(
+        sums::div_wide(
             Wide {
                 hi: 0,
                 lo: n * SCALE + 999_999,
@@ -128,7 +128,7 @@ fn guessed_over(cash: i64, price: i64, step: u64, costs: CostModel) -> u64
             above(price),
         )
     } else {
-        words::div_wide(words::mul_wide(n, SCALE), above(price))
+        sums::div_wide(sums::mul_wide(n, SCALE), above(price))
     };
     std::num::wrapping_add_u64(shares.lo / step, 1)
 }

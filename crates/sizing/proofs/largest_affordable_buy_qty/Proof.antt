@@ -10,7 +10,7 @@ use lib.IntN.{pos}
 use lib.Signed.{leZ}
 use mir.Syntax.{w64}
 use mir.ValLaws.{toZ-pos}
-use Rattle.words.proofs.Ints.{P-fits}
+use Rattle.sums.proofs.Ints.{P-fits}
 use Rattle.cost_model.specs.Costs.{goodCosts}
 use Rattle.sizing.specs.Sizing.{above}
 use Rattle.sizing.specs.Afford.{fits, affordable}

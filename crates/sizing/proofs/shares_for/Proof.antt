@@ -3,8 +3,8 @@ use borrow.Author.Needs.{needs}
 use Prim.Native.Nat.{ℕ, _*_, _/_, _^_, _<_}
 use mathlib.Core.Path.{_≡_, ap, _∙_}
 use native.Mathlib.Omega.{arith}
-use Rattle.words.specs.Sums.{SCALE, snap}
-use Rattle.words.proofs.TwoWords.{words-of, valueOf-wide, one-word}
+use Rattle.sums.specs.Sums.{SCALE, snap}
+use Rattle.sums.proofs.TwoWords.{words-of, valueOf-wide, one-word}
 use Rattle.sizing.specs.Sizing.{sharesFor}
 use Rattle.sizing.proofs.shares_for.Statement.{statement}
 use Rattle.sizing.proofs.shares_for.Tie as tie

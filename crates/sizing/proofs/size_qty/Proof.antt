@@ -1,6 +1,6 @@
 -- The gap's magnitude as shares, with the gap's sign.
 use borrow.Author.Needs.{needs}
-use Rattle.words.proofs.TwoWords.{valueOf-wide}
+use Rattle.sums.proofs.TwoWords.{valueOf-wide}
 use Rattle.sizing.specs.Sizing.{sized}
 use Rattle.sizing.proofs.Bits.{read-back}
 use Rattle.sizing.proofs.size_qty.Statement.{statement}

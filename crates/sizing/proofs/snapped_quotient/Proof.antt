@@ -4,8 +4,8 @@ use Prim.Native.Nat.{ℕ, _*_, _/_, _≤_}
 use mathlib.Core.Path.{_≡_, sym, ap, _∙_}
 use native.Mathlib.Nat.{div-div-eq-div-mul, div-mul-le-self, div-le-self, div-zero, zero-mul}
 use native.Mathlib.Omega.{arith}
-use Rattle.words.specs.Sums.{snap}
-use Rattle.words.proofs.TwoWords.{half-product}
+use Rattle.sums.specs.Sums.{snap}
+use Rattle.sums.proofs.TwoWords.{half-product}
 use Rattle.sizing.proofs.snapped_quotient.Statement.{statement}
 use Rattle.sizing.proofs.snapped_quotient.Tie as tie
 

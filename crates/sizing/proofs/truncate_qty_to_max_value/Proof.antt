@@ -7,8 +7,8 @@ use native.Mathlib.Omega.{arith}
 use lib.IntN.{pos, negℤ, natAbs, _-ℤ_, +ℤ-idl}
 use mir.Syntax.{w64}
 use mir.Val.{toZ, ofZ, SFits}
-use Rattle.words.specs.Sums.{clamp64, signed}
-use Rattle.words.proofs.TwoWords.{valueOf-wide}
+use Rattle.sums.specs.Sums.{clamp64, signed}
+use Rattle.sums.proofs.TwoWords.{valueOf-wide}
 use Rattle.sizing.specs.Sizing.{above, sharesFor, cutTo}
 use Rattle.sizing.proofs.Bits.{read-back}
 use Rattle.sizing.proofs.Sizes.{signed-fits}

@@ -6,8 +6,8 @@ use lib.Signed.{ltZ, leZ}
 use mir.Syntax.{w64}
 use mir.Val.{SFits}
 use mir.Facts.{toZ-ofZ}
-use Rattle.words.specs.Sums.{notional}
-use Rattle.words.proofs.Laws.{notional-fits}
+use Rattle.sums.specs.Sums.{notional}
+use Rattle.sums.proofs.Laws.{notional-fits}
 use Rattle.admission.specs.Admission.{reached}
 use Rattle.admission.proofs.Admitting.{offered-reached, offered-uncapped, offered-none, offered-over, offered-within, rest-fits}
 use borrow.Author.Needs.{needs}

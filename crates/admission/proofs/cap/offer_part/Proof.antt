@@ -6,8 +6,8 @@ use mir.Syntax.{w64}
 use mir.Val.{SFits}
 use mir.Facts.{toZ-ofZ}
 use borrow.Author.Tests.{eq-eqb, ne-eqb}
-use Rattle.words.specs.Sums.{notional}
-use Rattle.words.proofs.Laws.{notional-fits}
+use Rattle.sums.specs.Sums.{notional}
+use Rattle.sums.proofs.Laws.{notional-fits}
 use Rattle.table.specs.Rows.{isZero}
 use Rattle.table.proofs.Ordering.{zero-bits}
 use Rattle.sizing.specs.Sizing.{cutTo}

@@ -9,7 +9,7 @@ use mir.Facts.{toZ-ofZ}
 use borrow.Author.Needs.{needs}
 use borrow.Author.Tests.{not-true, not-false}
 use Rattle.answer.specs.declared.Answer.{Answer}
-use Rattle.words.specs.Sums.{satNeg}
+use Rattle.sums.specs.Sums.{satNeg}
 use Rattle.table.specs.Rows.{Cols, cols, holding, Full}
 use Rattle.fills.specs.Records.{allWords, allInts}
 use Rattle.account.specs.declared.account.Account.{Account}

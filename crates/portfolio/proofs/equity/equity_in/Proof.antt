@@ -10,10 +10,10 @@ use mir.Syntax.{w64}
 use mir.Val.{SFits}
 use mir.Facts.{toZ-ofZ}
 use borrow.Author.Needs.{needs}
-use Rattle.words.specs.Sums.{satAdd}
+use Rattle.sums.specs.Sums.{satAdd}
 use Rattle.table.proofs.Keyed.{ascending-rises}
-use Rattle.feeds.proofs.Checks.{done-accepted}
-use Rattle.feeds.proofs.Sorted.{Serves, sorted-serves}
+use Rattle.call_lists.proofs.Checks.{done-accepted}
+use Rattle.call_lists.proofs.Sorted.{Serves, sorted-serves}
 use Rattle.portfolio.proofs.Worths.{worth-same}
 use Rattle.portfolio.proofs.equity.equity_in.Statement.{statement}
 use Rattle.portfolio.proofs.equity.equity_in.Tie as tie

@@ -6,9 +6,9 @@ use mir.Syntax.{w64}
 use mir.Val.{SFits}
 use mir.Facts.{toZ-ofZ}
 use borrow.Author.Needs.{needs}
-use Rattle.words.specs.Sums.{satAdd}
+use Rattle.sums.specs.Sums.{satAdd}
 use Rattle.table.specs.Keyed.{Rising}
-use Rattle.feeds.specs.Lists.{priceOf}
+use Rattle.call_lists.specs.Lists.{priceOf}
 use Rattle.portfolio.specs.Planned.{equityAt}
 use Rattle.portfolio.proofs.Plans.{plan-none, plan-some}
 use Rattle.portfolio.proofs.rebalance.plan_at.Statement.{statement}

@@ -10,13 +10,13 @@ use mir.Facts.{toZ-ofZ}
 use borrow.Author.Needs.{needs}
 use Rattle.table.specs.Keyed.{pick}
 use Rattle.table.specs.Rows as table
-use Rattle.feeds.specs.Lists.{priceOf}
+use Rattle.call_lists.specs.Lists.{priceOf}
 use Rattle.fills.specs.Runs.{orders}
 use Rattle.account.specs.declared.account.Account.{Account}
 use Rattle.account.specs.Account.{accountWith}
-use Rattle.planning.specs.declared.plan.PlannedOrder.{PlannedOrder}
+use Rattle.wanted.specs.declared.plan.PlannedOrder.{PlannedOrder}
 use Rattle.admission.specs.Columns.{Cols, cols, Full}
-use Rattle.planner.specs.Planning.{Stands}
+use Rattle.plan.specs.Planning.{Stands}
 use Rattle.portfolio.specs.Answers.{places}
 use Rattle.portfolio.specs.Rebalance.{admittedPlan, afterRebalance}
 use Rattle.portfolio.specs.Trades.{Fillable, afterOrders, filed}

@@ -12,7 +12,7 @@ use borrow.Author.Tests.{not-true, not-false}
 use Rattle.answer.specs.declared.Answer.{Answer}
 use Rattle.table.specs.Rows.{Cols, cols, Full}
 use Rattle.table.proofs.Keyed.{ascending-rises}
-use Rattle.feeds.proofs.Sorted.{Serves, sorted-serves}
+use Rattle.call_lists.proofs.Sorted.{Serves, sorted-serves}
 use Rattle.fills.specs.Records.{allWords, allInts}
 use Rattle.account.specs.declared.account.Account.{Account}
 use Rattle.account.specs.Account.{accountWith}

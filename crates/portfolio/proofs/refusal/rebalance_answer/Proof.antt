@@ -8,8 +8,8 @@ use borrow.Author.Needs.{needs}
 use borrow.Author.Tests.{not-true, not-false}
 use Rattle.answer.specs.declared.Answer.{Answer}
 use Rattle.table.specs.Rows.{Cols, cols, Full}
-use Rattle.feeds.specs.Checks.{listsAnswer}
-use Rattle.feeds.proofs.Checks.{done-accepted}
+use Rattle.call_lists.specs.Checks.{listsAnswer}
+use Rattle.call_lists.proofs.Checks.{done-accepted}
 use Rattle.account.specs.declared.account.Account.{Account}
 use Rattle.account.specs.Account.{accountWith, soundAccount, heldIn}
 use Rattle.account.proofs.Columns.{rows-length}

@@ -17,7 +17,7 @@ use Rattle.answer.specs.declared.Answer.the-variants.{Done}
 use Rattle.account.specs.declared.account.Account.{Account}
 use Rattle.account.specs.declared.account.Series.{Series}
 use Rattle.account.specs.Account.{withSeries, accountWith}
-use Rattle.feeds.specs.Lists.{priceOf}
+use Rattle.call_lists.specs.Lists.{priceOf}
 use Rattle.table.specs.Keyed.{pick}
 use Rattle.table.specs.Rows.{Cols, cols}
 use Rattle.portfolio.specs.Answers.{isDone, returnAnswer}

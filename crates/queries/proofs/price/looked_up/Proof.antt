@@ -8,7 +8,7 @@ use mir.Syntax.{w64}
 use mir.Val.{SFits}
 use mir.Facts.{toZ-ofZ}
 use Rattle.table.specs.Keyed.{Rising}
-use Rattle.feeds.specs.Lists.{priceOf}
+use Rattle.call_lists.specs.Lists.{priceOf}
 use Rattle.queries.specs.Places.{PricesOf}
 use Rattle.queries.proofs.Walks.{price-more}
 use Rattle.queries.proofs.price.looked_up.Statement.{statement}

@@ -8,8 +8,8 @@ use lib.ListN.{length, replicate}
 use lib.Seq.{length-take-le}
 use borrow.Author.Needs.{needs}
 use Rattle.table.proofs.Keyed.{ascending-rises}
-use Rattle.feeds.proofs.Checks.{done-accepted}
-use Rattle.feeds.proofs.Sorted.{Serves, sorted-serves}
+use Rattle.call_lists.proofs.Checks.{done-accepted}
+use Rattle.call_lists.proofs.Sorted.{Serves, sorted-serves}
 use Rattle.queries.proofs.price.prices_of.Statement.{statement}
 use Rattle.queries.proofs.price.prices_of.Tie as tie
 

@@ -5,7 +5,7 @@ use mir.Val.{SFits}
 use mir.Facts.{toZ-ofZ}
 use borrow.Author.Needs.{needs}
 use Rattle.table.specs.Rows.{columnsOf, Full, Ordered}
-use Rattle.feeds.specs.Lists.{priceOf}
+use Rattle.call_lists.specs.Lists.{priceOf}
 use Rattle.account.specs.Account.{heldIn}
 use Rattle.account.proofs.Holdings.{account-ordered}
 use Rattle.portfolio.specs.Answers.{isDone}

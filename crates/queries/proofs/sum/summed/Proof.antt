@@ -9,12 +9,12 @@ use lib.ListN.{length, drop, getD}
 use mir.Syntax.{w64}
 use mir.Val.{toZ, SFits}
 use mir.Facts.{toZ-ofZ}
-use Rattle.words.specs.Sums.{satAdd}
+use Rattle.sums.specs.Sums.{satAdd}
 use Rattle.position.specs.declared.position.Position.{Position}
 use Rattle.table.specs.Rows.{isZero, Cols, cols, rows}
 use Rattle.account.proofs.Holdings.{place-holds}
 use Rattle.account.proofs.Columns.{rows-length}
-use Rattle.planning.specs.Equity.{worthFrom}
+use Rattle.wanted.specs.Equity.{worthFrom}
 use Rattle.queries.specs.Queries.{openOnes, profitFrom}
 use Rattle.queries.specs.Places.{Priced}
 use Rattle.queries.proofs.Walks.{worth-on, worth-end, profit-on, profit-end, open-on, open-end, one-most}

@@ -8,7 +8,7 @@ use Rattle.position.proofs.position.Position.market_value.Statement.{st
 use Rattle.position.proofs.position.Position.market_value.Tie as tie
 use Rattle.position.proofs.position.Position.market_value.Reads as reads
 use Rattle.position.proofs.position.Position.market_value.Lts as lts
-use Rattle.words.proofs.value.Reads as value-reads
+use Rattle.sums.proofs.value.Reads as value-reads
 
 value-requires : tie.Need-value-requires
 value-requires c κs = search needs

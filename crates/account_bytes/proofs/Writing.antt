@@ -1,0 +1,96 @@
+-- Runs of words that are written one after the other, and the bytes that they leave.
+use mathlib.Core.Path.{_≡_, refl, sym, _∙_, ap}
+use Prim.Native.Nat.{ℕ, suc, _+_, _*_, _/_}
+use native.Mathlib.Omega.{arith}
+use mathlib.Core.List.{List, [], _∷_, _++_, map, append-nil}
+use lib.ListN.{length, set, length-append, length-map, drop-of-length-le}
+use lib.Seq.{sets, sets-eq}
+use Rattle.table.specs.Rows.{Cols, Full, columnsOf}
+use Rattle.account.specs.declared.settings.Settings.{Settings}
+use Rattle.account.specs.declared.account.Account.{Account}
+use Rattle.account.specs.declared.account.Counters.{Counters}
+use Rattle.account.specs.declared.account.Series.{Series}
+use Rattle.word_bytes.specs.Words.{wordsIn, wordsOf, bytesOf, turned}
+use Rattle.word_bytes.specs.Numbers.{unsignedOf}
+use Rattle.word_bytes.proofs.Words.{Octets, bytes-words}
+use Rattle.account_bytes.specs.Settings.{settingsWords}
+use Rattle.account_bytes.specs.Account.{countWords, columnWords, accountWords}
+
+-- a run after a run that ends where it begins
+pub sets-append : {A : Type 0} (l : List A) (i : ℕ) (x y : List A) (j : ℕ) → j ≡ i + length x → sets (sets l i x) j y ≡ sets l i (x ++ y)
+sets-append l i [] y j e = let z : j ≡ i = omega arith in ap (λ (k : ℕ). sets l k y) z
+sets-append l i (v ∷ x) y j e = sets-append (set l i v) (suc i) x y j (omega arith)
+
+-- a run over all places
+pub sets-all : {A : Type 0} (l vs : List A) → length l ≡ length vs → sets l 0 vs ≡ vs
+sets-all l vs e =
+    sets-eq vs l 0 (omega arith)
+    ∙ ap (λ (r : List _). vs ++ r) (drop-of-length-le l {i = 0 + length vs} (omega arith))
+    ∙ append-nil vs
+
+-- bytes that hold words and nothing else are the bytes of these words
+pub bytes-are : (n : ℕ) (l ws : List ℕ) → Octets l → length l ≡ 8 * n → wordsOf l ≡ ws → l ≡ bytesOf ws
+bytes-are n l ws o e h =
+    let z : length l / 8 ≡ n = omega arith in
+    sym (bytes-words n l o e) ∙ ap (λ (k : ℕ). bytesOf (wordsIn k l)) (sym z) ∙ ap bytesOf h
+
+-- ---- the account
+pub length-columns : (c : Cols) → Full c → length (columnWords c) ≡ 320
+unfolding columnWords
+length-columns c f = simp (length-append, length-map, f .symbol, f .quantity, f .average, f .realized, f .total)
+
+-- column after column
+pub columns-put : (c : Cols) → Full c → (w0 w1 w2 w3 w4 w5 : List ℕ)
+    → w1 ≡ sets w0 22 (map turned (c .symbol))
+    → w2 ≡ sets w1 86 (map unsignedOf (c .quantity))
+    → w3 ≡ sets w2 150 (map unsignedOf (c .average))
+    → w4 ≡ sets w3 214 (map unsignedOf (c .realized))
+    → w5 ≡ sets w4 278 (map unsignedOf (c .total))
+    → w5 ≡ sets w0 22 (columnWords c)
+unfolding columnWords
+columns-put c f w0 w1 w2 w3 w4 w5 e1 e2 e3 e4 e5 =
+    let s : List ℕ = map turned (c .symbol) in
+    let q : List ℕ = map unsignedOf (c .quantity) in
+    let a : List ℕ = map unsignedOf (c .average) in
+    let r : List ℕ = map unsignedOf (c .realized) in
+    let k : List ℕ = map unsignedOf (c .total) in
+    let n1 : length s ≡ 64 = length-map (c .symbol) turned ∙ f .symbol in
+    let n2 : length q ≡ 64 = length-map (c .quantity) unsignedOf ∙ f .quantity in
+    let n3 : length a ≡ 64 = length-map (c .average) unsignedOf ∙ f .average in
+    let n4 : length r ≡ 64 = length-map (c .realized) unsignedOf ∙ f .realized in
+    let d4 : w5 ≡ sets w3 214 (r ++ k) = e5 ∙ ap (λ (w : List ℕ). sets w 278 k) e4 ∙ sets-append w3 214 r k 278 (omega arith) in
+    let d3 : w5 ≡ sets w2 150 (a ++ (r ++ k)) = d4 ∙ ap (λ (w : List ℕ). sets w 214 (r ++ k)) e3 ∙ sets-append w2 150 a (r ++ k) 214 (omega arith) in
+    let d2 : w5 ≡ sets w1 86 (q ++ (a ++ (r ++ k))) = d3 ∙ ap (λ (w : List ℕ). sets w 150 (a ++ (r ++ k))) e2 ∙ sets-append w1 86 q (a ++ (r ++ k)) 150 (omega arith) in
+    d2 ∙ ap (λ (w : List ℕ). sets w 86 (q ++ (a ++ (r ++ k)))) e1 ∙ sets-append w0 22 s (q ++ (a ++ (r ++ k))) 86 (omega arith)
+
+pub length-settings : (s : Settings) → length (settingsWords s) ≡ 12
+unfolding settingsWords
+length-settings s = refl
+
+pub length-counts : (k : Counters) (s : Series) (n : ℕ) → length (countWords k s n) ≡ 9
+unfolding countWords
+length-counts k s n = refl
+
+pub length-account : (a : Account) → Full (columnsOf (a .positions)) → length (accountWords a) ≡ 342
+unfolding accountWords
+length-account a f = simp (length-append, length-settings (a .settings), length-counts (a .counters) (a .series) (a .positions .count), length-columns (columnsOf (a .positions)) f)
+
+whole : (a : Account) (w : List ℕ) → sets (set w 0 (unsignedOf (a .cash))) 1 (settingsWords (a .settings) ++ (countWords (a .counters) (a .series) (a .positions .count) ++ columnWords (columnsOf (a .positions)))) ≡ sets w 0 (accountWords a)
+unfolding accountWords
+whole a w = refl
+
+-- cash, settings, counts and columns
+pub account-put : (a : Account) → Full (columnsOf (a .positions)) → (w0 w1 w2 w3 w4 : List ℕ) → length w0 ≡ 342
+    → w1 ≡ set w0 0 (unsignedOf (a .cash))
+    → w2 ≡ sets w1 1 (settingsWords (a .settings))
+    → w3 ≡ sets w2 13 (countWords (a .counters) (a .series) (a .positions .count))
+    → w4 ≡ sets w3 22 (columnWords (columnsOf (a .positions)))
+    → w4 ≡ accountWords a
+account-put a f w0 w1 w2 w3 w4 n e1 e2 e3 e4 =
+    let s : List ℕ = settingsWords (a .settings) in
+    let k : List ℕ = countWords (a .counters) (a .series) (a .positions .count) in
+    let c : List ℕ = columnWords (columnsOf (a .positions)) in
+    let d3 : w4 ≡ sets w2 13 (k ++ c) = e4 ∙ ap (λ (w : List ℕ). sets w 22 c) e3 ∙ sets-append w2 13 k c 22 (omega (arith, length-counts (a .counters) (a .series) (a .positions .count))) in
+    let d2 : w4 ≡ sets w1 1 (s ++ (k ++ c)) = d3 ∙ ap (λ (w : List ℕ). sets w 13 (k ++ c)) e2 ∙ sets-append w1 1 s (k ++ c) 13 (omega (arith, length-settings (a .settings))) in
+    let d1 : w4 ≡ sets w0 0 (accountWords a) = d2 ∙ ap (λ (w : List ℕ). sets w 1 (s ++ (k ++ c))) e1 ∙ whole a w0 in
+    d1 ∙ sets-all w0 (accountWords a) (n ∙ sym (length-account a f))

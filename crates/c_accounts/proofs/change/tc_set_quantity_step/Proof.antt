@@ -1,0 +1,32 @@
+-- The setter of the account, filed.
+use mathlib.Core.Path.{_∙_}
+use borrow.Author.Needs.{needs}
+use Rattle.account.specs.Settings.{withStep}
+use Rattle.c_accounts.proofs.Filing.{set-number-done}
+use Rattle.c_accounts.proofs.change.tc_set_quantity_step.Statement.{statement}
+use Rattle.c_accounts.proofs.change.tc_set_quantity_step.Tie as tie
+
+account-in-requires : tie.Need-account-in-requires
+account-in-requires c κs = search needs
+
+set-quantity-step-requires : tie.Need-set-quantity-step-requires
+set-quantity-step-requires c κs = search needs
+
+file-requires : tie.Need-file-requires
+file-requires c κs = search needs
+
+same-length : tie.Need-same-length
+same-length c = search needs
+
+returns : tie.Need-returns
+returns c =
+    let f = c .before .before in
+    let q = f .before .before in
+    let a = q .before in
+    let s = a .before .before .before in
+    f .file .ensures ∙ set-number-done withStep (s .args .micro-shares) (s .args .account .now) (a .account-in .result) (q .set-quantity-step .result) (s .fits .micro-shares) (a .account-in .ensures) (q .set-quantity-step .ensures)
+
+pub tc-set-quantity-step-spec : {M : Type 1} → statement M
+tc-set-quantity-step-spec =
+    tie.close
+    (tie.spec account-in-requires set-quantity-step-requires file-requires same-length returns)

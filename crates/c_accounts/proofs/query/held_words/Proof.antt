@@ -1,0 +1,63 @@
+-- Each word from its own field.
+use mir.Val.{SFits}
+use mir.Syntax.{w64}
+use borrow.Author.Needs.{needs}
+use Rattle.position.specs.Rows.{held, avg, realized, total}
+use Rattle.account_bytes.proofs.Runs.{stored}
+use Rattle.c_accounts.proofs.query.held_words.Statement.{statement}
+use Rattle.c_accounts.proofs.query.held_words.Tie as tie
+
+quantity-fits : (s : tie.Start) → SFits w64 (held (s .args .h .position))
+quantity-fits s = search needs
+
+average-fits : (s : tie.Start) → SFits w64 (avg (s .args .h .position))
+average-fits s = search needs
+
+realized-fits : (s : tie.Start) → SFits w64 (realized (s .args .h .position))
+realized-fits s = search needs
+
+total-fits : (s : tie.Start) → SFits w64 (total (s .args .h .position))
+total-fits s = search needs
+
+mark-of-requires : tie.Need-mark-of-requires
+mark-of-requires c κs = search needs
+
+text-of-requires : tie.Need-text-of-requires
+text-of-requires c κs = search needs
+
+unsigned-requires : tie.Need-unsigned-requires
+unsigned-requires c κs = search needs
+
+unsigned-requires-2 : tie.Need-unsigned-requires-2
+unsigned-requires-2 c κs = search needs
+
+unsigned-requires-3 : tie.Need-unsigned-requires-3
+unsigned-requires-3 c κs = search needs
+
+unsigned-requires-4 : tie.Need-unsigned-requires-4
+unsigned-requires-4 c κs = search needs
+
+returns : tie.Need-returns
+returns c =
+    let t = c .before .before .before .before .before .before .before .before in
+    let s = t .before .before .before in
+    simp (
+      t .before .mark-of .ensures,
+      t .text-of .ensures,
+      stored (quantity-fits s) (c .before .before .before .before .before .before .unsigned .ensures),
+      stored (average-fits s) (c .before .before .before .before .unsigned2 .ensures),
+      stored (realized-fits s) (c .before .before .unsigned3 .ensures),
+      stored (total-fits s) (c .unsigned4 .ensures),
+    )
+
+pub held-words-spec : {M : Type 1} → statement M
+held-words-spec =
+    tie.close
+    (tie.spec
+    mark-of-requires
+    text-of-requires
+    unsigned-requires
+    unsigned-requires-2
+    unsigned-requires-3
+    unsigned-requires-4
+    returns)

@@ -1,0 +1,50 @@
+-- What opening answers and writes.
+use Prim.Native.Nat.{ℕ}
+use mathlib.Core.Bool.{Bool}
+use mathlib.Core.List.{List}
+use lib.Dec.{eqb, ltb}
+use lib.IntN.{ℤ}
+use lib.ListN.{length, set}
+use Rattle.answer.specs.declared.Answer.{Answer}
+use Rattle.answer.specs.declared.Answer.the-variants.{Done, BadSetting, TooLong, BufferFull}
+use Rattle.answer.specs.Numbers.{numberOf}
+use Rattle.table.specs.Keyed.{pick, both}
+use Rattle.account.specs.declared.account.Account.{Account}
+use Rattle.account.specs.declared.settings.Settings.{Settings}
+use Rattle.account.specs.Account.{soundScalars}
+use Rattle.account.specs.Calls.{emptyAccount, series}
+use Rattle.account_bytes.specs.Settings.{readSettings}
+use Rattle.c_accounts.specs.Entries.{accountBytes}
+
+-- ---- the answer's number, and both lent runs after it
+pub record OpenTold : Type 0 where
+  pub number : ℕ
+  pub account : List ℕ
+  pub equities : List ℤ
+
+abbrev pub openTold : ℕ → List ℕ → List ℤ → OpenTold
+openTold n b es = record { number = n; account = b; equities = es }
+
+abbrev pub opening : Answer → List ℕ → List ℤ → OpenTold
+opening w b es = openTold (numberOf w) b es
+
+-- nothing held, nothing counted, the cash as the first equity
+abbrev pub openAccount : ℤ → Settings → Account
+openAccount cash s = emptyAccount cash s (series 1 0 cash)
+
+-- bytes of another length hold no settings, and so do those with a bad mark or flag or a NaN
+unfoldable pub soundOpening : ℤ → List ℕ → Bool
+soundOpening cash given = both (readSettings given .good) (soundScalars cash (readSettings given .settings))
+
+-- 1: "a setting or opening cash is bad"; 6 where the account's bytes have another length; 10: "the equity .. buffer has no free place"; else
+-- "Opening writes the cash as the first equity". Where 01 has "all zeros from a refused opening", that is of an account that is returned; bytes that are
+-- lent are "as found".
+unfoldable pub openIn : ℤ → List ℕ → List ℕ → List ℤ → OpenTold
+openIn cash given b es =
+    pick (soundOpening cash given)
+    (pick (eqb (length b) 2736)
+    (pick (ltb 0 (length es))
+    (opening Done (accountBytes (openAccount cash (readSettings given .settings))) (set es 0 cash))
+    (opening BufferFull b es))
+    (opening TooLong b es))
+    (opening BadSetting b es)

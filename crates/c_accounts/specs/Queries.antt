@@ -1,0 +1,82 @@
+-- What an account's bytes tell of the account.
+use Prim.Native.Nat.{ℕ, _*_}
+use mathlib.Core.List.{List, [], _∷_}
+use lib.Dec.{eqb}
+use lib.ListN.{length}
+use Rattle.answer.specs.declared.Answer.{Answer}
+use Rattle.answer.specs.declared.Answer.the-variants.{Done, BadSymbol, TooLong, Unsound}
+use Rattle.answer.specs.Numbers.{numberOf}
+use Rattle.position.specs.Rows.{keyOf, held, avg, realized, total}
+use Rattle.position.specs.Symbols.{goodSymbol}
+use Rattle.table.specs.Keyed.{pick}
+use Rattle.word_bytes.specs.Words.{bytesOf, turned}
+use Rattle.word_bytes.specs.Numbers.{unsignedOf}
+use Rattle.account.specs.declared.account.Counters.{Counters}
+use Rattle.account.specs.declared.account.Series.{Series}
+use Rattle.account.specs.declared.holding.Held.{Held}
+use Rattle.account.specs.Calls.{positionOf, positionAt}
+use Rattle.account_bytes.specs.Settings.{flagWord, settingsWords}
+use Rattle.c_accounts.specs.Entries.{accountIn, settingsIn, soundIn, Told, told, answering}
+
+-- 11; then 6 where `out` has another length; then what the question itself is refused for; then the words, and nothing beside them.
+unfoldable pub queried : List ℕ → ℕ → Answer → List ℕ → List ℕ → Told
+queried b size w words out =
+    pick (soundIn b)
+    (pick (eqb (length out) size)
+    (answering w (pick (eqb (numberOf w) 0) (bytesOf words) out))
+    (answering TooLong out))
+    (answering Unsound out)
+
+-- ---- the words of each figure
+abbrev pub counterWords : Counters → List ℕ
+counterWords k =
+    k .«last_rebalance_order_count»
+    ∷ unsignedOf (k .«last_rebalance_notional»)
+    ∷ k .«trimmed_fill_count»
+    ∷ unsignedOf (k .«trimmed_shortfall_cents»)
+    ∷ k .«record_count»
+    ∷ []
+
+abbrev pub seriesWords : Series → List ℕ
+seriesWords s = s .«equity_count» ∷ s .«return_count» ∷ unsignedOf (s .«prev_equity») ∷ []
+
+-- the present mark, the symbol's text, quantity, average, realized profit and total cost
+abbrev pub heldWords : Held → List ℕ
+heldWords h =
+    flagWord (h .present)
+    ∷ turned (keyOf (h .position))
+    ∷ unsignedOf (held (h .position))
+    ∷ unsignedOf (avg (h .position))
+    ∷ unsignedOf (realized (h .position))
+    ∷ unsignedOf (total (h .position))
+    ∷ []
+
+-- ---- the questions
+abbrev pub cashTold : List ℕ → List ℕ → Told
+cashTold b out = queried b 8 Done (unsignedOf (accountIn b .cash) ∷ []) out
+
+abbrev pub settingsTold : List ℕ → List ℕ → Told
+settingsTold b out = queried b 96 Done (settingsWords (settingsIn b)) out
+
+abbrev pub countersTold : List ℕ → List ℕ → Told
+countersTold b out = queried b 40 Done (counterWords (accountIn b .counters)) out
+
+abbrev pub seriesTold : List ℕ → List ℕ → Told
+seriesTold b out = queried b 24 Done (seriesWords (accountIn b .series)) out
+
+-- 2: "a symbol is bad"; "a position the account lacks is 0 with an absent mark"
+abbrev pub positionTold : ℕ → List ℕ → List ℕ → Told
+positionTold s b out = queried b 48 (pick (goodSymbol s) Done BadSymbol) (heldWords (positionOf s (accountIn b))) out
+
+abbrev pub positionAtTold : ℕ → List ℕ → List ℕ → Told
+positionAtTold i b out = queried b 48 Done (heldWords (positionAt i (accountIn b))) out
+
+-- ---- what the code does
+-- the number of a question to an account, and its words where all is well
+unfoldable pub tellIn : ℕ → List ℕ → List ℕ → Told
+tellIn n words out =
+    pick (eqb n 11)
+    (told n out)
+    (pick (eqb (length out) (8 * length words))
+    (told n (pick (eqb n 0) (bytesOf words) out))
+    (answering TooLong out))

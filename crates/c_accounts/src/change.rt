@@ -1,0 +1,118 @@
+// One setting of an account in lent bytes changed.
+ghost use mathlib.Core.Path.{_≡_};
+ghost use mathlib.Core.Bool.{true};
+ghost use Rattle.account.specs.Settings.{withStep, withMinOrder, withMaxOrder, withBand, withTradeCap, withMaxNotional, withRecording, withCashFirst};
+ghost use Rattle.account_bytes.specs.Settings.{isFlag, flagOf, isCap, capOf};
+ghost use Rattle.c_accounts.specs.Entries.{settingsIn, told};
+ghost use Rattle.c_accounts.specs.Setters.{setIn};
+use crate::filed::account_in;
+use crate::filed::file;
+use crate::filed::unless_unsound;
+use account::TradeCap;
+use answer::Answer;
+
+fn is_flag(flag: u64) -> bool
+    ensures { λ r. ⌜ r ≡ isFlag flag ⌝ }
+{
+    flag < 2
+}
+
+// The mark 1 sets the cap; the mark 0 lifts it, and the cap is then 0.
+fn is_cap(mark: u64, cap: u64) -> bool
+    ensures { λ r. ⌜ r ≡ isCap mark cap ⌝ }
+{
+    if mark == 0 { cap == 0 } else { mark == 1 }
+}
+
+fn cap_of(mark: u64, cap: u64) -> TradeCap
+    ensures { λ r. ⌜ r ≡ capOf mark cap ⌝ }
+{
+    if mark == 0 {
+        TradeCap::Absent
+    } else {
+        TradeCap::AtMost(cap)
+    }
+}
+
+#[no_mangle]
+pub extern "C" fn tc_set_quantity_step(account: &mut [u8], micro_shares: i64) -> u64
+    ensures { λ r. ⌜ told r (now (account .exit)) ≡ setIn true (withStep «micro_shares» (settingsIn (now (account .entry)))) (now (account .entry)) ⌝ }
+{
+    let a = account_in(account);
+    let c = a.set_quantity_step(micro_shares);
+    file(c, account)
+}
+
+#[no_mangle]
+pub extern "C" fn tc_set_min_order_value(account: &mut [u8], cents: i64) -> u64
+    ensures { λ r. ⌜ told r (now (account .exit)) ≡ setIn true (withMinOrder cents (settingsIn (now (account .entry)))) (now (account .entry)) ⌝ }
+{
+    let a = account_in(account);
+    let c = a.set_min_order_value(cents);
+    file(c, account)
+}
+
+#[no_mangle]
+pub extern "C" fn tc_set_max_order_value(account: &mut [u8], cents: i64) -> u64
+    ensures { λ r. ⌜ told r (now (account .exit)) ≡ setIn true (withMaxOrder cents (settingsIn (now (account .entry)))) (now (account .entry)) ⌝ }
+{
+    let a = account_in(account);
+    let c = a.set_max_order_value(cents);
+    file(c, account)
+}
+
+// A double that is no number is a band that is bad: 1.
+#[no_mangle]
+pub extern "C" fn tc_set_no_trade_band_bps(account: &mut [u8], bps: f64) -> u64
+    ensures { λ r. ⌜ told r (now (account .exit)) ≡ setIn true (withBand bps (settingsIn (now (account .entry)))) (now (account .entry)) ⌝ }
+{
+    let a = account_in(account);
+    let c = a.set_no_trade_band_bps(bps);
+    file(c, account)
+}
+
+#[no_mangle]
+pub extern "C" fn tc_set_max_trades_per_rebalance(account: &mut [u8], mark: u64, cap: u64) -> u64
+    ensures { λ r. ⌜ told r (now (account .exit)) ≡ setIn (isCap mark cap) (withTradeCap (capOf mark cap) (settingsIn (now (account .entry)))) (now (account .entry)) ⌝ }
+{
+    let a = account_in(account);
+    if !is_cap(mark, cap) {
+        return unless_unsound(a, Answer::BadSetting);
+    }
+    let c = a.set_max_trades_per_rebalance(cap_of(mark, cap));
+    file(c, account)
+}
+
+#[no_mangle]
+pub extern "C" fn tc_set_max_rebalance_notional(account: &mut [u8], cents: i64) -> u64
+    ensures { λ r. ⌜ told r (now (account .exit)) ≡ setIn true (withMaxNotional cents (settingsIn (now (account .entry)))) (now (account .entry)) ⌝ }
+{
+    let a = account_in(account);
+    let c = a.set_max_rebalance_notional(cents);
+    file(c, account)
+}
+
+// 1 turns recording on, 0 off; another number is no flag: 1.
+#[no_mangle]
+pub extern "C" fn tc_set_recording(account: &mut [u8], flag: u64) -> u64
+    ensures { λ r. ⌜ told r (now (account .exit)) ≡ setIn (isFlag flag) (withRecording (flagOf flag) (settingsIn (now (account .entry)))) (now (account .entry)) ⌝ }
+{
+    let a = account_in(account);
+    if !is_flag(flag) {
+        return unless_unsound(a, Answer::BadSetting);
+    }
+    let c = a.set_recording(flag == 1);
+    file(c, account)
+}
+
+#[no_mangle]
+pub extern "C" fn tc_set_cash_first(account: &mut [u8], flag: u64) -> u64
+    ensures { λ r. ⌜ told r (now (account .exit)) ≡ setIn (isFlag flag) (withCashFirst (flagOf flag) (settingsIn (now (account .entry)))) (now (account .entry)) ⌝ }
+{
+    let a = account_in(account);
+    if !is_flag(flag) {
+        return unless_unsound(a, Answer::BadSetting);
+    }
+    let c = a.set_cash_first(flag == 1);
+    file(c, account)
+}

@@ -1,0 +1,41 @@
+// Accounts out of lent bytes and back into them.
+ghost use mathlib.Core.Path.{_≡_};
+ghost use Rattle.answer.specs.Numbers.{numberOf};
+ghost use Rattle.c_accounts.specs.Entries.{accountIn, told, unlessUnsound};
+ghost use Rattle.c_accounts.specs.Setters.{filed};
+use account::Account;
+use account::Changed;
+use account_bytes::read_account;
+use account_bytes::write_account;
+use answer::Answer;
+
+// Bytes that hold no account give all zeros, which is no sound account, so every call on it answers 11.
+pub(crate) fn account_in(bytes: &[u8]) -> Account
+    ensures { λ r. ⌜ r ≡ accountIn (now (bytes .entry)) ⌝ }
+{
+    let r = read_account(bytes);
+    r.account
+}
+
+// The number of an answer, which 11 goes before.
+pub(crate) fn unless_unsound(a: Account, answer: Answer) -> u64
+    ensures { λ r. ⌜ r ≡ numberOf (unlessUnsound a answer) ⌝ }
+{
+    if a.is_sound() {
+        return answer::number(answer);
+    }
+    answer::number(Answer::Unsound)
+}
+
+// The account after a call that was done; after another the bytes stay.
+pub(crate) fn file(c: Changed, bytes: &mut [u8]) -> u64
+    ensures { λ r. ⌜ told r (now (bytes .exit)) ≡ filed c (now (bytes .entry)) ⌝ }
+{
+    let answer = c.answer;
+    let number = answer::number(answer);
+    if number == 0 {
+        let a = c.account;
+        write_account(a, bytes);
+    }
+    number
+}

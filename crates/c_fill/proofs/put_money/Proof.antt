@@ -1,0 +1,72 @@
+-- Six stores into six places, each number read back from its bits.
+use native.Mathlib.Omega.{arith}
+use lib.ListN.{length-set}
+use mir.Syntax.{w64}
+use mir.Val.{SFits}
+use mir.Facts.{toZ-ofZ}
+use borrow.Author.Needs.{needs}
+use Rattle.c_fill.specs.Single.{moneyOf}
+use Rattle.c_fill.proofs.Places.{all-stored}
+use Rattle.c_fill.proofs.put_money.Statement.{statement}
+use Rattle.c_fill.proofs.put_money.Tie as tie
+
+cash-fits : (s : tie.Start) → SFits w64 (s .args .b .cash)
+cash-fits s = search needs
+
+shortfall-fits : (s : tie.Start) → SFits w64 (s .args .b .shortfall)
+shortfall-fits s = search needs
+
+held-fits : (s : tie.Start) → SFits w64 (s .args .p .quantity .0)
+held-fits s = search needs
+
+average-fits : (s : tie.Start) → SFits w64 (s .args .p .«avg_entry_price»)
+average-fits s = search needs
+
+realized-fits : (s : tie.Start) → SFits w64 (s .args .p .«realized_pnl»)
+realized-fits s = search needs
+
+total-fits : (s : tie.Start) → SFits w64 (s .args .p .«total_cost»)
+total-fits s = search needs
+
+abbrev began : tie.After-struct-told6 → tie.Start
+began c = c .before .before .before .before .before .before
+
+slice-set-from-cash : tie.Need-slice-set-from-cash
+slice-set-from-cash c = search needs
+
+slice-set-from-shortfall : tie.Need-slice-set-from-shortfall
+slice-set-from-shortfall c = search needs
+
+slice-set-from-held : tie.Need-slice-set-from-held
+slice-set-from-held c = search needs
+
+slice-set-from-average : tie.Need-slice-set-from-average
+slice-set-from-average c = search needs
+
+slice-set-from-realized : tie.Need-slice-set-from-realized
+slice-set-from-realized c = simp length-set (omega (arith, began c .pre))
+
+slice-set-from-total : tie.Need-slice-set-from-total
+slice-set-from-total c = simp length-set (omega (arith, began c .pre))
+
+same-length : tie.Need-same-length
+same-length c = simp length-set (omega arith)
+
+returns : tie.Need-returns
+returns c =
+    let s = began c in
+    simp (toZ-ofZ (cash-fits s), toZ-ofZ (shortfall-fits s), toZ-ofZ (held-fits s), toZ-ofZ (average-fits s), toZ-ofZ (realized-fits s), toZ-ofZ (total-fits s))
+    (all-stored (s .args .money .now) (moneyOf (s .args .b) (s .args .p)) (s .pre))
+
+pub put-money-spec : {M : Type 1} → statement M
+put-money-spec =
+    tie.close
+    (tie.spec
+    slice-set-from-cash
+    slice-set-from-shortfall
+    slice-set-from-held
+    slice-set-from-average
+    slice-set-from-realized
+    slice-set-from-total
+    same-length
+    returns)

@@ -1,0 +1,21 @@
+-- Two stores into two places.
+use borrow.Author.Needs.{needs}
+use Rattle.c_fill.specs.Single.{talliesOf}
+use Rattle.c_fill.proofs.Places.{all-stored}
+use Rattle.c_fill.proofs.put_tallies.Statement.{statement}
+use Rattle.c_fill.proofs.put_tallies.Tie as tie
+
+slice-write-tallies : tie.Need-slice-write-tallies
+slice-write-tallies c = search needs
+
+slice-write-tallies-2 : tie.Need-slice-write-tallies-2
+slice-write-tallies-2 c = search needs
+
+same-length : tie.Need-same-length
+same-length c = search needs
+
+returns : tie.Need-returns
+returns c = all-stored (c .args .tallies .now) (talliesOf (c .args .b)) (c .pre)
+
+pub put-tallies-spec : {M : Type 1} → statement M
+put-tallies-spec = tie.close (tie.spec slice-write-tallies slice-write-tallies-2 same-length returns)

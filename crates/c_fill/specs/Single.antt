@@ -1,0 +1,159 @@
+-- One fill on an account of at most one position, in lent places.
+use Prim.Native.Nat.{ℕ}
+use mathlib.Core.Bool.{Bool, true}
+use mathlib.Core.List.{List, [], _∷_}
+use lib.Dec.{eqb, leb, ltb}
+use lib.IntN.{ℤ, pos}
+use lib.ListN.{length, getD}
+use lib.Signed.{leZ}
+use Rattle.answer.specs.declared.Answer.{Answer}
+use Rattle.answer.specs.declared.Answer.the-variants.{Done, BadSetting, BadPrice, NoRecordRoom, Unsound}
+use Rattle.answer.specs.Numbers.{numberOf}
+use Rattle.position.specs.declared.position.Position.{Position}
+use Rattle.position.specs.Rows.{row, held, avg, realized, total}
+use Rattle.position.specs.Shares.{isZero}
+use Rattle.position.specs.Fills.{sound}
+use Rattle.cost_model.specs.declared.CostModel.{CostModel}
+use Rattle.cost_model.specs.Costs.{goodCosts}
+use Rattle.call_lists.specs.Checks.{unless}
+use Rattle.table.specs.declared.found.Found.the-variants.{Absent}
+use Rattle.table.specs.Keyed.{pick, both}
+use Rattle.table.specs.Rows.{Cols, Counted, counted, posted, holding}
+use Rattle.fills.specs.declared.order.Book.{Book}
+use Rattle.fills.specs.declared.order.Order.{Order}
+use Rattle.fills.specs.declared.order.Terms.{Terms}
+use Rattle.fills.specs.declared.record.ExecutionKind.{ExecutionKind}
+use Rattle.fills.specs.declared.record.ExecutionKind.the-variants.{Rebalance, StopExit}
+use Rattle.fills.specs.declared.record.ExecutionRecord.{ExecutionRecord}
+use Rattle.fills.specs.Orders.{State}
+use Rattle.fills.specs.Records.{allWords, allInts, fronted}
+use Rattle.fills.specs.Runs.{order, recordsOf}
+use Rattle.fills.specs.Fill.{fill}
+use Rattle.c_fill.specs.declared.Ask.{Ask}
+use Rattle.c_fill.specs.declared.Seen.{Seen}
+
+-- ---- what is asked
+abbrev pub asked : CostModel → ℤ → ℕ → ℕ → ℕ → ℤ → ℤ → Ask
+asked m step period kind s q price = record { costs = m; «quantity_step» = step; period = period; kind = kind; symbol = s; quantity = q; price = price }
+
+abbrev pub kindOf : ℕ → ExecutionKind
+kindOf n = pick (eqb n 0) Rebalance StopExit
+
+-- every fill is recorded
+abbrev pub termsOf : Ask → Terms
+termsOf a = record { costs = a .costs; «quantity_step» = a .«quantity_step»; recording = true; «period_index» = a .period; kind = kindOf (a .kind) }
+
+abbrev pub orderOf : Ask → Order
+orderOf a = order (a .symbol) (a .quantity) (a .price)
+
+-- ---- the lent places: cash, shortfall, and the position's quantity, average, realized profit and total cost; the counts of trimmed fills and of records;
+-- and room for records, four words and eight numbers each
+pub record Slots : Type 0 where
+  pub money : List ℤ
+  pub tallies : List ℕ
+  pub words : List ℕ
+  pub ints : List ℤ
+
+abbrev pub slots : List ℤ → List ℕ → List ℕ → List ℤ → Slots
+slots ms ts ws is = record { money = ms; tallies = ts; words = ws; ints = is }
+
+abbrev pub positionIn : ℕ → List ℤ → Position
+positionIn s ms = row s (getD ms 2 (pos 0)) (getD ms 3 (pos 0)) (getD ms 4 (pos 0)) (getD ms 5 (pos 0))
+
+abbrev pub numbersOf : Position → List ℤ
+numbersOf p = held p ∷ avg p ∷ realized p ∷ total p ∷ []
+
+-- a flat position that realized nothing stands for none
+abbrev pub isNone : Position → Bool
+isNone p = both (isZero (held p)) (isZero (realized p))
+
+abbrev pub heldOf : Position → List Position
+heldOf p = pick (isNone p) [] (p ∷ [])
+
+abbrev pub stateIn : Ask → Slots → State
+stateIn a l = record {
+  cash = getD (l .money) 0 (pos 0);
+  held = heldOf (positionIn (a .symbol) (l .money));
+  trimmed = getD (l .tallies) 0 0;
+  shortfall = getD (l .money) 1 (pos 0);
+  sequence = getD (l .tallies) 1 0;
+  records = [];
+}
+
+-- "records fill the first places [..] and the rest are as found"
+abbrev pub slotsOf : ℕ → State → Slots → Slots
+slotsOf s x l = slots
+    (x .cash ∷ x .shortfall ∷ numbersOf (holding s (x .held)))
+    (x .trimmed ∷ x .sequence ∷ [])
+    (fronted (allWords (x .records)) (l .words))
+    (fronted (allInts (x .records)) (l .ints))
+
+-- ---- the answer: "Check order where several apply: 11, 1, 6, 2, 3, 5, 4, 8"
+-- "A sound account has .. cash at least 0, positions with good symbols"
+abbrev pub soundIn : ℤ → Position → Bool
+soundIn cash p = both (leZ (pos 0) cash) (sound p)
+
+-- "`quantity_step` at least 1"; "an unknown kind answers 1"
+abbrev pub goodAsk : Ask → Bool
+goodAsk a = both (goodCosts (a .costs)) (both (leZ (pos 1) (a .«quantity_step»)) (ltb (a .kind) 2))
+
+-- room for one record
+abbrev pub roomForOne : ℕ → ℕ → Bool
+roomForOne words ints = both (leb 4 words) (leb 8 ints)
+
+unfoldable pub refusalOf : Ask → ℤ → Position → ℕ → ℕ → Answer
+refusalOf a cash p words ints =
+    unless (soundIn cash p) Unsound
+    (unless (goodAsk a) BadSetting
+    (unless (leZ (pos 1) (a .price)) BadPrice
+    (unless (roomForOne words ints) NoRecordRoom
+    Done)))
+
+-- "Account bytes of the wrong length answer 11": so do numbers and counts of another length.
+unfoldable pub answerTo : Ask → Slots → Answer
+answerTo a l =
+    unless (both (eqb (length (l .money)) 6) (eqb (length (l .tallies)) 2)) Unsound
+    (refusalOf a (getD (l .money) 0 (pos 0)) (positionIn (a .symbol) (l .money)) (length (l .words)) (length (l .ints)))
+
+-- ---- the answer and the places after it: "Each refusal returns its number with .. every lent place as found."
+pub record Told : Type 0 where
+  pub answer : ℕ
+  pub places : Slots
+
+abbrev pub told : ℕ → Slots → Told
+told n l = record { answer = n; places = l }
+
+unfoldable pub fillOne : Ask → Slots → Told
+fillOne a l = told (numberOf (answerTo a l))
+    (pick (eqb (numberOf (answerTo a l)) 0) (slotsOf (a .symbol) (fill (termsOf a) (orderOf a) (stateIn a l)) l) l)
+
+-- ---- the same in the code's structs
+abbrev pub bookOf : List ℤ → List ℕ → Book
+bookOf ms ts = record { cash = getD ms 0 (pos 0); count = 0; trimmed = getD ts 0 0; shortfall = getD ms 1 (pos 0); sequence = getD ts 1 0; written = 0; hint = 0 }
+
+abbrev pub alone : Book → Position → State
+alone b p = record { cash = b .cash; held = heldOf p; trimmed = b .trimmed; shortfall = b .shortfall; sequence = b .sequence; records = [] }
+
+abbrev pub enteredIn : Position → Cols → Counted
+enteredIn p c = pick (isNone p) (counted 0 c) (posted (Absent 0) p (counted 0 c))
+
+abbrev pub moneyOf : Book → Position → List ℤ
+moneyOf b p = b .cash ∷ b .shortfall ∷ numbersOf p
+
+abbrev pub talliesOf : Book → List ℕ
+talliesOf b = b .trimmed ∷ b .sequence ∷ []
+
+-- a fill, and the position of its symbol after it
+pub record Sight : Type 0 where
+  pub money : List ℤ
+  pub tallies : List ℕ
+  pub records : List ExecutionRecord
+
+abbrev pub seenBy : Seen → Sight
+seenBy r = record { money = moneyOf (r .filled .book) (r .position); tallies = talliesOf (r .filled .book); records = recordsOf (r .filled) }
+
+abbrev pub seenIn : ℕ → State → Sight
+seenIn s x = record { money = x .cash ∷ x .shortfall ∷ numbersOf (holding s (x .held)); tallies = x .trimmed ∷ x .sequence ∷ []; records = x .records }
+
+abbrev pub seenAfter : Ask → Book → Position → Sight
+seenAfter a b p = seenIn (a .symbol) (fill (termsOf a) (orderOf a) (alone b p))

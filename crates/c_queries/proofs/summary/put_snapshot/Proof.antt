@@ -1,0 +1,60 @@
+-- Figures and weights, or nothing.
+use Prim.Native.Nat.{ℕ}
+use mathlib.Core.Path.{sym, ap, _∙_}
+use borrow.Author.Needs.{needs}
+use borrow.Author.Tests.{not-true, not-false}
+use Rattle.c_queries.specs.Told.{tellBoth}
+use Rattle.c_queries.specs.Reports.{snapshotTold}
+use Rattle.c_queries.proofs.summary.put_snapshot.Statement.{statement}
+use Rattle.c_queries.proofs.summary.put_snapshot.Tie as tie
+
+is-done-requires : tie.Need-is-done-requires
+is-done-requires c κs = search needs
+
+number-requires : tie.Need-number-requires
+number-requires c κs = search needs
+
+returns : tie.Need-returns
+unfolding snapshotTold
+returns c =
+    let d = sym (c .before .before .is-done .ensures) ∙ not-true _ (c .before .if1 .taken) in
+    let s = c .before .before .before .before .before in
+    rw d (ap (λ (n : ℕ). tellBoth n (s .args .figures .now) (s .args .weights .now)) (c .number .ensures))
+
+put-figures-requires : tie.Need-put-figures-requires
+put-figures-requires c κs = search needs
+
+write-weights-requires : tie.Need-write-weights-requires
+write-weights-requires c κs = search needs
+
+mul-result : tie.Need-mul-result
+mul-result c = search needs
+
+same-length : tie.Need-same-length
+same-length c = search needs
+
+same-length-2 : tie.Need-same-length-2
+same-length-2 c = search needs
+
+returns-2 : tie.Need-returns-2
+unfolding snapshotTold
+returns-2 c =
+    let w = c .before .before in
+    let f = w .before .before .before .before .before .before .before in
+    let q = f .before .before in
+    let d = sym (q .before .is-done .ensures) ∙ not-false _ (q .if1 .left) in
+    simp (d, f .put-figures .ensures, w .write-weights .ensures)
+
+pub put-snapshot-spec : {M : Type 1} → statement M
+put-snapshot-spec =
+    tie.close
+    (tie.spec
+    is-done-requires
+    number-requires
+    returns
+    put-figures-requires
+    write-weights-requires
+    mul-result
+    same-length
+    same-length-2
+    returns-2)

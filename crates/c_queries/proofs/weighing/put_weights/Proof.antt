@@ -1,0 +1,51 @@
+-- The weights, or nothing.
+use Prim.Native.Nat.{ℕ}
+use mathlib.Core.Path.{sym, ap, _∙_}
+use borrow.Author.Needs.{needs}
+use borrow.Author.Tests.{not-true, not-false}
+use Rattle.c_queries.specs.Told.{tell}
+use Rattle.c_queries.specs.Reports.{weightsTold}
+use Rattle.c_queries.proofs.weighing.put_weights.Statement.{statement}
+use Rattle.c_queries.proofs.weighing.put_weights.Tie as tie
+
+is-done-requires : tie.Need-is-done-requires
+is-done-requires c κs = search needs
+
+number-requires : tie.Need-number-requires
+number-requires c κs = search needs
+
+returns : tie.Need-returns
+unfolding weightsTold
+returns c =
+    let d = sym (c .before .before .is-done .ensures) ∙ not-true _ (c .before .if1 .taken) in
+    let s = c .before .before .before .before in
+    rw d (ap (λ (n : ℕ). tell n (s .args .out .now)) (c .number .ensures))
+
+write-weights-requires : tie.Need-write-weights-requires
+write-weights-requires c κs = search needs
+
+mul-result : tie.Need-mul-result
+mul-result c = search needs
+
+same-length : tie.Need-same-length
+same-length c = search needs
+
+returns-2 : tie.Need-returns-2
+unfolding weightsTold
+returns-2 c =
+    let w = c .before .before in
+    let q = w .before .before .before .before in
+    let d = sym (q .before .is-done .ensures) ∙ not-false _ (q .if1 .left) in
+    simp (d, w .write-weights .ensures)
+
+pub put-weights-spec : {M : Type 1} → statement M
+put-weights-spec =
+    tie.close
+    (tie.spec
+    is-done-requires
+    number-requires
+    returns
+    write-weights-requires
+    mul-result
+    same-length
+    returns-2)

@@ -1,0 +1,38 @@
+// What a query with prices is refused for before it is made: 11, then 6.
+ghost use mathlib.Core.Path.{_≡_};
+ghost use Rattle.c_queries.specs.Asked.{accountIn, tooLong, early};
+use account::Account;
+use account_bytes::read_account;
+use answer::Answer;
+
+// Bytes that hold no account give all zeros, which is no sound account, so every query of it answers 11.
+pub(crate) fn account_in(bytes: &[u8]) -> Account
+    ensures { λ r. ⌜ r ≡ accountIn (now (bytes .entry)) ⌝ }
+{
+    let r = read_account(bytes);
+    r.account
+}
+
+// 6, unless the account is not sound.
+fn too_long(a: Account) -> Answer
+    ensures { λ r. ⌜ r ≡ tooLong a ⌝ }
+{
+    if a.is_sound() {
+        Answer::TooLong
+    } else {
+        Answer::Unsound
+    }
+}
+
+// Done where the query is to be made. It tells an unsound account itself, so that soundness is looked at once.
+pub(crate) fn early(a: Account, whole: bool, fits: bool) -> Answer
+    ensures { λ r. ⌜ r ≡ early a whole fits ⌝ }
+{
+    if !whole {
+        return too_long(a);
+    }
+    if !fits {
+        return too_long(a);
+    }
+    Answer::Done
+}

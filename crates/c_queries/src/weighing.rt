@@ -1,0 +1,57 @@
+// What part of the equity each open position is.
+ghost use mathlib.Core.Path.{_≡_};
+ghost use Prim.Native.Nat.{_≤_};
+ghost use lib.ListN.{take};
+ghost use Rattle.queries.specs.Answers.{toldWeights};
+ghost use Rattle.c_queries.specs.Told.{tell};
+ghost use Rattle.c_queries.specs.Reports.{weightsTold, currentWeightsIn};
+use crate::asked::account_in;
+use crate::asked::early;
+use account::Account;
+use list_bytes::Prices;
+use list_bytes::read_prices;
+use list_bytes::write_weights;
+use portfolio::is_done;
+use queries::Weights;
+use queries::current_weights;
+
+fn weights_at(p: Prices, a: Account) -> Weights
+    requires { ⌜ p .count ≤ 128 ⌝ }
+    ensures { λ r. ⌜ r ≡ toldWeights a (take (p .count) (p .symbol)) (take (p .count) (p .price)) ⌝ }
+{
+    let n = p.count;
+    let symbol = p.symbol;
+    let price = p.price;
+    current_weights(a, &symbol[..n], &price[..n])
+}
+
+fn put_weights(w: Weights, out: &mut [u8]) -> u64
+    requires { ⌜ w .count ≤ 64 ⌝ }
+    ensures { λ r. ⌜ tell r (now (out .exit)) ≡ weightsTold w (now (out .entry)) ⌝ }
+{
+    let answer = w.answer;
+    if !is_done(answer) {
+        return answer::number(answer);
+    }
+    let n = w.count;
+    let symbol = w.symbol;
+    let weight = w.weight;
+    write_weights(n, symbol, weight, out);
+    256 * (n as u64)
+}
+
+// A symbol and a weight in each of the first places, which the answer counts.
+#[no_mangle]
+pub extern "C" fn tc_current_weights(account: &[u8], prices: &[u8], out: &mut [u8]) -> u64
+    ensures { λ r. ⌜ tell r (now (out .exit)) ≡ currentWeightsIn (now (account .entry)) (now (prices .entry)) (now (out .entry)) ⌝ }
+{
+    let a = account_in(account);
+    let p = read_prices(prices);
+    let fits = out.len() == 1024;
+    let answer = early(a, p.whole, fits);
+    if !is_done(answer) {
+        return answer::number(answer);
+    }
+    let w = weights_at(p, a);
+    put_weights(w, out)
+}

@@ -1,0 +1,140 @@
+-- Nothing of lists that are not whole; else what the last call left.
+use mathlib.Core.Path.{_≡_, sym, ap, _∙_}
+use mathlib.Core.Bool.{true}
+use borrow.Author.Needs.{needs}
+use borrow.Author.Tests.{not-true, not-false}
+use lib.ListN.{length, take}
+use Rattle.list_bytes.specs.declared.price.Prices.{Prices}
+use Rattle.list_bytes.specs.declared.target.Targets.{Targets}
+use Rattle.list_bytes.specs.Entries.{wholeList}
+use Rattle.list_bytes.specs.Lists.{symbolsIn, weightsIn, pricesIn}
+use Rattle.list_bytes.proofs.Lists.{target-symbols, target-weights, price-symbols, price-prices, target-symbols-long, target-weights-long, price-symbols-long, price-prices-long}
+use Rattle.c_timed.specs.Made.{left}
+use Rattle.c_timed.specs.Calls.{accountIn, rebalanceCall, rebalancesIn}
+use Rattle.c_timed.proofs.Same.{within, targets-whole, prices-whole}
+use Rattle.c_timed.proofs.rebalancing.direct_rebalance.Statement.{statement}
+use Rattle.c_timed.proofs.rebalancing.direct_rebalance.Tie as tie
+
+abbrev begun : tie.After-read-prices → tie.Start
+begun c = c .before .before .before .before .before .before .before
+
+whole-targets : (c : tie.After-read-prices) → c .before .read-targets .result .whole ≡ wholeList 64 (begun c .args .targets .now)
+whole-targets c = ap (λ (t : Targets). t .whole) (c .before .read-targets .ensures) ∙ targets-whole (begun c .args .targets .now)
+
+whole-prices : (c : tie.After-read-prices) → c .read-prices .result .whole ≡ wholeList 128 (begun c .args .prices .now)
+whole-prices c = ap (λ (p : Prices). p .whole) (c .read-prices .ensures) ∙ prices-whole (begun c .args .prices .now)
+
+-- ---- what is lent of each column
+targets-lent : (c : tie.After-read-prices) → let t = c .before .read-targets .result in length (take (t .count) (t .symbol)) ≡ t .count
+targets-lent c = rw (c .before .read-targets .ensures) (target-symbols-long (begun c .args .targets .now))
+
+weights-lent : (c : tie.After-read-prices) → let t = c .before .read-targets .result in length (take (t .count) (t .weight)) ≡ t .count
+weights-lent c = rw (c .before .read-targets .ensures) (target-weights-long (begun c .args .targets .now))
+
+symbols-lent : (c : tie.After-read-prices) → let p = c .read-prices .result in length (take (p .count) (p .symbol)) ≡ p .count
+symbols-lent c = rw (c .read-prices .ensures) (price-symbols-long (begun c .args .prices .now))
+
+prices-lent : (c : tie.After-read-prices) → let p = c .read-prices .result in length (take (p .count) (p .price)) ≡ p .count
+prices-lent c = rw (c .read-prices .ensures) (price-prices-long (begun c .args .prices .now))
+
+-- ---- the call, of lists that are whole
+abbrev prices-read : tie.After-rebalances → tie.After-read-prices
+prices-read c = c .before .before .before .before .before .before .before .before .before .before .before .before .before .before
+
+targets-are : (c : tie.After-rebalances) → wholeList 64 (begun (prices-read c) .args .targets .now) ≡ true
+targets-are c = sym (whole-targets (prices-read c)) ∙ not-false _ (c .before .before .before .before .before .before .before .before .before .before .before .before .if1 .left)
+
+prices-are : (c : tie.After-rebalances) → wholeList 128 (begun (prices-read c) .args .prices .now) ≡ true
+prices-are c = sym (whole-prices (prices-read c)) ∙ not-false _ (c .before .before .before .before .before .before .before .before .before .before .if2 .left)
+
+made : (c : tie.After-rebalances) → let a = begun (prices-read c) .args in
+    c .rebalances .result ≡ rebalanceCall (accountIn (a .account .now)) (symbolsIn (a .targets .now)) (weightsIn (a .targets .now)) (symbolsIn (a .prices .now)) (pricesIn (a .prices .now))
+made c =
+    let q = prices-read c in
+    let ts = begun q .args .targets .now in
+    let ps = begun q .args .prices .now in
+    simp (q .before .before .read-account .ensures, q .before .read-targets .ensures, q .read-prices .ensures, target-symbols ts (targets-are c), target-weights ts (targets-are c), price-symbols ps (prices-are c), price-prices ps (prices-are c)) at (c .rebalances .ensures)
+
+read-account-requires : tie.Need-read-account-requires
+read-account-requires c κs = search needs
+
+read-targets-requires : tie.Need-read-targets-requires
+read-targets-requires c κs = search needs
+
+read-prices-requires : tie.Need-read-prices-requires
+read-prices-requires c κs = search needs
+
+returns : tie.Need-returns
+unfolding rebalancesIn
+returns c = let d = sym (whole-targets (c .before .before)) ∙ not-true _ (c .if1 .taken) in simp d
+
+returns-2 : tie.Need-returns-2
+unfolding rebalancesIn
+returns-2 c =
+    let q = c .before .before .before .before in
+    let t = sym (whole-targets q) ∙ not-false _ (c .before .before .if1 .left) in
+    let p = sym (whole-prices q) ∙ not-true _ (c .if2 .taken) in
+    simp (t, p)
+
+array-share-prefix-ts : tie.Need-array-share-prefix-ts
+array-share-prefix-ts c = within _ _ (targets-lent (c .before .before .before .before .before .before .before .before .before))
+
+slice-aggregate-rebalances : tie.Need-slice-aggregate-rebalances
+slice-aggregate-rebalances c = sym (targets-lent (c .before .before .before .before .before .before .before .before .before .before))
+
+array-share-prefix-ws : tie.Need-array-share-prefix-ws
+array-share-prefix-ws c = within _ _ (weights-lent (c .before .before .before .before .before .before .before .before .before .before))
+
+slice-aggregate-rebalances-2 : tie.Need-slice-aggregate-rebalances-2
+slice-aggregate-rebalances-2 c = sym (weights-lent (c .before .before .before .before .before .before .before .before .before .before .before))
+
+array-share-prefix-ss : tie.Need-array-share-prefix-ss
+array-share-prefix-ss c = within _ _ (symbols-lent (c .before .before .before .before .before .before .before .before .before .before .before))
+
+slice-aggregate-rebalances-3 : tie.Need-slice-aggregate-rebalances-3
+slice-aggregate-rebalances-3 c = sym (symbols-lent (c .before .before .before .before .before .before .before .before .before .before .before .before))
+
+array-share-prefix-ps : tie.Need-array-share-prefix-ps
+array-share-prefix-ps c = within _ _ (prices-lent (c .before .before .before .before .before .before .before .before .before .before .before .before))
+
+slice-aggregate-rebalances-4 : tie.Need-slice-aggregate-rebalances-4
+slice-aggregate-rebalances-4 c = sym (prices-lent (c .before .before .before .before .before .before .before .before .before .before .before .before .before))
+
+rebalances-requires : tie.Need-rebalances-requires
+rebalances-requires c κs = search needs
+
+leave-requires : tie.Need-leave-requires
+leave-requires c κs = search needs
+
+same-length : tie.Need-same-length
+same-length c = search needs
+
+returns-3 : tie.Need-returns-3
+unfolding rebalancesIn
+returns-3 c =
+    let k = c .before .before in
+    let t = k .before .before in
+    let a = begun (prices-read t) .args in
+    simp (targets-are t, prices-are t) (k .leave .ensures ∙ ap (λ x. left x (a .times) (a .after .now)) (made t))
+
+pub direct-rebalance-spec : {M : Type 1} → statement M
+direct-rebalance-spec =
+    tie.close
+    (tie.spec
+    read-account-requires
+    read-targets-requires
+    read-prices-requires
+    returns
+    returns-2
+    array-share-prefix-ts
+    slice-aggregate-rebalances
+    array-share-prefix-ws
+    slice-aggregate-rebalances-2
+    array-share-prefix-ss
+    slice-aggregate-rebalances-3
+    array-share-prefix-ps
+    slice-aggregate-rebalances-4
+    rebalances-requires
+    leave-requires
+    same-length
+    returns-3)

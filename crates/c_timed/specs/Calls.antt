@@ -1,0 +1,51 @@
+-- The calls, made so many times on one account. Account and lists are what their bytes stand for; with a list that is not whole none is made.
+use Prim.Native.Nat.{ℕ}
+use mathlib.Core.List.{List}
+use lib.IntN.{ℤ, pos}
+use lib.Ieee.{Float, binary64, ofBits}
+use lib.ListN.{replicate}
+use Rattle.table.specs.Keyed.{pick, both}
+use Rattle.fills.specs.declared.record.ExecutionKind.the-variants.{Rebalance}
+use Rattle.account.specs.declared.account.Account.{Account}
+use Rattle.account.specs.declared.change.Changed.{Changed}
+use Rattle.account_bytes.specs.Account.{readAccount}
+use Rattle.list_bytes.specs.Entries.{wholeList}
+use Rattle.list_bytes.specs.Lists.{symbolsIn, weightsIn, pricesIn}
+use Rattle.portfolio.specs.Rebalance.{Outcome, rebalanced}
+use Rattle.portfolio.specs.Returns.{Recorded, recorded}
+use Rattle.queries.specs.Answers.{toldSnapshot}
+use Rattle.c_timed.specs.Made.{Left, leave, left, LeftBoth, leaveBoth, leftBoth}
+
+-- bytes that hold no account stand for all zeros, which is no sound account, so that each call is refused
+abbrev pub accountIn : List ℕ → Account
+accountIn b = readAccount b .account
+
+-- ---- a rebalance in period 0, with room for 64 records
+abbrev pub ofOutcome : Outcome → Changed
+ofOutcome o = record { answer = o .answer; account = o .account }
+
+unfoldable pub rebalanceCall : Account → List ℕ → List Float → List ℕ → List ℤ → Changed
+rebalanceCall a ts ws ps vs = ofOutcome (rebalanced a ts ws ps vs 0 Rebalance 64)
+
+unfoldable pub rebalancesIn : List ℕ → List ℕ → List ℕ → ℕ → List ℕ → Left
+rebalancesIn b ts ps times l =
+    pick (both (wholeList 64 ts) (wholeList 128 ps))
+    (left (rebalanceCall (accountIn b) (symbolsIn ts) (weightsIn ts) (symbolsIn ps) (pricesIn ps)) times l)
+    (leave 0 l)
+
+-- ---- a return, into series of 64 places
+abbrev pub ofRecorded : Recorded → Changed
+ofRecorded o = record { answer = o .answer; account = o .account }
+
+unfoldable pub returnCall : Account → List ℕ → List ℤ → Changed
+returnCall a ps vs = ofRecorded (recorded a ps vs (replicate 64 (pos 0)) (replicate 64 (ofBits binary64 0)))
+
+unfoldable pub returnsIn : List ℕ → List ℕ → ℕ → List ℕ → Left
+returnsIn b ps times l = pick (wholeList 128 ps) (left (returnCall (accountIn b) (symbolsIn ps) (pricesIn ps)) times l) (leave 0 l)
+
+-- ---- a snapshot
+unfoldable pub snapshotsIn : List ℕ → List ℕ → ℕ → List ℕ → List ℕ → LeftBoth
+snapshotsIn b ps times fs ws =
+    pick (wholeList 128 ps)
+    (leftBoth (toldSnapshot (accountIn b) (symbolsIn ps) (pricesIn ps)) times fs ws)
+    (leaveBoth 0 fs ws)

@@ -1,0 +1,76 @@
+// A snapshot of one account, over and over.
+ghost use mathlib.Core.Path.{_≡_};
+ghost use Rattle.list_bytes.specs.Records.{putAll};
+ghost use Rattle.queries.specs.Answers.{toldSnapshot};
+ghost use Rattle.c_timed.specs.Made.{leaveBoth, figuresOf, leftBoth};
+ghost use Rattle.c_timed.specs.Calls.{snapshotsIn};
+use crate::made::done_of;
+use account::Account;
+use account_bytes::read_account;
+use list_bytes::read_prices;
+use list_bytes::write_weights;
+use queries::Snapshot;
+use queries::snapshot;
+use word_bytes::put_word;
+use word_bytes::unsigned;
+
+// The last one; there is always one.
+fn snapshots(a: Account, symbols: &[u64], prices: &[i64], times: u64) -> Snapshot
+    ensures { λ r. ⌜ r ≡ toldSnapshot a (now (symbols .entry)) (now (prices .entry)) ⌝ }
+{
+    let mut more = times;
+    loop {
+        let s = snapshot(a, symbols, prices);
+        if more <= 1 {
+            return s;
+        }
+        more -= 1;
+    }
+}
+
+fn put_figures(s: Snapshot, figures: &mut [u8])
+    ensures { λ _. ⌜ now (figures .exit) ≡ putAll (now (figures .entry)) 0 (figuresOf s) ⌝ }
+{
+    put_word(figures, 0, unsigned(s.cash));
+    put_word(figures, 1, unsigned(s.equity));
+    put_word(figures, 2, s.num_positions);
+    put_word(figures, 3, unsigned(s.total_realized_pnl));
+}
+
+fn leave_both(s: Snapshot, times: u64, figures: &mut [u8], weights: &mut [u8]) -> u64
+    ensures { λ r. ⌜ leaveBoth r (now (figures .exit)) (now (weights .exit)) ≡ leftBoth s times (now (figures .entry)) (now (weights .entry)) ⌝ }
+{
+    put_figures(s, figures);
+    let answer = s.answer;
+    let w = s.weights;
+    let n = w.count;
+    let symbol = w.symbol;
+    let weight = w.weight;
+    write_weights(n, symbol, weight, weights);
+    done_of(answer, times)
+}
+
+// How many were done. Account and prices are read once.
+#[no_mangle]
+pub extern "C" fn direct_snapshot(
+    account: &[u8],
+    prices: &[u8],
+    times: u64,
+    figures: &mut [u8],
+    weights: &mut [u8],
+) -> u64
+    ensures { λ r. ⌜ leaveBoth r (now (figures .exit)) (now (weights .exit))
+        ≡ snapshotsIn (now (account .entry)) (now (prices .entry)) times (now (figures .entry)) (now (weights .entry)) ⌝ }
+{
+    let r = read_account(account);
+    let p = read_prices(prices);
+    if !p.whole {
+        return 0;
+    }
+    let a = r.account;
+    let m = p.count;
+    let ss = p.symbol;
+    let ps = p.price;
+    let s = snapshots(a, &ss[..m], &ps[..m], times);
+    leave_both(s, times, figures, weights)
+}

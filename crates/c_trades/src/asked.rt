@@ -1,0 +1,93 @@
+// What a call is refused for before it is made.
+ghost use mathlib.Core.Path.{_≡_};
+ghost use Rattle.answer.specs.declared.Answer.the-variants.{Unsound};
+ghost use Rattle.table.specs.Keyed.{both};
+ghost use Rattle.table.specs.Rows.{cols};
+ghost use Rattle.call_lists.specs.Checks.{unless};
+ghost use Rattle.account.specs.Account.{soundAccount, accountWith};
+ghost use Rattle.c_trades.specs.Asked.{kindOf, wholeRun, earlyOn};
+use account::Ledger;
+use account::sound_account;
+use answer::Answer;
+use fills::ExecutionKind;
+
+// The kind of a number that is known.
+pub(crate) fn kind_of(kind: u64) -> ExecutionKind
+    ensures { λ r. ⌜ r ≡ kindOf kind ⌝ }
+{
+    if kind == 0 {
+        ExecutionKind::Rebalance
+    } else {
+        ExecutionKind::StopExit
+    }
+}
+
+// Whether so many bytes are a whole number of records.
+pub(crate) fn whole_run(bytes: usize) -> bool
+    ensures { λ r. ⌜ r ≡ wholeRun bytes ⌝ }
+{
+    bytes % 96 == 0
+}
+
+pub(crate) fn both(a: bool, b: bool) -> bool
+    ensures { λ r. ⌜ r ≡ both a b ⌝ }
+{
+    if a { b } else { false }
+}
+
+// Another answer, unless the account of a ledger and five columns is not sound.
+fn unsound_or<'a>(
+    h: Ledger,
+    symbol: &'a [u64; 64],
+    quantity: &'a [i64; 64],
+    average: &'a [i64; 64],
+    realized: &'a [i64; 64],
+    total: &'a [i64; 64],
+    other: Answer,
+) -> Answer
+    ensures { λ r. ⌜ r ≡ unless (soundAccount (accountWith h (cols (now (symbol .entry)) (now (quantity .entry)) (now (average .entry)) (now (realized .entry)) (now (total .entry))))) Unsound other ⌝ }
+{
+    if sound_account(h, symbol, quantity, average, realized, total) {
+        other
+    } else {
+        Answer::Unsound
+    }
+}
+
+// Done where the call on an account that was read is to be made. It tells an unsound account itself, so that soundness is looked at once.
+pub(crate) fn early<'a>(
+    h: Ledger,
+    symbol: &'a [u64; 64],
+    quantity: &'a [i64; 64],
+    average: &'a [i64; 64],
+    realized: &'a [i64; 64],
+    total: &'a [i64; 64],
+    kind: u64,
+    whole: bool,
+) -> Answer
+    ensures { λ r. ⌜ r ≡ earlyOn (accountWith h (cols (now (symbol .entry)) (now (quantity .entry)) (now (average .entry)) (now (realized .entry)) (now (total .entry)))) kind whole ⌝ }
+{
+    if 1 < kind {
+        return unsound_or(
+            h,
+            symbol,
+            quantity,
+            average,
+            realized,
+            total,
+            Answer::BadSetting,
+        );
+    }
+    if !whole {
+        return unsound_or(
+            h,
+            symbol,
+            quantity,
+            average,
+            realized,
+            total,
+            Answer::TooLong,
+        );
+    }
+    Answer::Done
+}

@@ -1,0 +1,175 @@
+// A position closed at a price.
+ghost use mathlib.Core.Path.{_≡_};
+ghost use Prim.Native.Nat.{_/_, _≤_, min};
+ghost use lib.ListN.{length};
+ghost use Rattle.table.specs.Rows.{cols, Full};
+ghost use Rattle.account.specs.Account.{accountWith};
+ghost use Rattle.portfolio.specs.Answers.{places};
+ghost use Rattle.portfolio.specs.Close.{closed};
+ghost use Rattle.c_trades.specs.Asked.{kindOf};
+ghost use Rattle.c_trades.specs.Told.{tell, told};
+ghost use Rattle.c_trades.specs.Calls.{closeIn};
+use crate::asked::early;
+use crate::asked::kind_of;
+use crate::asked::whole_run;
+use crate::filing::finish;
+use crate::filing::places;
+use account::Ledger;
+use account_bytes::is_account;
+use account_bytes::read_columns;
+use account_bytes::read_ledger;
+use answer::Answer;
+use portfolio::close_on;
+use portfolio::is_done;
+
+// A close on lent columns, whose record stands first in number slices.
+fn close_at(
+    h: Ledger,
+    symbol: &mut [u64; 64],
+    quantity: &mut [i64; 64],
+    average: &mut [i64; 64],
+    realized: &mut [i64; 64],
+    total: &mut [i64; 64],
+    s: u64,
+    price: i64,
+    period: u64,
+    kind: u64,
+    words: &mut [u64],
+    ints: &mut [i64],
+    account: &mut [u8],
+    records: &mut [u8],
+) -> u64
+    requires { ⌜ (length (now words) / 4 ≤ min (length (now records) / 96) 64) × Full (cols (now symbol) (now quantity) (now average) (now realized) (now total)) ⌝ }
+    ensures { λ r. ⌜ tell r (now (account .exit)) (now (records .exit))
+        ≡ told (closed (accountWith h (cols (now (symbol .entry)) (now (quantity .entry)) (now (average .entry)) (now (realized .entry)) (now (total .entry)))) s price period (kindOf kind) (places (length (now (words .entry))) (length (now (ints .entry))))) (now (account .entry)) (now (records .entry)) ⌝ }
+{
+    let k = kind_of(kind);
+    let t = close_on(
+        h,
+        symbol,
+        quantity,
+        average,
+        realized,
+        total,
+        s,
+        price,
+        period,
+        k,
+        words,
+        ints,
+    );
+    finish(
+        t,
+        symbol,
+        quantity,
+        average,
+        realized,
+        total,
+        words,
+        ints,
+        account,
+        records,
+    )
+}
+
+// "For closing, 8 asks for one place", and no more than one is filled.
+fn close_in(
+    h: Ledger,
+    symbol: &mut [u64; 64],
+    quantity: &mut [i64; 64],
+    average: &mut [i64; 64],
+    realized: &mut [i64; 64],
+    total: &mut [i64; 64],
+    s: u64,
+    price: i64,
+    period: u64,
+    kind: u64,
+    account: &mut [u8],
+    records: &mut [u8],
+) -> u64
+    requires { ⌜ Full (cols (now symbol) (now quantity) (now average) (now realized) (now total)) ⌝ }
+    ensures { λ r. ⌜ tell r (now (account .exit)) (now (records .exit))
+        ≡ told (closed (accountWith h (cols (now (symbol .entry)) (now (quantity .entry)) (now (average .entry)) (now (realized .entry)) (now (total .entry)))) s price period (kindOf kind) (length (now (records .entry)) / 96)) (now (account .entry)) (now (records .entry)) ⌝ }
+{
+    let mut words = [0u64; 4];
+    let mut ints = [0i64; 8];
+    let room = places(records.len(), 1);
+    let w = 4 * room;
+    let i = 8 * room;
+    close_at(
+        h,
+        symbol,
+        quantity,
+        average,
+        realized,
+        total,
+        s,
+        price,
+        period,
+        kind,
+        &mut words[..w],
+        &mut ints[..i],
+        account,
+        records,
+    )
+}
+
+// The answer's number, and 256 times the count of records.
+#[no_mangle]
+pub extern "C" fn tc_close_position_at(
+    account: &mut [u8],
+    symbol: u64,
+    price: i64,
+    period: u64,
+    kind: u64,
+    records: &mut [u8],
+) -> u64
+    ensures { λ r. ⌜ tell r (now (account .exit)) (now (records .exit))
+        ≡ told (closeIn (now (account .entry)) symbol price period kind (now (records .entry))) (now (account .entry)) (now (records .entry)) ⌝ }
+{
+    if !is_account(account) {
+        return answer::number(Answer::Unsound);
+    }
+    let mut column = [0u64; 64];
+    let mut quantity = [0i64; 64];
+    let mut average = [0i64; 64];
+    let mut realized = [0i64; 64];
+    let mut total = [0i64; 64];
+    read_columns(
+        account,
+        &mut column,
+        &mut quantity,
+        &mut average,
+        &mut realized,
+        &mut total,
+    );
+    let h = read_ledger(account);
+    let whole = whole_run(records.len());
+    let answer = early(
+        h,
+        &column,
+        &quantity,
+        &average,
+        &realized,
+        &total,
+        kind,
+        whole,
+    );
+    if !is_done(answer) {
+        return answer::number(answer);
+    }
+    close_in(
+        h,
+        &mut column,
+        &mut quantity,
+        &mut average,
+        &mut realized,
+        &mut total,
+        symbol,
+        price,
+        period,
+        kind,
+        account,
+        records,
+    )
+}

@@ -1,0 +1,82 @@
+-- Orders added to the columns of a plan one after another, and the orders that the places of a table and of the targets ask for.
+use Prim.Native.Nat.{ℕ, _≤_}
+use mathlib.Core.Path.{_≡_}
+use mathlib.Core.List.{List, [], _∷_, _++_}
+use lib.IntN.{ℤ, pos}
+use lib.ListN.{length, take, getD}
+use lib.Dec.{ltb}
+use lib.Ieee.{Float, nan}
+use Rattle.table.specs.Keyed.{pick, Rising}
+use Rattle.table.specs.Places.{shorter, found}
+use Rattle.table.specs.declared.found.Found.{Found}
+use Rattle.table.specs.declared.found.Found.the-variants.{At, Absent}
+use Rattle.call_lists.specs.Lists.{among, priceOf}
+use Rattle.account.specs.declared.settings.Settings.{Settings}
+use Rattle.wanted.specs.declared.plan.PlannedOrder.{PlannedOrder}
+use Rattle.wanted.specs.Plan.{plannedClose, plannedTarget, orderCount}
+use Rattle.admission.specs.Admission.{capped, mostOf, addedAll, admitted}
+use Rattle.admission.specs.Columns.{Full, from, plans, Counted, counted, addedTo}
+
+-- one order more, in a plan that is kept to the most that its trade cap admits
+abbrev pub keptWith : Settings → PlannedOrder → Counted → Counted
+keptWith s o t = let u = addedTo (capped s) o t in counted (shorter (u .count) (mostOf s)) (u .columns)
+
+unfoldable pub addedAllTo : Settings → List PlannedOrder → Counted → Counted
+addedAllTo s [] t = t
+addedAllTo s (o ∷ os) t = addedAllTo s os (keptWith s o t)
+
+-- the close of the holding at a place of a column of symbols and a column of quantities
+abbrev pub closeAt : Settings → ℤ → (ℕ → ℤ) → List ℕ → List ℕ → List ℤ → ℕ → PlannedOrder
+closeAt s equity price targets ks qs i =
+    plannedClose s equity (getD ks i 0) (getD qs i (pos 0)) (price (getD ks i 0)) (among (getD ks i 0) targets)
+
+-- those of the places in use, "in symbol order"
+unfoldable pub closesAt : Settings → ℤ → (ℕ → ℤ) → List ℕ → ℕ → List ℕ → List ℤ → List PlannedOrder
+closesAt s equity price targets n ks qs = from (closeAt s equity price targets ks qs) 0 (shorter n 64)
+
+-- the plan t to u: the closes are added, where the symbols of the prices ascend
+pub record Closes (s : Settings) (equity : ℤ) (ks : List ℕ) (qs : List ℤ) (n : ℕ) (targets symbols : List ℕ) (prices : List ℤ) (t u : Counted) : Type 0 where
+  pub settled : Rising symbols → u ≡ addedAllTo s (closesAt s equity (priceOf symbols prices) targets n ks qs) t
+
+-- the quantity at a place that was found, 0 where none was
+abbrev pub quantityAt : Found → List ℤ → ℤ
+quantityAt (At i) qs = pick (ltb i 64) (getD qs i (pos 0)) (pos 0)
+quantityAt (Absent i) qs = pos 0
+
+-- r is the quantity of the symbol among the first n places, where their symbols ascend
+pub record Holds (ks : List ℕ) (qs : List ℤ) (n s : ℕ) (r : ℤ) : Type 0 where
+  pub settled : Rising (take n ks) → r ≡ quantityAt (found s (take n ks)) qs
+
+-- the order for the target at a place of the list
+abbrev pub targetAt : Settings → ℤ → (ℕ → ℤ) → List ℕ → List ℤ → List ℕ → List Float → ℕ → PlannedOrder
+targetAt s equity price ks qs targets weights i =
+    plannedTarget s equity (getD targets i 0) (quantityAt (found (getD targets i 0) ks) qs) (price (getD targets i 0)) (getD weights i nan)
+
+-- "Then targets in list order", of the symbols and quantities that are held
+unfoldable pub targetsAt : Settings → ℤ → (ℕ → ℤ) → List ℕ → List ℤ → List ℕ → List Float → List PlannedOrder
+targetsAt s equity price ks qs targets weights = from (targetAt s equity price ks qs targets weights) 0 (shorter (length targets) (length weights))
+
+-- the plan t to u: the orders for the targets are added, where the symbols of the prices and those of the holdings ascend
+pub record Targets (s : Settings) (equity : ℤ) (ks : List ℕ) (qs : List ℤ) (n : ℕ) (targets : List ℕ) (weights : List Float) (symbols : List ℕ) (prices : List ℤ) (t u : Counted) : Type 0 where
+  pub settled : Rising symbols → Rising (take n ks) → u ≡ addedAllTo s (targetsAt s equity (priceOf symbols prices) (take n ks) qs targets weights) t
+
+-- all of them, in order
+unfoldable pub wantedAt : Settings → ℤ → (ℕ → ℤ) → ℕ → List ℕ → List ℤ → List ℕ → List Float → List PlannedOrder
+wantedAt s equity price n ks qs targets weights = closesAt s equity price targets n ks qs ++ targetsAt s equity price (take n ks) qs targets weights
+
+-- what a plan of these orders is made under: symbols that ascend, full columns, and room
+pub record Room (n : ℕ) (ks symbols : List ℕ) (wanted : List PlannedOrder) (t : Counted) : Type 0 where
+  pub prices : Rising symbols
+  pub holdings : Rising (take n ks)
+  pub full : Full (t .columns)
+  pub most : orderCount wanted ≤ 64
+
+-- the plan u holds the orders that are wanted, as the caps admit them
+pub record Admitted (s : Settings) (wanted : List PlannedOrder) (u : Counted) : Type 0 where
+  pub full : Full (u .columns)
+  pub few : u .count ≤ 64
+  pub same : plans (u .count) (u .columns) ≡ admitted s (addedAll s wanted [])
+
+-- the columns of t to the plan u
+pub record Makes (s : Settings) (equity : ℤ) (ks : List ℕ) (qs : List ℤ) (n : ℕ) (targets : List ℕ) (weights : List Float) (symbols : List ℕ) (prices : List ℤ) (t u : Counted) : Type 0 where
+  pub settled : let wanted = wantedAt s equity (priceOf symbols prices) n ks qs targets weights in Room n ks symbols wanted t → Admitted s wanted u

@@ -1,0 +1,13 @@
+-- The shorter of a count and 64.
+use borrow.Author.Tests.{lt-ltb, le-ltb}
+use Rattle.wanted.proofs.equity.used.Statement.{statement}
+use Rattle.wanted.proofs.equity.used.Tie as tie
+
+returns : tie.Need-returns
+returns c = simp (lt-ltb _ _ (c .if1 .taken))
+
+returns-2 : tie.Need-returns-2
+returns-2 c = simp (le-ltb _ _ (c .if1 .left))
+
+pub used-spec : {M : Type 1} → statement M
+used-spec = tie.close (tie.spec returns returns-2)
