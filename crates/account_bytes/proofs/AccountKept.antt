@@ -23,8 +23,9 @@ use Rattle.word_bytes.specs.Words.{wordsIn, wordsOf, bytesOf, turned}
 use Rattle.word_bytes.specs.Numbers.{signedOf, unsignedOf}
 use Rattle.word_bytes.proofs.Words.{Words, Octets, length-words, words-bytes, length-bytes, words-fit, bytes-words}
 use Rattle.word_bytes.proofs.Numbers.{signed-unsigned, unsigned-signed, unsigned-lt}
+use Rattle.account_bytes.specs.Sizes.{settingsSize, settingsFrom, countersSize, countersFrom, lastNotionalAt, shortfallAt, openCountAt, closedTotalAt, seriesFrom, prevEquityAt, countsSize, columnSize, symbolsFrom, quantitiesFrom, averagesFrom, realizedFrom, totalsFrom, accountSize, accountLength}
 use Rattle.account_bytes.specs.Settings.{settingsWords, settingsAt, areSettings}
-use Rattle.account_bytes.specs.Account.{countWords, countersOf, seriesOf, columnWords, symbolsAt, numbersAt, tableFrom, accountWords, accountOf, gotAccount, noAccount, readAccount, writtenAccount, writtenSeries}
+use Rattle.account_bytes.specs.Account.{countWords, countersOf, spareCounters, seriesWords, seriesOf, columnWords, symbolsAt, numbersAt, tableFrom, accountWords, accountOf, gotAccount, noAccount, holdAccount, readAccount, writtenAccount, writtenSeries}
 use Rattle.account_bytes.proofs.Writing.{length-account, bytes-are}
 use Rattle.account_bytes.proofs.Lists.{Numbers, words-append, words-take, words-drop, word-lt, words-turned, words-unsigned, turned-back, signed-back, unsigned-back, run, run-is, rejoined}
 use Rattle.account_bytes.proofs.SettingsKept.{NoNan, Kept, good-rates, settings-back, are-back, settings-fit, settings-after, are-after, words-back}
@@ -63,31 +64,13 @@ sound-rates a e = good-rates (a .settings) (both-true (atLeast 0 (a .cash)) _ (b
 -- ---- every word of an account is a word
 counts-fit : (k : Counters) (s : Series) (n : ℕ) → KeptCounts k s → n < 2 ^ 64 → Words (countWords k s n)
 unfolding countWords
-counts-fit k s n c h = (
-  c .orders,
-  (
-    unsigned-lt (k .«last_rebalance_notional») (c .notional),
-    (
-      c .trimmed,
-      (
-        unsigned-lt (k .«trimmed_shortfall_cents») (c .shortfall),
-        (
-          c .records,
-          (
-            c .equities,
-            (
-              c .returns,
-              (
-                unsigned-lt (s .«prev_equity») (c .previous),
-                (h, omega arith),
-              ),
-            ),
-          ),
-        ),
-      ),
-    ),
-  ),
-)
+counts-fit k s n c h =
+    omega (
+      arith,
+      unsigned-lt (k .«last_rebalance_notional») (c .notional),
+      unsigned-lt (k .«trimmed_shortfall_cents») (c .shortfall),
+      unsigned-lt (s .«prev_equity») (c .previous),
+    )
 
 columns-fit : (t : Table) → KeptTable t → Words (columnWords (columnsOf t))
 unfolding columnWords
@@ -173,13 +156,17 @@ cash-back : (a : Account) → SFits w64 (a .cash) → signedOf (getD (accountWor
 unfolding accountWords
 cash-back a f = signed-unsigned (a .cash) f
 
-settings-first : (a : Account) → settingsAt 1 (accountWords a) ≡ settingsAt 0 (settingsWords (a .settings))
+settings-first : (a : Account) → settingsAt settingsFrom (accountWords a) ≡ settingsAt 0 (settingsWords (a .settings))
 unfolding accountWords
 settings-first a = settings-after _ (a .settings) _
 
-are-first : (a : Account) → areSettings 1 (accountWords a) ≡ areSettings 0 (settingsWords (a .settings))
+are-first : (a : Account) → areSettings settingsFrom (accountWords a) ≡ areSettings 0 (settingsWords (a .settings))
 unfolding accountWords
 are-first a = are-after _ (a .settings) _
+
+spare-first : (a : Account) → spareCounters (accountWords a) ≡ true
+unfolding accountWords settingsWords countWords
+spare-first a = refl
 
 account-back : (a : Account) → KeptAccount a → accountOf (accountWords a) ≡ a
 unfolding accountOf
@@ -193,102 +180,119 @@ account-back a k =
     )
 
 -- ---- from words to an account and back
-abbrev pub seriesWords : Series → List ℕ
-seriesWords s = s .«equity_count» ∷ s .«return_count» ∷ unsignedOf (s .«prev_equity») ∷ []
+-- two words that stand for no counter
+record Spare (ws : List ℕ) : Type 0 where
+  open-count : getD ws openCountAt 0 ≡ 0
+  closed-total : getD ws closedTotalAt 0 ≡ 0
 
--- with another series three of the nine words are others
-counted : (s : Series) (ws : List ℕ) → Words ws → countWords (countersOf ws) s (tableFrom ws .count) ≡ sets (run 9 13 ws) 5 (seriesWords s)
+spare : (ws : List ℕ) → spareCounters ws ≡ true → Spare ws
+spare ws e = let b = both-true _ _ e in record { open-count = eqb-true _ 0 (b .0); closed-total = eqb-true _ 0 (b .1) }
+
+-- with another series three of the words are others
+counted : (s : Series) (ws : List ℕ) → Words ws → spareCounters ws ≡ true → countWords (countersOf ws) s (tableFrom ws .count) ≡ sets (run countsSize countersFrom ws) countersSize (seriesWords s)
 unfolding countWords tableFrom
-counted s ws o = simp (unsigned-signed (getD ws 14 0) (word-lt ws 14 o), unsigned-signed (getD ws 16 0) (word-lt ws 16 o))
+counted s ws o e =
+    let z = spare ws e in
+    simp (unsigned-signed (getD ws lastNotionalAt 0) (word-lt ws lastNotionalAt o), unsigned-signed (getD ws shortfallAt 0) (word-lt ws shortfallAt o), z .open-count, z .closed-total)
 
 -- one column, written back, and the words after it
-number-column : (from next : ℕ) (ws : List ℕ) → Words ws → next ≡ from + 64 → map unsignedOf (numbersAt from ws) ++ drop next ws ≡ drop from ws
+number-column : (from next : ℕ) (ws : List ℕ) → Words ws → next ≡ from + columnSize → map unsignedOf (numbersAt from ws) ++ drop next ws ≡ drop from ws
 number-column from next ws o e =
-    ap (λ (l : List ℕ). l ++ drop next ws) (unsigned-back (take 64 (drop from ws)) (words-take 64 (drop from ws) (words-drop from ws o))) ∙ rejoined 64 from next ws e
+    ap (λ (l : List ℕ). l ++ drop next ws) (unsigned-back (take columnSize (drop from ws)) (words-take columnSize (drop from ws) (words-drop from ws o))) ∙ rejoined columnSize from next ws e
 
-column-words : (ws : List ℕ) → Words ws → length ws ≡ 342 → columnWords (columnsOf (tableFrom ws)) ≡ drop 22 ws
+column-words : (ws : List ℕ) → Words ws → length ws ≡ accountSize → columnWords (columnsOf (tableFrom ws)) ≡ drop symbolsFrom ws
 unfolding columnWords tableFrom
 column-words ws o n =
-    let s : List ℕ = map turned (symbolsAt 22 ws) in
-    let q : List ℕ = map unsignedOf (numbersAt 86 ws) in
-    let a : List ℕ = map unsignedOf (numbersAt 150 ws) in
-    let r : List ℕ = map unsignedOf (numbersAt 214 ws) in
-    let k : List ℕ = map unsignedOf (numbersAt 278 ws) in
-    let z : drop 342 ws ≡ [] = drop-of-length-le ws {i = 342} (omega arith) in
-    let e5 : k ≡ drop 278 ws = sym (append-nil k) ∙ ap (λ (l : List ℕ). k ++ l) (sym z) ∙ number-column 278 342 ws o refl in
-    let e4 : r ++ k ≡ drop 214 ws = ap (λ (l : List ℕ). r ++ l) e5 ∙ number-column 214 278 ws o refl in
-    let e3 : a ++ (r ++ k) ≡ drop 150 ws = ap (λ (l : List ℕ). a ++ l) e4 ∙ number-column 150 214 ws o refl in
-    let e2 : q ++ (a ++ (r ++ k)) ≡ drop 86 ws = ap (λ (l : List ℕ). q ++ l) e3 ∙ number-column 86 150 ws o refl in
-    let e1 : s ≡ take 64 (drop 22 ws) = turned-back (take 64 (drop 22 ws)) (words-take 64 (drop 22 ws) (words-drop 22 ws o)) in
-    ap (λ (l : List ℕ). s ++ l) e2 ∙ ap (λ (l : List ℕ). l ++ drop 86 ws) e1 ∙ rejoined 64 22 86 ws refl
+    let s : List ℕ = map turned (symbolsAt symbolsFrom ws) in
+    let q : List ℕ = map unsignedOf (numbersAt quantitiesFrom ws) in
+    let a : List ℕ = map unsignedOf (numbersAt averagesFrom ws) in
+    let r : List ℕ = map unsignedOf (numbersAt realizedFrom ws) in
+    let k : List ℕ = map unsignedOf (numbersAt totalsFrom ws) in
+    let z : drop accountSize ws ≡ [] = drop-of-length-le ws {i = accountSize} (omega arith) in
+    let e5 : k ≡ drop totalsFrom ws = sym (append-nil k) ∙ ap (λ (l : List ℕ). k ++ l) (sym z) ∙ number-column totalsFrom accountSize ws o refl in
+    let e4 : r ++ k ≡ drop realizedFrom ws = ap (λ (l : List ℕ). r ++ l) e5 ∙ number-column realizedFrom totalsFrom ws o refl in
+    let e3 : a ++ (r ++ k) ≡ drop averagesFrom ws = ap (λ (l : List ℕ). a ++ l) e4 ∙ number-column averagesFrom realizedFrom ws o refl in
+    let e2 : q ++ (a ++ (r ++ k)) ≡ drop quantitiesFrom ws = ap (λ (l : List ℕ). q ++ l) e3 ∙ number-column quantitiesFrom averagesFrom ws o refl in
+    let e1 : s ≡ take columnSize (drop symbolsFrom ws) = turned-back (take columnSize (drop symbolsFrom ws)) (words-take columnSize (drop symbolsFrom ws) (words-drop symbolsFrom ws o)) in
+    ap (λ (l : List ℕ). s ++ l) e2 ∙ ap (λ (l : List ℕ). l ++ drop quantitiesFrom ws) e1 ∙ rejoined columnSize symbolsFrom quantitiesFrom ws refl
 
 -- cash, settings, counts and columns in their places
-joined : (ws : List ℕ) → length ws ≡ 342 → getD ws 0 0 ∷ (run 12 1 ws ++ (run 9 13 ws ++ drop 22 ws)) ≡ ws
+joined : (ws : List ℕ) → length ws ≡ accountSize → getD ws 0 0 ∷ (run settingsSize settingsFrom ws ++ (run countsSize countersFrom ws ++ drop symbolsFrom ws)) ≡ ws
 joined ws n =
-    let c : run 9 13 ws ++ drop 22 ws ≡ drop 13 ws = ap (λ (l : List ℕ). l ++ drop 22 ws) (run-is 9 13 ws (omega arith)) ∙ rejoined 9 13 22 ws refl in
-    let s : run 12 1 ws ++ drop 13 ws ≡ drop 1 ws = ap (λ (l : List ℕ). l ++ drop 13 ws) (run-is 12 1 ws (omega arith)) ∙ rejoined 12 1 13 ws refl in
-    ap (λ (l : List ℕ). getD ws 0 0 ∷ (run 12 1 ws ++ l)) c ∙ ap (λ (l : List ℕ). getD ws 0 0 ∷ l) s ∙ sym (drop-cons ws 0 0 (omega arith))
+    let c : run countsSize countersFrom ws ++ drop symbolsFrom ws ≡ drop countersFrom ws = ap (λ (l : List ℕ). l ++ drop symbolsFrom ws) (run-is countsSize countersFrom ws (omega arith)) ∙ rejoined countsSize countersFrom symbolsFrom ws refl in
+    let s : run settingsSize settingsFrom ws ++ drop countersFrom ws ≡ drop settingsFrom ws = ap (λ (l : List ℕ). l ++ drop countersFrom ws) (run-is settingsSize settingsFrom ws (omega arith)) ∙ rejoined settingsSize settingsFrom countersFrom ws refl in
+    ap (λ (l : List ℕ). getD ws 0 0 ∷ (run settingsSize settingsFrom ws ++ l)) c ∙ ap (λ (l : List ℕ). getD ws 0 0 ∷ l) s ∙ sym (drop-cons ws 0 0 (omega arith))
 
-series-words : (s : Series) (ws : List ℕ) → Words ws → length ws ≡ 342 → areSettings 1 ws ≡ true → accountWords (withSeries s (accountOf ws)) ≡ sets ws 18 (seriesWords s)
+-- words that the tests let pass
+record Passed (ws : List ℕ) : Type 0 where
+  fit : Words ws
+  long : length ws ≡ accountSize
+  settings : areSettings settingsFrom ws ≡ true
+  spare : spareCounters ws ≡ true
+
+series-words : (s : Series) (ws : List ℕ) → Passed ws → accountWords (withSeries s (accountOf ws)) ≡ sets ws seriesFrom (seriesWords s)
 unfolding accountWords accountOf
-series-words s ws o n e =
-    simp (unsigned-signed (getD ws 0 0) (word-lt ws 0 o), words-back 1 ws o e, counted s ws o, column-words ws o n) (ap (λ (l : List ℕ). sets l 18 (seriesWords s)) (joined ws n))
+series-words s ws p =
+    simp (unsigned-signed (getD ws 0 0) (word-lt ws 0 (p .fit)), words-back settingsFrom ws (p .fit) (p .settings), counted s ws (p .fit) (p .spare), column-words ws (p .fit) (p .long)) (ap (λ (l : List ℕ). sets l seriesFrom (seriesWords s)) (joined ws (p .long)))
 
-account-words : (ws : List ℕ) → Words ws → length ws ≡ 342 → areSettings 1 ws ≡ true → accountWords (accountOf ws) ≡ ws
+account-words : (ws : List ℕ) → Passed ws → accountWords (accountOf ws) ≡ ws
 unfolding accountOf
-account-words ws o n e =
-    series-words (seriesOf ws) ws o n e
-    ∙ ap (λ (l : List ℕ). sets l 18 (seriesWords (seriesOf ws))) (sym (joined ws n))
-    ∙ simp (unsigned-signed (getD ws 20 0) (word-lt ws 20 o)) (joined ws n)
+account-words ws p =
+    series-words (seriesOf ws) ws p
+    ∙ ap (λ (l : List ℕ). sets l seriesFrom (seriesWords (seriesOf ws))) (sym (joined ws (p .long)))
+    ∙ simp (unsigned-signed (getD ws prevEquityAt 0) (word-lt ws prevEquityAt (p .fit))) (joined ws (p .long))
 
 -- ---- bytes
 -- An account that is written is read back as it was.
-pub account-read-back : (a : Account) → KeptAccount a → (l : List ℕ) → length l ≡ 2736 → readAccount (writtenAccount a l) ≡ gotAccount a
-unfolding readAccount writtenAccount
+pub account-read-back : (a : Account) → KeptAccount a → (l : List ℕ) → length l ≡ accountLength → readAccount (writtenAccount a l) ≡ gotAccount a
+unfolding readAccount holdAccount writtenAccount
 account-read-back a k l n =
     let ws : List ℕ = accountWords a in
     let w : wordsOf (bytesOf ws) ≡ ws = words-bytes ws (account-fit a k) in
-    let m : length (bytesOf ws) ≡ 2736 = length-bytes ws ∙ omega (arith, length-account a (k .positions .full)) in
-    simp (eq-eqb (length l) 2736 n) (simp (eq-eqb (length (bytesOf ws)) 2736 m, w, are-first a ∙ are-back (a .settings) (k .settings), account-back a k))
+    let m : length (bytesOf ws) ≡ accountLength = length-bytes ws ∙ omega (arith, length-account a (k .positions .full)) in
+    simp (eq-eqb (length l) accountLength n) (simp (eq-eqb (length (bytesOf ws)) accountLength m, w, are-first a ∙ are-back (a .settings) (k .settings), spare-first a, account-back a k))
 
 good-by : (t : Bool) (a : Account) → pick t (gotAccount a) noAccount .good ≡ t
 good-by true a = refl
 good-by false a = refl
 
--- Bytes hold an account by two tests.
-pub good-is : (l : List ℕ) → readAccount l .good ≡ both (eqb (length l) 2736) (areSettings 1 (wordsOf l))
+-- Bytes hold an account by their length, their settings and their spare words.
+pub good-is : (l : List ℕ) → readAccount l .good ≡ holdAccount l
 unfolding readAccount
 good-is l = good-by _ _
 
 -- what is known of bytes that hold one
 record Good (l : List ℕ) : Type 0 where
-  long : length l ≡ 2736
-  settings : areSettings 1 (wordsOf l) ≡ true
-  fit : Octets l → Words (wordsOf l)
-  words : length (wordsOf l) ≡ 342
+  long : length l ≡ accountLength
+  passed : Octets l → Passed (wordsOf l)
 
 good : (l : List ℕ) → readAccount l .good ≡ true → Good l
+unfolding holdAccount
 good l g =
     let b = both-true _ _ (sym (good-is l) ∙ g) in
-    let n : length l ≡ 2736 = eqb-true (length l) 2736 (b .0) in
-    record { long = n; settings = b .1; fit = λ o. words-fit (length l / 8) l o (omega arith); words = length-words (length l / 8) l ∙ omega arith }
+    let c = both-true _ _ (b .1) in
+    let n : length l ≡ accountLength = eqb-true (length l) accountLength (b .0) in
+    record {
+      long = n;
+      passed = λ o. record { fit = words-fit (length l / 8) l o (omega arith); long = length-words (length l / 8) l ∙ omega arith; settings = c .0; spare = c .1 };
+    }
 
-pub good-long : (l : List ℕ) → readAccount l .good ≡ true → length l ≡ 2736
+pub good-long : (l : List ℕ) → readAccount l .good ≡ true → length l ≡ accountLength
 good-long l g = good l g .long
 
 -- Bytes that hold an account, read and written, are as they were.
-pub account-written-back : (l : List ℕ) → Octets l → readAccount l .good ≡ true → (m : List ℕ) → length m ≡ 2736 → writtenAccount (readAccount l .account) m ≡ l
+pub account-written-back : (l : List ℕ) → Octets l → readAccount l .good ≡ true → (m : List ℕ) → length m ≡ accountLength → writtenAccount (readAccount l .account) m ≡ l
 unfolding readAccount writtenAccount
 account-written-back l o g m k =
     let d = good l g in
     let n = d .long in
-    let z : length l / 8 ≡ 342 = omega arith in
-    simp (eq-eqb (length m) 2736 k, eq-eqb (length l) 2736 n, d .settings) (ap bytesOf (account-words (wordsOf l) (d .fit o) (d .words) (d .settings)) ∙ ap (λ (i : ℕ). bytesOf (wordsIn i l)) z ∙ bytes-words 342 l o n)
+    let z : length l / 8 ≡ accountSize = omega arith in
+    simp (eq-eqb (length m) accountLength k, sym (good-is l) ∙ g) (ap bytesOf (account-words (wordsOf l) (d .passed o)) ∙ ap (λ (i : ℕ). bytesOf (wordsIn i l)) z ∙ bytes-words accountSize l o n)
 
--- Where three words of an account's bytes are those of another series, the bytes are those of the account with it.
-pub series-written : (s : Series) (l m : List ℕ) → Octets l → Octets m → readAccount l .good ≡ true → length m ≡ length l → wordsOf m ≡ sets (wordsOf l) 18 (seriesWords s) → m ≡ writtenSeries s l
+-- Where the words of an account's series are those of another, the bytes are those of the account with it.
+pub series-written : (s : Series) (l m : List ℕ) → Octets l → Octets m → readAccount l .good ≡ true → length m ≡ length l → wordsOf m ≡ sets (wordsOf l) seriesFrom (seriesWords s) → m ≡ writtenSeries s l
 unfolding writtenSeries writtenAccount
 series-written s l m o p g k h =
     let d = good l g in
     let n = d .long in
-    simp (g, eq-eqb (length l) 2736 n) (bytes-are 342 m _ p (k ∙ n) (h ∙ sym (series-words s (wordsOf l) (d .fit o) (d .words) (d .settings))))
+    simp (g, eq-eqb (length l) accountLength n) (bytes-are accountSize m _ p (k ∙ n) (h ∙ sym (series-words s (wordsOf l) (d .passed o))))

@@ -67,17 +67,23 @@ unsigned-back [] o = refl
 unsigned-back (w ∷ l) o = simp (unsigned-signed w (o .0), unsigned-back l (o .1))
 
 -- ---- runs
--- the n words from a place on, each by its place
+-- the n words from a place on, each by how far it stands from there
+abbrev run-on : ℕ → ℕ → ℕ → List ℕ → List ℕ
+run-on zero i from ws = []
+run-on (suc n) i from ws = getD ws (from + i) 0 ∷ run-on n (suc i) from ws
+
 abbrev pub run : ℕ → ℕ → List ℕ → List ℕ
-run zero from ws = []
-run (suc n) from ws = getD ws from 0 ∷ run n (from + 1) ws
+run n from ws = run-on n 0 from ws
+
+run-on-is : (n i from : ℕ) (ws : List ℕ) → from + i + n ≤ length ws → run-on n i from ws ≡ take n (drop (from + i) ws)
+run-on-is zero i from ws h = refl
+run-on-is (suc n) i from ws h =
+    let e : from + suc i ≡ suc (from + i) = omega arith in
+    let p : run-on n (suc i) from ws ≡ take n (drop (from + suc i) ws) = run-on-is n (suc i) from ws (omega arith) in
+    ap (λ (k : List ℕ). getD ws (from + i) 0 ∷ k) (p ∙ ap (λ (k : ℕ). take n (drop k ws)) e) ∙ ap (take (suc n)) (sym (drop-cons ws (from + i) 0 (omega arith)))
 
 pub run-is : (n from : ℕ) (ws : List ℕ) → from + n ≤ length ws → run n from ws ≡ take n (drop from ws)
-run-is zero from ws h = refl
-run-is (suc n) from ws h =
-    let e : from + 1 ≡ suc from = omega arith in
-    let p : run n (from + 1) ws ≡ take n (drop (from + 1) ws) = run-is n (from + 1) ws (omega arith) in
-    ap (λ (k : List ℕ). getD ws from 0 ∷ k) (p ∙ ap (λ (k : ℕ). take n (drop k ws)) e) ∙ ap (take (suc n)) (sym (drop-cons ws from 0 (omega arith)))
+run-is n from ws h = let e : from + 0 ≡ from = omega arith in run-on-is n 0 from ws (omega arith) ∙ ap (λ (k : ℕ). take n (drop k ws)) e
 
 -- a run and what comes after it
 pub rejoined : {A : Type 0} (n from next : ℕ) (ws : List A) → next ≡ from + n → take n (drop from ws) ++ drop next ws ≡ drop from ws

@@ -9,14 +9,15 @@ use Rattle.table.specs.Rows.{Cols, columnsOf}
 use Rattle.account.specs.declared.account.Ledger.{Ledger}
 use Rattle.account.specs.Account.{accountWith, ledgerOf}
 use Rattle.word_bytes.specs.Words.{wordsOf}
+use Rattle.account_bytes.specs.Sizes.{accountLength}
 use Rattle.account_bytes.specs.Account.{accountOf, readAccount, readColumns}
 use Rattle.account_bytes.proofs.AccountKept.{good-is, good-long}
 
-pub columns-are : (l : List ℕ) (d e : Cols) → length l ≡ 2736 → d ≡ readColumns l e → d ≡ columnsOf (accountOf (wordsOf l) .positions)
+pub columns-are : (l : List ℕ) (d e : Cols) → length l ≡ accountLength → d ≡ readColumns l e → d ≡ columnsOf (accountOf (wordsOf l) .positions)
 unfolding readColumns
-columns-are l d e n h = simp (eq-eqb (length l) 2736 n) at h
+columns-are l d e n h = simp (eq-eqb (length l) accountLength n) at h
 
-pub parts-are : (l : List ℕ) (h : Ledger) (d e : Cols) → length l ≡ 2736 → h ≡ ledgerOf (accountOf (wordsOf l)) → d ≡ readColumns l e → accountWith h d ≡ accountOf (wordsOf l)
+pub parts-are : (l : List ℕ) (h : Ledger) (d e : Cols) → length l ≡ accountLength → h ≡ ledgerOf (accountOf (wordsOf l)) → d ≡ readColumns l e → accountWith h d ≡ accountOf (wordsOf l)
 parts-are l h d e n p q =
     ap (λ (x : Ledger). accountWith x d) p
     ∙ ap (λ (x : Cols). accountWith (ledgerOf (accountOf (wordsOf l))) x) (columns-are l d e n q)

@@ -23,24 +23,25 @@ use Rattle.cost_model.specs.Costs as Costs
 use Rattle.cost_model.specs.Costs.{goodRate}
 use Rattle.cost_model.proofs.Costs.{good-parts as good-costs}
 use Rattle.word_bytes.specs.Words.{wordsIn, wordsOf, bytesOf}
-use Rattle.word_bytes.specs.Numbers.{floatOf, patternOf}
+use Rattle.word_bytes.specs.Numbers.{signedOf, unsignedOf, floatOf, patternOf}
 use Rattle.word_bytes.proofs.Words.{Words, Octets, length-words, words-bytes, length-bytes, words-fit, bytes-words}
 use Rattle.word_bytes.proofs.Numbers.{signed-unsigned, unsigned-signed, unsigned-lt, float-pattern, pattern-float, pattern-lt}
-use Rattle.account_bytes.specs.Settings.{flagWord, flagOf, isFlag, isNumber, capMark, capCount, capOf, isCap, settingsWords, settingsAt, areSettings, gotSettings, noSettings, readSettings, writtenSettings}
+use Rattle.account_bytes.specs.Sizes.{settingsSize, settingsLength, commissionAt, slippageAt, bandAt, capMarkAt, capCountAt, recordingAt, cashFirstAt, ceilingAt, coverRuleAt, longOnlyAt}
+use Rattle.account_bytes.specs.Settings.{flagWord, flagOf, isFlag, isNumber, isZero, capMark, capCount, capOf, isCap, costsOf, settingsWords, settingsAt, areRates, areFlags, spareSettings, areSettings, gotSettings, noSettings, holdSettings, readSettings, writtenSettings}
 use Rattle.account_bytes.proofs.Writing.{length-settings}
 use Rattle.account_bytes.proofs.Lists.{run, run-is, word-lt}
 
 -- ---- what settings are kept: those whose rates are no NaN. The rest holds of every value of a program.
 pub record NoNan (s : Settings) : Type 0 where
-  pub commission : isNan (s .«cost_model» .«commission_bps») ≡ false
-  pub slippage : isNan (s .«cost_model» .«slippage_bps») ≡ false
+  pub commission : isNan (costsOf s .«commission_bps») ≡ false
+  pub slippage : isNan (costsOf s .«slippage_bps») ≡ false
   pub band : isNan (s .«no_trade_band_bps») ≡ false
 
 pub record Kept (s : Settings) : Type 0 where
   pub rates : NoNan s
-  pub commission : T (fits binary64 (s .«cost_model» .«commission_bps»))
-  pub slippage : T (fits binary64 (s .«cost_model» .«slippage_bps»))
-  pub floor : SFits w64 (s .«cost_model» .«min_commission»)
+  pub commission : T (fits binary64 (costsOf s .«commission_bps»))
+  pub slippage : T (fits binary64 (costsOf s .«slippage_bps»))
+  pub floor : SFits w64 (costsOf s .«min_commission»)
   pub step : SFits w64 (s .«quantity_step»)
   pub lowest : SFits w64 (s .«min_order_value»)
   pub highest : SFits w64 (s .«max_order_value»)
@@ -70,10 +71,10 @@ band-number (fin s m k) e = refl
 pub good-rates : (s : Settings) → goodSettings s ≡ true → NoNan s
 good-rates s e =
     let g = good-settings s e in
-    let c = good-costs (s .«cost_model») (g .costs) in
+    let c = good-costs (costsOf s) (g .costs) in
     record {
-      commission = finite-number (s .«cost_model» .«commission_bps») (c .finite-rate);
-      slippage = above-number (s .«cost_model» .«slippage_bps») (c .slippage-low);
+      commission = finite-number (costsOf s .«commission_bps») (c .finite-rate);
+      slippage = above-number (costsOf s .«slippage_bps») (c .slippage-low);
       band = band-number (s .«no_trade_band_bps») (g .band);
     }
 
@@ -127,14 +128,14 @@ count-of-cap (suc m) n e = simp (ne-eqb (suc m) 0 (λ q. omega arith))
 pattern-back : (w : ℕ) → w < 2 ^ 64 → isNumber w ≡ true → patternOf (floatOf w) ≡ w
 pattern-back w h e = pattern-float w h (subst T (sym e) tt)
 
--- ---- the twelve words
+-- ---- the words of settings, a line a word
 pub settings-back : (s : Settings) → Kept s → settingsAt 0 (settingsWords s) ≡ s
 unfolding settingsAt settingsWords
 settings-back s k =
     simp (
-      float-pattern (s .«cost_model» .«commission_bps») (k .commission),
-      float-pattern (s .«cost_model» .«slippage_bps») (k .slippage),
-      signed-unsigned (s .«cost_model» .«min_commission») (k .floor),
+      float-pattern (costsOf s .«commission_bps») (k .commission),
+      float-pattern (costsOf s .«slippage_bps») (k .slippage),
+      signed-unsigned (costsOf s .«min_commission») (k .floor),
       signed-unsigned (s .«quantity_step») (k .step),
       signed-unsigned (s .«min_order_value») (k .lowest),
       signed-unsigned (s .«max_order_value») (k .highest),
@@ -149,8 +150,8 @@ pub are-back : (s : Settings) → Kept s → areSettings 0 (settingsWords s) ≡
 unfolding areSettings settingsWords
 are-back s k =
     simp (
-      is-rate (s .«cost_model» .«commission_bps») (k .commission) (k .rates .commission),
-      is-rate (s .«cost_model» .«slippage_bps») (k .slippage) (k .rates .slippage),
+      is-rate (costsOf s .«commission_bps») (k .commission) (k .rates .commission),
+      is-rate (costsOf s .«slippage_bps») (k .slippage) (k .rates .slippage),
       is-rate (s .«no_trade_band_bps») (k .band) (k .rates .band),
       is-cap (s .«max_trades_per_rebalance»),
       is-flag (s .recording),
@@ -159,40 +160,22 @@ are-back s k =
 
 pub settings-fit : (s : Settings) → Kept s → Words (settingsWords s)
 unfolding settingsWords
-settings-fit s k = (
-  pattern-lt (s .«cost_model» .«commission_bps») (k .commission),
-  (
-    pattern-lt (s .«cost_model» .«slippage_bps») (k .slippage),
-    (
-      unsigned-lt (s .«cost_model» .«min_commission») (k .floor),
-      (
-        unsigned-lt (s .«quantity_step») (k .step),
-        (
-          unsigned-lt (s .«min_order_value») (k .lowest),
-          (
-            unsigned-lt (s .«max_order_value») (k .highest),
-            (
-              pattern-lt (s .«no_trade_band_bps») (k .band),
-              (
-                mark-lt (s .«max_trades_per_rebalance»),
-                (
-                  k .cap,
-                  (
-                    unsigned-lt (s .«max_rebalance_notional») (k .notional),
-                    (
-                      flag-lt (s .recording),
-                      (flag-lt (s .«cash_first»), omega arith),
-                    ),
-                  ),
-                ),
-              ),
-            ),
-          ),
-        ),
-      ),
-    ),
-  ),
-)
+settings-fit s k =
+    omega (
+      arith,
+      pattern-lt (costsOf s .«commission_bps») (k .commission),
+      pattern-lt (costsOf s .«slippage_bps») (k .slippage),
+      unsigned-lt (costsOf s .«min_commission») (k .floor),
+      unsigned-lt (s .«quantity_step») (k .step),
+      unsigned-lt (s .«min_order_value») (k .lowest),
+      unsigned-lt (s .«max_order_value») (k .highest),
+      pattern-lt (s .«no_trade_band_bps») (k .band),
+      mark-lt (s .«max_trades_per_rebalance»),
+      k .cap,
+      unsigned-lt (s .«max_rebalance_notional») (k .notional),
+      flag-lt (s .recording),
+      flag-lt (s .«cash_first»),
+    )
 
 -- the same words where the settings come after another word
 pub settings-after : (w : ℕ) (s : Settings) (l : List ℕ) → settingsAt 1 (w ∷ (settingsWords s ++ l)) ≡ settingsAt 0 (settingsWords s)
@@ -203,14 +186,41 @@ pub are-after : (w : ℕ) (s : Settings) (l : List ℕ) → areSettings 1 (w ∷
 unfolding areSettings settingsWords
 are-after w s l = refl
 
--- what the test says of each word
+-- what the test says, kind by kind
+record Rates (from : ℕ) (ws : List ℕ) : Type 0 where
+  commission : isNumber (getD ws (from + commissionAt) 0) ≡ true
+  slippage : isNumber (getD ws (from + slippageAt) 0) ≡ true
+  band : isNumber (getD ws (from + bandAt) 0) ≡ true
+
+rates : (from : ℕ) (ws : List ℕ) → areRates from ws ≡ true → Rates from ws
+rates from ws e =
+    let a = both-true _ _ e in
+    let b = both-true _ _ (a .1) in
+    record { commission = a .0; slippage = b .0; band = b .1 }
+
+record Flags (from : ℕ) (ws : List ℕ) : Type 0 where
+  recording : isFlag (getD ws (from + recordingAt) 0) ≡ true
+  first : isFlag (getD ws (from + cashFirstAt) 0) ≡ true
+
+flags : (from : ℕ) (ws : List ℕ) → areFlags from ws ≡ true → Flags from ws
+flags from ws e = let a = both-true _ _ e in record { recording = a .0; first = a .1 }
+
+record Spare (from : ℕ) (ws : List ℕ) : Type 0 where
+  ceiling : getD ws (from + ceilingAt) 0 ≡ 0
+  cover : getD ws (from + coverRuleAt) 0 ≡ 0
+  long-only : getD ws (from + longOnlyAt) 0 ≡ 0
+
+spare : (from : ℕ) (ws : List ℕ) → spareSettings from ws ≡ true → Spare from ws
+spare from ws e =
+    let a = both-true _ _ e in
+    let b = both-true _ _ (a .1) in
+    record { ceiling = eqb-true _ 0 (a .0); cover = eqb-true _ 0 (b .0); long-only = eqb-true _ 0 (b .1) }
+
 record Tested (from : ℕ) (ws : List ℕ) : Type 0 where
-  commission : isNumber (getD ws from 0) ≡ true
-  slippage : isNumber (getD ws (from + 1) 0) ≡ true
-  band : isNumber (getD ws (from + 6) 0) ≡ true
-  cap : isCap (getD ws (from + 7) 0) (getD ws (from + 8) 0) ≡ true
-  recording : isFlag (getD ws (from + 10) 0) ≡ true
-  first : isFlag (getD ws (from + 11) 0) ≡ true
+  rate : Rates from ws
+  cap : isCap (getD ws (from + capMarkAt) 0) (getD ws (from + capCountAt) 0) ≡ true
+  flag : Flags from ws
+  none : Spare from ws
 
 tested : (from : ℕ) (ws : List ℕ) → areSettings from ws ≡ true → Tested from ws
 unfolding areSettings
@@ -218,72 +228,55 @@ tested from ws e =
     let a = both-true _ _ e in
     let b = both-true _ _ (a .1) in
     let c = both-true _ _ (b .1) in
-    let d = both-true _ _ (c .1) in
-    let f = both-true _ _ (d .1) in
-    record { commission = a .0; slippage = b .0; band = c .0; cap = d .0; recording = f .0; first = f .1 }
+    record { rate = rates from ws (a .0); cap = b .0; flag = flags from ws (c .0); none = spare from ws (c .1) }
 
-pub words-back : (from : ℕ) (ws : List ℕ) → Words ws → areSettings from ws ≡ true → settingsWords (settingsAt from ws) ≡ run 12 from ws
+-- an amount takes any word
+amount : (from : ℕ) (ws : List ℕ) → Words ws → (i : ℕ) → unsignedOf (signedOf (getD ws (from + i) 0)) ≡ getD ws (from + i) 0
+amount from ws o i = unsigned-signed (getD ws (from + i) 0) (word-lt ws (from + i) o)
+
+rate-back : (from : ℕ) (ws : List ℕ) → Words ws → (i : ℕ) → isNumber (getD ws (from + i) 0) ≡ true → patternOf (floatOf (getD ws (from + i) 0)) ≡ getD ws (from + i) 0
+rate-back from ws o i e = pattern-back (getD ws (from + i) 0) (word-lt ws (from + i) o) e
+
+pub words-back : (from : ℕ) (ws : List ℕ) → Words ws → areSettings from ws ≡ true → settingsWords (settingsAt from ws) ≡ run settingsSize from ws
 unfolding settingsWords settingsAt
 words-back from ws o e =
     let t = tested from ws e in
-    let w : (i : ℕ) → getD ws i 0 < 2 ^ 64 = λ i. word-lt ws i o in
-    let s2 : from + 1 + 1 ≡ from + 2 = omega arith in
-    let s3 : from + 2 + 1 ≡ from + 3 = omega arith in
-    let s4 : from + 3 + 1 ≡ from + 4 = omega arith in
-    let s5 : from + 4 + 1 ≡ from + 5 = omega arith in
-    let s6 : from + 5 + 1 ≡ from + 6 = omega arith in
-    let s7 : from + 6 + 1 ≡ from + 7 = omega arith in
-    let s8 : from + 7 + 1 ≡ from + 8 = omega arith in
-    let s9 : from + 8 + 1 ≡ from + 9 = omega arith in
-    let s10 : from + 9 + 1 ≡ from + 10 = omega arith in
-    let s11 : from + 10 + 1 ≡ from + 11 = omega arith in
     simp (
-      s2,
-      s3,
-      s4,
-      s5,
-      s6,
-      s7,
-      s8,
-      s9,
-      s10,
-      s11,
-      pattern-back (getD ws from 0) (w from) (t .commission),
-      pattern-back (getD ws (from + 1) 0) (w (from + 1)) (t .slippage),
-      unsigned-signed (getD ws (from + 2) 0) (w (from + 2)),
-      unsigned-signed (getD ws (from + 3) 0) (w (from + 3)),
-      unsigned-signed (getD ws (from + 4) 0) (w (from + 4)),
-      unsigned-signed (getD ws (from + 5) 0) (w (from + 5)),
-      pattern-back (getD ws (from + 6) 0) (w (from + 6)) (t .band),
-      mark-of-cap (getD ws (from + 7) 0) (getD ws (from + 8) 0) (t .cap),
-      count-of-cap (getD ws (from + 7) 0) (getD ws (from + 8) 0) (t .cap),
-      unsigned-signed (getD ws (from + 9) 0) (w (from + 9)),
-      word-of-flag (getD ws (from + 10) 0) (t .recording),
-      word-of-flag (getD ws (from + 11) 0) (t .first),
+      amount from ws o,
+      rate-back from ws o commissionAt (t .rate .commission),
+      rate-back from ws o slippageAt (t .rate .slippage),
+      rate-back from ws o bandAt (t .rate .band),
+      mark-of-cap (getD ws (from + capMarkAt) 0) (getD ws (from + capCountAt) 0) (t .cap),
+      count-of-cap (getD ws (from + capMarkAt) 0) (getD ws (from + capCountAt) 0) (t .cap),
+      word-of-flag (getD ws (from + recordingAt) 0) (t .flag .recording),
+      word-of-flag (getD ws (from + cashFirstAt) 0) (t .flag .first),
+      t .none .ceiling,
+      t .none .cover,
+      t .none .long-only,
     )
 
 -- ---- bytes
 -- Settings that are written are read back as they were.
-pub settings-read-back : (s : Settings) → Kept s → (l : List ℕ) → length l ≡ 96 → readSettings (writtenSettings s l) ≡ gotSettings s
-unfolding readSettings writtenSettings
+pub settings-read-back : (s : Settings) → Kept s → (l : List ℕ) → length l ≡ settingsLength → readSettings (writtenSettings s l) ≡ gotSettings s
+unfolding readSettings holdSettings writtenSettings
 settings-read-back s k l n =
     let w : wordsOf (bytesOf (settingsWords s)) ≡ settingsWords s = words-bytes (settingsWords s) (settings-fit s k) in
-    let m : length (bytesOf (settingsWords s)) ≡ 96 = length-bytes (settingsWords s) ∙ omega (arith, length-settings s) in
-    simp (eq-eqb (length l) 96 n) (simp (eq-eqb (length (bytesOf (settingsWords s))) 96 m, w, are-back s k, settings-back s k))
+    let m : length (bytesOf (settingsWords s)) ≡ settingsLength = length-bytes (settingsWords s) ∙ omega (arith, length-settings s) in
+    simp (eq-eqb (length l) settingsLength n) (simp (eq-eqb (length (bytesOf (settingsWords s))) settingsLength m, w, are-back s k, settings-back s k))
 
 good-by : (t : Bool) (s : Settings) → pick t (gotSettings s) noSettings .good ≡ true → t ≡ true
 good-by true s e = refl
 good-by false s e = e
 
 -- Bytes that hold settings, read and written, are as they were.
-pub settings-written-back : (l : List ℕ) → Octets l → readSettings l .good ≡ true → (m : List ℕ) → length m ≡ 96 → writtenSettings (readSettings l .settings) m ≡ l
-unfolding readSettings writtenSettings
+pub settings-written-back : (l : List ℕ) → Octets l → readSettings l .good ≡ true → (m : List ℕ) → length m ≡ settingsLength → writtenSettings (readSettings l .settings) m ≡ l
+unfolding readSettings holdSettings writtenSettings
 settings-written-back l o g m k =
     let ws : List ℕ = wordsOf l in
     let b = both-true _ _ (good-by _ _ g) in
-    let n : length l ≡ 96 = eqb-true (length l) 96 (b .0) in
-    let z : length l / 8 ≡ 12 = omega arith in
+    let n : length l ≡ settingsLength = eqb-true (length l) settingsLength (b .0) in
+    let z : length l / 8 ≡ settingsSize = omega arith in
     let f : Words ws = words-fit (length l / 8) l o (omega arith) in
-    let c : length ws ≡ 12 = length-words (length l / 8) l ∙ z in
-    let w : settingsWords (settingsAt 0 ws) ≡ ws = words-back 0 ws f (b .1) ∙ run-is 12 0 ws (omega arith) ∙ take-all 12 ws (omega arith) in
-    simp (eq-eqb (length m) 96 k, eq-eqb (length l) 96 n, b .1) (ap bytesOf w ∙ ap (λ (i : ℕ). bytesOf (wordsIn i l)) z ∙ bytes-words 12 l o n)
+    let c : length ws ≡ settingsSize = length-words (length l / 8) l ∙ z in
+    let w : settingsWords (settingsAt 0 ws) ≡ ws = words-back 0 ws f (b .1) ∙ run-is settingsSize 0 ws (omega arith) ∙ take-all settingsSize ws (omega arith) in
+    simp (eq-eqb (length m) settingsLength k, eq-eqb (length l) settingsLength n, b .1) (ap bytesOf w ∙ ap (λ (i : ℕ). bytesOf (wordsIn i l)) z ∙ bytes-words settingsSize l o n)

@@ -1,6 +1,6 @@
--- An account as 342 words, 2,736 bytes. Definitions only.
+-- An account as words and as bytes. Definitions only.
 use Prim.Native.Nat.{ℕ}
-use mathlib.Core.Bool.{true, false}
+use mathlib.Core.Bool.{Bool, true, false}
 use mathlib.Core.List.{List, [], _∷_, _++_, map}
 use lib.Dec.{eqb}
 use lib.ListN.{length, getD, take, drop}
@@ -16,40 +16,48 @@ use Rattle.account.specs.declared.account.Series.{Series}
 use Rattle.account.specs.Account.{withSeries}
 use Rattle.account.specs.Calls.{series, zeroAccount}
 use Rattle.account_bytes.specs.declared.account_words.ReadAccount.{ReadAccount}
-use Rattle.account_bytes.specs.Settings.{settingsWords, settingsAt, areSettings}
+use Rattle.account_bytes.specs.Sizes.{cashAt, settingsFrom, orderCountAt, lastNotionalAt, trimmedCountAt, shortfallAt, recordCountAt, openCountAt, closedTotalAt, equityCountAt, returnCountAt, prevEquityAt, countAt, columnSize, symbolsFrom, quantitiesFrom, averagesFrom, realizedFrom, totalsFrom, accountLength}
+use Rattle.account_bytes.specs.Settings.{isZero, settingsWords, settingsAt, areSettings}
 
--- ---- words 13 to 21: counters, series and the count of positions
-unfoldable pub countWords : Counters → Series → ℕ → List ℕ
-countWords k s n =
+-- ---- counters, with 0 where none stands; series; the count of positions
+abbrev pub counterWords : Counters → List ℕ
+counterWords k =
     k .«last_rebalance_order_count»
     ∷ unsignedOf (k .«last_rebalance_notional»)
     ∷ k .«trimmed_fill_count»
     ∷ unsignedOf (k .«trimmed_shortfall_cents»)
     ∷ k .«record_count»
-    ∷ s .«equity_count»
-    ∷ s .«return_count»
-    ∷ unsignedOf (s .«prev_equity»)
-    ∷ n
+    ∷ 0
+    ∷ 0
     ∷ []
+
+abbrev pub seriesWords : Series → List ℕ
+seriesWords s = s .«equity_count» ∷ s .«return_count» ∷ unsignedOf (s .«prev_equity») ∷ []
+
+unfoldable pub countWords : Counters → Series → ℕ → List ℕ
+countWords k s n = counterWords k ++ (seriesWords s ++ (n ∷ []))
 
 abbrev pub countersOf : List ℕ → Counters
 countersOf ws = record {
-  «last_rebalance_order_count» = getD ws 13 0;
-  «last_rebalance_notional» = signedOf (getD ws 14 0);
-  «trimmed_fill_count» = getD ws 15 0;
-  «trimmed_shortfall_cents» = signedOf (getD ws 16 0);
-  «record_count» = getD ws 17 0;
+  «last_rebalance_order_count» = getD ws orderCountAt 0;
+  «last_rebalance_notional» = signedOf (getD ws lastNotionalAt 0);
+  «trimmed_fill_count» = getD ws trimmedCountAt 0;
+  «trimmed_shortfall_cents» = signedOf (getD ws shortfallAt 0);
+  «record_count» = getD ws recordCountAt 0;
 }
 
-abbrev pub seriesOf : List ℕ → Series
-seriesOf ws = series (getD ws 18 0) (getD ws 19 0) (signedOf (getD ws 20 0))
+abbrev pub spareCounters : List ℕ → Bool
+spareCounters ws = both (isZero (getD ws openCountAt 0)) (isZero (getD ws closedTotalAt 0))
 
--- ---- words 22 to 341: five columns of 64 places
+abbrev pub seriesOf : List ℕ → Series
+seriesOf ws = series (getD ws equityCountAt 0) (getD ws returnCountAt 0) (signedOf (getD ws prevEquityAt 0))
+
+-- ---- five columns
 abbrev pub symbolsAt : ℕ → List ℕ → List ℕ
-symbolsAt from ws = map turned (take 64 (drop from ws))
+symbolsAt from ws = map turned (take columnSize (drop from ws))
 
 abbrev pub numbersAt : ℕ → List ℕ → List ℤ
-numbersAt from ws = map signedOf (take 64 (drop from ws))
+numbersAt from ws = map signedOf (take columnSize (drop from ws))
 
 unfoldable pub columnWords : Cols → List ℕ
 columnWords c =
@@ -61,12 +69,12 @@ columnWords c =
 
 unfoldable pub tableFrom : List ℕ → Table
 tableFrom ws = record {
-  count = getD ws 21 0;
-  symbol = symbolsAt 22 ws;
-  quantity = numbersAt 86 ws;
-  «avg_entry_price» = numbersAt 150 ws;
-  «realized_pnl» = numbersAt 214 ws;
-  «total_cost» = numbersAt 278 ws;
+  count = getD ws countAt 0;
+  symbol = symbolsAt symbolsFrom ws;
+  quantity = numbersAt quantitiesFrom ws;
+  «avg_entry_price» = numbersAt averagesFrom ws;
+  «realized_pnl» = numbersAt realizedFrom ws;
+  «total_cost» = numbersAt totalsFrom ws;
 }
 
 -- ---- the account
@@ -75,8 +83,8 @@ accountWords a = unsignedOf (a .cash) ∷ (settingsWords (a .settings) ++ (count
 
 unfoldable pub accountOf : List ℕ → Account
 accountOf ws = record {
-  cash = signedOf (getD ws 0 0);
-  settings = settingsAt 1 ws;
+  cash = signedOf (getD ws cashAt 0);
+  settings = settingsAt settingsFrom ws;
   counters = countersOf ws;
   series = seriesOf ws;
   positions = tableFrom ws;
@@ -90,16 +98,19 @@ noAccount = record { good = false; account = zeroAccount }
 
 -- ---- bytes
 -- "Account bytes of the wrong length answer 11", and so do words that no account has; whether the account is sound is for the calls to refuse.
+unfoldable pub holdAccount : List ℕ → Bool
+holdAccount l = both (eqb (length l) accountLength) (both (areSettings settingsFrom (wordsOf l)) (spareCounters (wordsOf l)))
+
 unfoldable pub readAccount : List ℕ → ReadAccount
-readAccount l = pick (both (eqb (length l) 2736) (areSettings 1 (wordsOf l))) (gotAccount (accountOf (wordsOf l))) noAccount
+readAccount l = pick (holdAccount l) (gotAccount (accountOf (wordsOf l))) noAccount
 
 -- as found where the length is another
 unfoldable pub writtenAccount : Account → List ℕ → List ℕ
-writtenAccount a l = pick (eqb (length l) 2736) (bytesOf (accountWords a)) l
+writtenAccount a l = pick (eqb (length l) accountLength) (bytesOf (accountWords a)) l
 
 -- the columns of the account; as found where the length is another
 unfoldable pub readColumns : List ℕ → Cols → Cols
-readColumns l c = pick (eqb (length l) 2736) (columnsOf (accountOf (wordsOf l) .positions)) c
+readColumns l c = pick (eqb (length l) accountLength) (columnsOf (accountOf (wordsOf l) .positions)) c
 
 -- an account's bytes with another series; as found where they hold no account
 unfoldable pub writtenSeries : Series → List ℕ → List ℕ

@@ -1,19 +1,39 @@
-// An account as 342 words: cash, twelve of settings, nine of counters, series and count, and five columns of 64.
+// An account as words: cash, settings, counters, series, the count of positions and five columns of 64.
 ghost use mathlib.Core.Path.{_≡_};
 ghost use lib.ListN.{length};
 ghost use Rattle.word_bytes.specs.Words.{wordsOf};
 ghost use Rattle.table.specs.Rows.{cols};
 ghost use Rattle.account.specs.Account.{accountWith, ledgerOf};
 ghost use Rattle.account.specs.Calls.{zeroAccount};
-ghost use Rattle.account_bytes.specs.Account.{countWords, countersOf, seriesOf, accountOf, readAccount, writtenAccount, writtenSeries};
+ghost use Rattle.account_bytes.specs.Sizes.{accountLength};
+ghost use Rattle.account_bytes.specs.Account.{countWords, countersOf, spareCounters, seriesOf, accountOf, readAccount, writtenAccount, writtenSeries};
 use crate::columns::put_columns;
 use crate::columns::read_columns;
 use crate::run::number_at;
 use crate::run::put_words;
 use crate::setting_words::are_settings;
+use crate::setting_words::both;
+use crate::setting_words::is_zero;
 use crate::setting_words::settings_at;
 use crate::setting_words::settings_words;
 use crate::setting_words::zero_settings;
+use crate::sizes::ACCOUNT_BYTES;
+use crate::sizes::CASH_AT;
+use crate::sizes::CLOSED_TOTAL_AT;
+use crate::sizes::COUNT_AT;
+use crate::sizes::COUNTERS_AT;
+use crate::sizes::COUNTS_WORDS;
+use crate::sizes::EQUITY_COUNT_AT;
+use crate::sizes::LAST_NOTIONAL_AT;
+use crate::sizes::OPEN_COUNT_AT;
+use crate::sizes::ORDER_COUNT_AT;
+use crate::sizes::PREV_EQUITY_AT;
+use crate::sizes::RECORD_COUNT_AT;
+use crate::sizes::RETURN_COUNT_AT;
+use crate::sizes::SERIES_AT;
+use crate::sizes::SETTINGS_AT;
+use crate::sizes::SHORTFALL_AT;
+use crate::sizes::TRIMMED_COUNT_AT;
 use account::Account;
 use account::Counters;
 use account::Ledger;
@@ -29,39 +49,46 @@ pub struct ReadAccount {
     pub account: Account,
 }
 
-// Words 13 to 17.
 fn counters_of(bytes: &[u8]) -> Counters
     ensures { λ r. ⌜ r ≡ countersOf (wordsOf (now (bytes .entry))) ⌝ }
 {
     Counters {
-        last_rebalance_order_count: word_at(bytes, 13),
-        last_rebalance_notional: number_at(bytes, 14),
-        trimmed_fill_count: word_at(bytes, 15),
-        trimmed_shortfall_cents: number_at(bytes, 16),
-        record_count: word_at(bytes, 17),
+        last_rebalance_order_count: word_at(bytes, ORDER_COUNT_AT),
+        last_rebalance_notional: number_at(bytes, LAST_NOTIONAL_AT),
+        trimmed_fill_count: word_at(bytes, TRIMMED_COUNT_AT),
+        trimmed_shortfall_cents: number_at(bytes, SHORTFALL_AT),
+        record_count: word_at(bytes, RECORD_COUNT_AT),
     }
 }
 
-// Words 18 to 20.
+// Two words that stand for no counter.
+fn spare_counters(bytes: &[u8]) -> bool
+    ensures { λ r. ⌜ r ≡ spareCounters (wordsOf (now (bytes .entry))) ⌝ }
+{
+    let open_count = is_zero(word_at(bytes, OPEN_COUNT_AT));
+    let closed_total = is_zero(word_at(bytes, CLOSED_TOTAL_AT));
+    both(open_count, closed_total)
+}
+
 fn series_of(bytes: &[u8]) -> Series
     ensures { λ r. ⌜ r ≡ seriesOf (wordsOf (now (bytes .entry))) ⌝ }
 {
     Series {
-        equity_count: word_at(bytes, 18),
-        return_count: word_at(bytes, 19),
-        prev_equity: number_at(bytes, 20),
+        equity_count: word_at(bytes, EQUITY_COUNT_AT),
+        return_count: word_at(bytes, RETURN_COUNT_AT),
+        prev_equity: number_at(bytes, PREV_EQUITY_AT),
     }
 }
 
-// The account of 2,736 bytes but for its columns; of other bytes, what they have of its words, and 0 for the rest.
+// The account of so many bytes but for its columns; of other bytes, what they have of its words, and 0 for the rest.
 pub fn read_ledger(bytes: &[u8]) -> Ledger
     ensures { λ r. ⌜ r ≡ ledgerOf (accountOf (wordsOf (now (bytes .entry)))) ⌝ }
 {
-    let cash = number_at(bytes, 0);
-    let settings = settings_at(bytes, 1);
+    let cash = number_at(bytes, CASH_AT);
+    let settings = settings_at(bytes, SETTINGS_AT);
     let counters = counters_of(bytes);
     let series = series_of(bytes);
-    let count = word_at(bytes, 21) as usize;
+    let count = word_at(bytes, COUNT_AT) as usize;
     Ledger {
         cash,
         settings,
@@ -72,7 +99,7 @@ pub fn read_ledger(bytes: &[u8]) -> Ledger
 }
 
 fn account_of(bytes: &[u8]) -> Account
-    requires { ⌜ length (now bytes) ≡ 2736 ⌝ }
+    requires { ⌜ length (now bytes) ≡ accountLength ⌝ }
     ensures { λ r. ⌜ r ≡ accountOf (wordsOf (now (bytes .entry))) ⌝ }
 {
     let mut symbol = [0u64; 64];
@@ -135,8 +162,8 @@ fn zero_account() -> Account
     }
 }
 
-// Words 13 to 21: counters, series and the count of positions.
-fn count_words(k: Counters, s: Series, n: usize) -> [u64; 9]
+// Counters, series and the count of positions.
+fn count_words(k: Counters, s: Series, n: usize) -> [u64; COUNTS_WORDS]
     ensures { λ r. ⌜ r ≡ countWords k s n ⌝ }
 {
     [
@@ -145,6 +172,8 @@ fn count_words(k: Counters, s: Series, n: usize) -> [u64; 9]
         k.trimmed_fill_count,
         unsigned(k.trimmed_shortfall_cents),
         k.record_count,
+        0,
+        0,
         s.equity_count,
         s.return_count,
         unsigned(s.prev_equity),
@@ -152,17 +181,17 @@ fn count_words(k: Counters, s: Series, n: usize) -> [u64; 9]
     ]
 }
 
-// Whether bytes hold an account: 2,736 of them, with words of settings.
+// Whether bytes hold an account: so many of them, with words of settings, and 0 where no counter stands.
 pub fn is_account(bytes: &[u8]) -> bool
     ensures { λ r. ⌜ r ≡ readAccount (now (bytes .entry)) .good ⌝ }
 {
-    if bytes.len() == 2736 {
-        return are_settings(bytes, 1);
+    if bytes.len() == ACCOUNT_BYTES {
+        return both(are_settings(bytes, SETTINGS_AT), spare_counters(bytes));
     }
     false
 }
 
-// The account that 2,736 bytes hold. Whether it is sound is for the calls to refuse.
+// The account that bytes hold. Whether it is sound is for the calls to refuse.
 pub fn read_account(bytes: &[u8]) -> ReadAccount
     ensures { λ r. ⌜ r ≡ readAccount (now (bytes .entry)) ⌝ }
 {
@@ -178,7 +207,7 @@ pub fn read_account(bytes: &[u8]) -> ReadAccount
     }
 }
 
-// The account of a ledger and five columns into 2,736 bytes. Nothing is written where the length is another.
+// The account of a ledger and five columns into its bytes. Nothing is written where the length is another.
 pub fn write_ledger<'a>(
     h: Ledger,
     symbol: &'a [u64; 64],
@@ -191,18 +220,18 @@ pub fn write_ledger<'a>(
     ensures { λ _. ⌜ now (bytes .exit)
         ≡ writtenAccount (accountWith h (cols (now (symbol .entry)) (now (quantity .entry)) (now (average .entry)) (now (realized .entry)) (now (total .entry)))) (now (bytes .entry)) ⌝ }
 {
-    if bytes.len() != 2736 {
+    if bytes.len() != ACCOUNT_BYTES {
         return;
     }
-    put_word(bytes, 0, unsigned(h.cash));
+    put_word(bytes, CASH_AT, unsigned(h.cash));
     let settings = settings_words(h.settings);
-    put_words(bytes, 1, &settings[..]);
+    put_words(bytes, SETTINGS_AT, &settings[..]);
     let counts = count_words(h.counters, h.series, h.count);
-    put_words(bytes, 13, &counts[..]);
+    put_words(bytes, COUNTERS_AT, &counts[..]);
     put_columns(bytes, symbol, quantity, average, realized, total);
 }
 
-// The account into 2,736 bytes. Nothing is written where the length is another.
+// The account into its bytes. Nothing is written where the length is another.
 pub fn write_account(a: Account, bytes: &mut [u8])
     ensures { λ _. ⌜ now (bytes .exit) ≡ writtenAccount a (now (bytes .entry)) ⌝ }
 {
@@ -236,5 +265,5 @@ pub fn write_series(s: Series, bytes: &mut [u8])
         return;
     }
     let words = [s.equity_count, s.return_count, unsigned(s.prev_equity)];
-    put_words(bytes, 18, &words[..]);
+    put_words(bytes, SERIES_AT, &words[..]);
 }

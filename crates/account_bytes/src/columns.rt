@@ -1,15 +1,22 @@
-// Words 22 to 341 of an account: five columns of 64, read into lent columns and written from them.
+// Five columns of an account, read into lent columns and written from them.
 ghost use mathlib.Core.Path.{_≡_};
 ghost use lib.Seq.{sets};
 ghost use Rattle.word_bytes.specs.Words.{wordsOf};
 ghost use Rattle.table.specs.Rows.{cols, Full};
+ghost use Rattle.account_bytes.specs.Sizes.{symbolsFrom};
 ghost use Rattle.account_bytes.specs.Account.{columnWords, readColumns};
 use crate::run::put_numbers;
 use crate::run::put_symbols;
 use crate::run::read_numbers;
 use crate::run::read_symbols;
+use crate::sizes::ACCOUNT_BYTES;
+use crate::sizes::AVERAGES_AT;
+use crate::sizes::QUANTITIES_AT;
+use crate::sizes::REALIZED_AT;
+use crate::sizes::SYMBOLS_AT;
+use crate::sizes::TOTALS_AT;
 
-// The columns of the account in 2,736 bytes. Nothing is read where the length is another.
+// The columns of the account in its bytes. Nothing is read where the length is another.
 pub fn read_columns(
     bytes: &[u8],
     symbol: &mut [u64; 64],
@@ -21,14 +28,14 @@ pub fn read_columns(
     ensures { λ _. ⌜ cols (now (symbol .exit)) (now (quantity .exit)) (now (average .exit)) (now (realized .exit)) (now (total .exit))
         ≡ readColumns (now (bytes .entry)) (cols (now (symbol .entry)) (now (quantity .entry)) (now (average .entry)) (now (realized .entry)) (now (total .entry))) ⌝ }
 {
-    if bytes.len() != 2736 {
+    if bytes.len() != ACCOUNT_BYTES {
         return;
     }
-    read_symbols(bytes, 22, symbol);
-    read_numbers(bytes, 86, quantity);
-    read_numbers(bytes, 150, average);
-    read_numbers(bytes, 214, realized);
-    read_numbers(bytes, 278, total);
+    read_symbols(bytes, SYMBOLS_AT, symbol);
+    read_numbers(bytes, QUANTITIES_AT, quantity);
+    read_numbers(bytes, AVERAGES_AT, average);
+    read_numbers(bytes, REALIZED_AT, realized);
+    read_numbers(bytes, TOTALS_AT, total);
 }
 
 // Columns into an account's words.
@@ -41,11 +48,11 @@ pub(crate) fn put_columns<'a>(
     total: &'a [i64; 64],
 )
     ensures { λ _. ⌜ (Full (cols (now (symbol .entry)) (now (quantity .entry)) (now (average .entry)) (now (realized .entry)) (now (total .entry))))
-        × (wordsOf (now (bytes .exit)) ≡ sets (wordsOf (now (bytes .entry))) 22 (columnWords (cols (now (symbol .entry)) (now (quantity .entry)) (now (average .entry)) (now (realized .entry)) (now (total .entry))))) ⌝ }
+        × (wordsOf (now (bytes .exit)) ≡ sets (wordsOf (now (bytes .entry))) symbolsFrom (columnWords (cols (now (symbol .entry)) (now (quantity .entry)) (now (average .entry)) (now (realized .entry)) (now (total .entry))))) ⌝ }
 {
-    put_symbols(bytes, 22, symbol);
-    put_numbers(bytes, 86, quantity);
-    put_numbers(bytes, 150, average);
-    put_numbers(bytes, 214, realized);
-    put_numbers(bytes, 278, total);
+    put_symbols(bytes, SYMBOLS_AT, symbol);
+    put_numbers(bytes, QUANTITIES_AT, quantity);
+    put_numbers(bytes, AVERAGES_AT, average);
+    put_numbers(bytes, REALIZED_AT, realized);
+    put_numbers(bytes, TOTALS_AT, total);
 }

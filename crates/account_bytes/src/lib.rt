@@ -3,6 +3,7 @@ mod account_words;
 mod columns;
 mod run;
 mod setting_words;
+mod sizes;
 
 pub use account_words::ReadAccount;
 pub use account_words::is_account;
@@ -15,3 +16,8 @@ pub use columns::read_columns;
 pub use setting_words::ReadSettings;
 pub use setting_words::read_settings;
 pub use setting_words::write_settings;
+pub use sizes::ACCOUNT_BYTES;
+pub use sizes::ACCOUNT_WORDS;
+pub use sizes::COUNTER_WORDS;
+pub use sizes::SERIES_WORDS;
+pub use sizes::SETTINGS_BYTES;

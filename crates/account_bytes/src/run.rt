@@ -6,6 +6,7 @@ ghost use lib.ListN.{length};
 ghost use lib.Seq.{sets};
 ghost use Rattle.word_bytes.specs.Words.{wordsOf, wordAt, turned};
 ghost use Rattle.word_bytes.specs.Numbers.{signedOf, unsignedOf, floatOf};
+ghost use Rattle.account_bytes.specs.Sizes.{columnSize, accountSize};
 ghost use Rattle.account_bytes.specs.Account.{symbolsAt, numbersAt};
 use word_bytes::float;
 use word_bytes::put_symbol;
@@ -40,7 +41,7 @@ fn whole_numbers(column: [i64; 64])
 
 // A column of 64 symbols, from a place on.
 fn symbols_into(bytes: &[u8], from: usize, column: &mut [u64; 64])
-    requires { ⌜ from + 64 ≤ length (now bytes) / 8 ⌝ }
+    requires { ⌜ from + columnSize ≤ length (now bytes) / 8 ⌝ }
     ensures { λ _. ⌜ now (column .exit) ≡ symbolsAt from (wordsOf (now (bytes .entry))) ⌝ }
 {
     whole_symbols(*column);
@@ -53,7 +54,7 @@ fn symbols_into(bytes: &[u8], from: usize, column: &mut [u64; 64])
 
 // The same from the bytes that end with it: they have a word at each of its places, and the loop compiles to one with no test of that.
 pub(crate) fn read_symbols(bytes: &[u8], from: usize, column: &mut [u64; 64])
-    requires { ⌜ from + 64 ≤ length (now bytes) / 8 ⌝ }
+    requires { ⌜ from + columnSize ≤ length (now bytes) / 8 ⌝ }
     ensures { λ _. ⌜ now (column .exit) ≡ symbolsAt from (wordsOf (now (bytes .entry))) ⌝ }
 {
     let end = 8 * (from + 64);
@@ -62,7 +63,7 @@ pub(crate) fn read_symbols(bytes: &[u8], from: usize, column: &mut [u64; 64])
 
 // A column of 64 signed numbers, from a place on.
 fn numbers_into(bytes: &[u8], from: usize, column: &mut [i64; 64])
-    requires { ⌜ from + 64 ≤ length (now bytes) / 8 ⌝ }
+    requires { ⌜ from + columnSize ≤ length (now bytes) / 8 ⌝ }
     ensures { λ _. ⌜ now (column .exit) ≡ numbersAt from (wordsOf (now (bytes .entry))) ⌝ }
 {
     whole_numbers(*column);
@@ -75,7 +76,7 @@ fn numbers_into(bytes: &[u8], from: usize, column: &mut [i64; 64])
 
 // The same from the bytes that end with it.
 pub(crate) fn read_numbers(bytes: &[u8], from: usize, column: &mut [i64; 64])
-    requires { ⌜ from + 64 ≤ length (now bytes) / 8 ⌝ }
+    requires { ⌜ from + columnSize ≤ length (now bytes) / 8 ⌝ }
     ensures { λ _. ⌜ now (column .exit) ≡ numbersAt from (wordsOf (now (bytes .entry))) ⌝ }
 {
     let end = 8 * (from + 64);
@@ -84,7 +85,7 @@ pub(crate) fn read_numbers(bytes: &[u8], from: usize, column: &mut [i64; 64])
 
 // Words, from a place on.
 pub(crate) fn put_words(bytes: &mut [u8], from: usize, words: &[u64])
-    requires { ⌜ from + length (now words) ≤ 342 ⌝ }
+    requires { ⌜ from + length (now words) ≤ accountSize ⌝ }
     ensures { λ _. ⌜ wordsOf (now (bytes .exit)) ≡ sets (wordsOf (now (bytes .entry))) from (now (words .entry)) ⌝ }
 {
     let mut i = 0;
@@ -96,7 +97,7 @@ pub(crate) fn put_words(bytes: &mut [u8], from: usize, words: &[u64])
 
 // A column of symbols, each as its text.
 pub(crate) fn put_symbols(bytes: &mut [u8], from: usize, column: &[u64; 64])
-    requires { ⌜ from + 64 ≤ 342 ⌝ }
+    requires { ⌜ from + columnSize ≤ accountSize ⌝ }
     ensures { λ _. ⌜ (length (now (column .entry)) ≡ 64) × (wordsOf (now (bytes .exit)) ≡ sets (wordsOf (now (bytes .entry))) from (map turned (now (column .entry)))) ⌝ }
 {
     whole_symbols(*column);
@@ -109,7 +110,7 @@ pub(crate) fn put_symbols(bytes: &mut [u8], from: usize, column: &[u64; 64])
 
 // A column of signed numbers.
 pub(crate) fn put_numbers(bytes: &mut [u8], from: usize, column: &[i64; 64])
-    requires { ⌜ from + 64 ≤ 342 ⌝ }
+    requires { ⌜ from + columnSize ≤ accountSize ⌝ }
     ensures { λ _. ⌜ (length (now (column .entry)) ≡ 64) × (wordsOf (now (bytes .exit)) ≡ sets (wordsOf (now (bytes .entry))) from (map unsignedOf (now (column .entry)))) ⌝ }
 {
     whole_numbers(*column);

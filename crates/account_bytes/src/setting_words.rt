@@ -1,11 +1,30 @@
-// Settings as twelve words.
+// Settings as words.
 ghost use mathlib.Core.Path.{_≡_};
 ghost use Prim.Native.Nat.{_+_, _≤_};
 ghost use Rattle.word_bytes.specs.Words.{wordsOf};
-ghost use Rattle.account_bytes.specs.Settings.{flagWord, isNumber, capMark, capCount, capOf, isCap, settingsWords, settingsAt, areSettings, zeroSettings, readSettings, writtenSettings};
+ghost use Rattle.table.specs.Keyed.{both};
+ghost use Rattle.account_bytes.specs.Sizes.{settingsFrom};
+ghost use Rattle.account_bytes.specs.Settings.{flagWord, isFlag, isNumber, isZero, capMark, capCount, capOf, isCap, costsAt, settingsWords, settingsAt, areRates, areFlags, spareSettings, areSettings, zeroSettings, readSettings, writtenSettings};
 use crate::run::number_at;
 use crate::run::put_words;
 use crate::run::rate_at;
+use crate::sizes::BAND_AT;
+use crate::sizes::CAP_COUNT_AT;
+use crate::sizes::CAP_MARK_AT;
+use crate::sizes::CASH_FIRST_AT;
+use crate::sizes::CEILING_AT;
+use crate::sizes::COMMISSION_AT;
+use crate::sizes::COVER_RULE_AT;
+use crate::sizes::LONG_ONLY_AT;
+use crate::sizes::MAX_NOTIONAL_AT;
+use crate::sizes::MAX_ORDER_AT;
+use crate::sizes::MIN_COMMISSION_AT;
+use crate::sizes::MIN_ORDER_AT;
+use crate::sizes::RECORDING_AT;
+use crate::sizes::SETTINGS_BYTES;
+use crate::sizes::SETTINGS_WORDS;
+use crate::sizes::SLIPPAGE_AT;
+use crate::sizes::STEP_AT;
 use account::Settings;
 use account::TradeCap;
 use cost_model::CostModel;
@@ -26,11 +45,30 @@ fn flag_word(on: bool) -> u64
     if on { 1 } else { 0 }
 }
 
+fn is_flag(w: u64) -> bool
+    ensures { λ r. ⌜ r ≡ isFlag w ⌝ }
+{
+    w < 2
+}
+
 // Whether a pattern is no NaN's.
 fn is_number(w: u64) -> bool
     ensures { λ r. ⌜ r ≡ isNumber w ⌝ }
 {
     w % 0x8000_0000_0000_0000 <= 0x7ff0_0000_0000_0000
+}
+
+// A word that stands for nothing is 0.
+pub(crate) fn is_zero(w: u64) -> bool
+    ensures { λ r. ⌜ r ≡ isZero w ⌝ }
+{
+    w == 0
+}
+
+pub(crate) fn both(a: bool, b: bool) -> bool
+    ensures { λ r. ⌜ r ≡ both a b ⌝ }
+{
+    if a { b } else { false }
 }
 
 // The trade cap is two words: 1 where it is present, and its count, 0 where it is absent.
@@ -69,61 +107,94 @@ fn is_cap(mark: u64, count: u64) -> bool
     if mark == 0 { count == 0 } else { mark == 1 }
 }
 
-// Whether the twelve words from a place on are words of settings.
+// No rate is a NaN.
+fn are_rates(bytes: &[u8], from: usize) -> bool
+    requires { ⌜ from ≤ settingsFrom ⌝ }
+    ensures { λ r. ⌜ r ≡ areRates from (wordsOf (now (bytes .entry))) ⌝ }
+{
+    let commission = is_number(word_at(bytes, from + COMMISSION_AT));
+    let slippage = is_number(word_at(bytes, from + SLIPPAGE_AT));
+    let band = is_number(word_at(bytes, from + BAND_AT));
+    both(commission, both(slippage, band))
+}
+
+fn are_flags(bytes: &[u8], from: usize) -> bool
+    requires { ⌜ from ≤ settingsFrom ⌝ }
+    ensures { λ r. ⌜ r ≡ areFlags from (wordsOf (now (bytes .entry))) ⌝ }
+{
+    let recording = is_flag(word_at(bytes, from + RECORDING_AT));
+    let cash_first = is_flag(word_at(bytes, from + CASH_FIRST_AT));
+    both(recording, cash_first)
+}
+
+fn spare_settings(bytes: &[u8], from: usize) -> bool
+    requires { ⌜ from ≤ settingsFrom ⌝ }
+    ensures { λ r. ⌜ r ≡ spareSettings from (wordsOf (now (bytes .entry))) ⌝ }
+{
+    let ceiling = is_zero(word_at(bytes, from + CEILING_AT));
+    let cover_rule = is_zero(word_at(bytes, from + COVER_RULE_AT));
+    let long_only = is_zero(word_at(bytes, from + LONG_ONLY_AT));
+    both(ceiling, both(cover_rule, long_only))
+}
+
+// Whether the words from a place on are words of settings.
 pub(crate) fn are_settings(bytes: &[u8], from: usize) -> bool
-    requires { ⌜ from ≤ 1 ⌝ }
+    requires { ⌜ from ≤ settingsFrom ⌝ }
     ensures { λ r. ⌜ r ≡ areSettings from (wordsOf (now (bytes .entry))) ⌝ }
 {
-    if !is_number(word_at(bytes, from)) {
-        return false;
-    }
-    if !is_number(word_at(bytes, from + 1)) {
-        return false;
-    }
-    if !is_number(word_at(bytes, from + 6)) {
-        return false;
-    }
-    if !is_cap(word_at(bytes, from + 7), word_at(bytes, from + 8)) {
-        return false;
-    }
-    if 1 < word_at(bytes, from + 10) {
-        return false;
-    }
-    word_at(bytes, from + 11) < 2
+    let rates = are_rates(bytes, from);
+    let cap = is_cap(
+        word_at(bytes, from + CAP_MARK_AT),
+        word_at(bytes, from + CAP_COUNT_AT),
+    );
+    let flags = are_flags(bytes, from);
+    let spare = spare_settings(bytes, from);
+    both(rates, both(cap, both(flags, spare)))
 }
 
-// The settings of the twelve words from a place on.
+fn costs_at(bytes: &[u8], from: usize) -> CostModel
+    requires { ⌜ from ≤ settingsFrom ⌝ }
+    ensures { λ r. ⌜ r ≡ costsAt from (wordsOf (now (bytes .entry))) ⌝ }
+{
+    CostModel {
+        commission_bps: rate_at(bytes, from + COMMISSION_AT),
+        slippage_bps: rate_at(bytes, from + SLIPPAGE_AT),
+        min_commission: number_at(bytes, from + MIN_COMMISSION_AT),
+    }
+}
+
+// The settings of the words from a place on.
 pub(crate) fn settings_at(bytes: &[u8], from: usize) -> Settings
-    requires { ⌜ from ≤ 1 ⌝ }
+    requires { ⌜ from ≤ settingsFrom ⌝ }
     ensures { λ r. ⌜ r ≡ settingsAt from (wordsOf (now (bytes .entry))) ⌝ }
 {
-    let cost_model = CostModel {
-        commission_bps: rate_at(bytes, from),
-        slippage_bps: rate_at(bytes, from + 1),
-        min_commission: number_at(bytes, from + 2),
-    };
+    let cost_model = costs_at(bytes, from);
     Settings {
         cost_model,
-        quantity_step: number_at(bytes, from + 3),
-        min_order_value: number_at(bytes, from + 4),
-        max_order_value: number_at(bytes, from + 5),
-        no_trade_band_bps: rate_at(bytes, from + 6),
-        max_trades_per_rebalance: cap_of(word_at(bytes, from + 7), word_at(bytes, from + 8)),
-        max_rebalance_notional: number_at(bytes, from + 9),
-        recording: word_at(bytes, from + 10) == 1,
-        cash_first: word_at(bytes, from + 11) == 1,
+        quantity_step: number_at(bytes, from + STEP_AT),
+        min_order_value: number_at(bytes, from + MIN_ORDER_AT),
+        max_order_value: number_at(bytes, from + MAX_ORDER_AT),
+        no_trade_band_bps: rate_at(bytes, from + BAND_AT),
+        max_trades_per_rebalance: cap_of(
+            word_at(bytes, from + CAP_MARK_AT),
+            word_at(bytes, from + CAP_COUNT_AT),
+        ),
+        max_rebalance_notional: number_at(bytes, from + MAX_NOTIONAL_AT),
+        recording: word_at(bytes, from + RECORDING_AT) == 1,
+        cash_first: word_at(bytes, from + CASH_FIRST_AT) == 1,
     }
 }
 
-// The twelve words of settings.
-pub(crate) fn settings_words(s: Settings) -> [u64; 12]
+// The words of settings.
+pub(crate) fn settings_words(s: Settings) -> [u64; SETTINGS_WORDS]
     ensures { λ r. ⌜ r ≡ settingsWords s ⌝ }
 {
+    let m = s.cost_model;
     let cap = s.max_trades_per_rebalance;
     [
-        pattern(s.cost_model.commission_bps),
-        pattern(s.cost_model.slippage_bps),
-        unsigned(s.cost_model.min_commission),
+        pattern(m.commission_bps),
+        pattern(m.slippage_bps),
+        unsigned(m.min_commission),
         unsigned(s.quantity_step),
         unsigned(s.min_order_value),
         unsigned(s.max_order_value),
@@ -133,6 +204,9 @@ pub(crate) fn settings_words(s: Settings) -> [u64; 12]
         unsigned(s.max_rebalance_notional),
         flag_word(s.recording),
         flag_word(s.cash_first),
+        0,
+        0,
+        0,
     ]
 }
 
@@ -152,11 +226,11 @@ pub(crate) fn zero_settings() -> Settings
     }
 }
 
-// The settings that 96 bytes hold.
+// The settings that so many bytes hold.
 pub fn read_settings(bytes: &[u8]) -> ReadSettings
     ensures { λ r. ⌜ r ≡ readSettings (now (bytes .entry)) ⌝ }
 {
-    if bytes.len() == 96 {
+    if bytes.len() == SETTINGS_BYTES {
         if are_settings(bytes, 0) {
             return ReadSettings {
                 good: true,
@@ -170,11 +244,11 @@ pub fn read_settings(bytes: &[u8]) -> ReadSettings
     }
 }
 
-// The settings into 96 bytes. Nothing is written where the length is another.
+// The settings into so many bytes. Nothing is written where the length is another.
 pub fn write_settings(s: Settings, bytes: &mut [u8])
     ensures { λ _. ⌜ now (bytes .exit) ≡ writtenSettings s (now (bytes .entry)) ⌝ }
 {
-    if bytes.len() != 96 {
+    if bytes.len() != SETTINGS_BYTES {
         return;
     }
     let words = settings_words(s);

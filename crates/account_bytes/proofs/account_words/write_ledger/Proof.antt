@@ -11,6 +11,7 @@ use Rattle.account.specs.Account.{accountWith}
 use Rattle.word_bytes.specs.Words.{wordsOf}
 use Rattle.word_bytes.specs.Numbers.{unsignedOf}
 use Rattle.word_bytes.proofs.Words.{octets, length-words, words-put}
+use Rattle.account_bytes.specs.Sizes.{settingsFrom, countersFrom, accountSize, accountLength}
 use Rattle.account_bytes.specs.Account.{accountWords, writtenAccount}
 use Rattle.account_bytes.proofs.Runs.{stored}
 use Rattle.account_bytes.proofs.Writing.{account-put, bytes-are}
@@ -71,14 +72,14 @@ returns-2 c =
     let g = s .args in
     let a = accountWith (g .h) (cols (g .symbol .now) (g .quantity .now) (g .average .now) (g .realized .now) (g .total .now)) in
     let l = s .args .bytes .now in
-    let n : length l ≡ 2736 = e .if1 .left in
+    let n : length l ≡ accountLength = e .if1 .left in
     let f : SFits w64 (a .cash) = cash-fits s in
-    let m : length (wordsOf l) ≡ 342 = length-words (length l / 8) l ∙ omega arith in
+    let m : length (wordsOf l) ≡ accountSize = length-words (length l / 8) l ∙ omega arith in
     let e1 : wordsOf (p1 .put-word .last .0) ≡ set (wordsOf l) 0 (unsignedOf (a .cash)) = ap wordsOf (p1 .put-word .ensures) ∙ words-put l 0 (u .unsigned .result) (u .unsigned .ok) ∙ ap (set (wordsOf l) 0) (stored f (u .unsigned .ensures)) in
-    let e2 = p2 .put-words .ensures ∙ ap (sets (wordsOf (p1 .put-word .last .0)) 1) (q .settings-words .ensures) in
-    let e3 = p3 .put-words2 .ensures ∙ ap (sets (wordsOf (p2 .put-words .last .0)) 13) (k .count-words .ensures) in
+    let e2 = p2 .put-words .ensures ∙ ap (sets (wordsOf (p1 .put-word .last .0)) settingsFrom) (q .settings-words .ensures) in
+    let e3 = p3 .put-words2 .ensures ∙ ap (sets (wordsOf (p2 .put-words .last .0)) countersFrom) (k .count-words .ensures) in
     let w : wordsOf (p4 .put-columns .last .0) ≡ accountWords a = account-put a (p4 .put-columns .ensures .0) (wordsOf l) (wordsOf (p1 .put-word .last .0)) (wordsOf (p2 .put-words .last .0)) (wordsOf (p3 .put-words2 .last .0)) (wordsOf (p4 .put-columns .last .0)) m e1 e2 e3 (p4 .put-columns .ensures .1) in
-    simp (eq-eqb _ _ n) (bytes-are 342 (p4 .put-columns .last .0) (accountWords a) (octets (p4 .put-columns .last .0) (λ i h. omega (arith, c .slice-known5 .given i))) (omega (arith, p4 .put-columns .kept .0, p3 .put-words2 .kept .0, p2 .put-words .kept .0, p1 .put-word .kept .0)) w)
+    simp (eq-eqb _ _ n) (bytes-are accountSize (p4 .put-columns .last .0) (accountWords a) (octets (p4 .put-columns .last .0) (λ i h. omega (arith, c .slice-known5 .given i))) (omega (arith, p4 .put-columns .kept .0, p3 .put-words2 .kept .0, p2 .put-words .kept .0, p1 .put-word .kept .0)) w)
 
 pub write-ledger-spec : {M : Type 1} → statement M
 write-ledger-spec =

@@ -10,6 +10,7 @@ use mir.Val.{SFits}
 use borrow.Author.Tests.{not-true, not-false}
 use Rattle.word_bytes.specs.Words.{wordsOf}
 use Rattle.word_bytes.proofs.Words.{octets}
+use Rattle.account_bytes.specs.Sizes.{seriesFrom}
 use Rattle.account_bytes.specs.Account.{writtenSeries}
 use Rattle.account_bytes.proofs.Runs.{stored}
 use Rattle.account_bytes.proofs.AccountKept.{series-written}
@@ -53,7 +54,7 @@ returns-2 c =
     let t = s .args .s in
     let l = s .args .bytes .now in
     let m = p .put-words .last .0 in
-    let w = p .put-words .ensures ∙ ap (λ (x : ℕ). sets (wordsOf l) 18 (t .«equity_count» ∷ t .«return_count» ∷ x ∷ [])) (stored (equity-fits s) (u .unsigned .ensures)) in
+    let w = p .put-words .ensures ∙ ap (λ (x : ℕ). sets (wordsOf l) seriesFrom (t .«equity_count» ∷ t .«return_count» ∷ x ∷ [])) (stored (equity-fits s) (u .unsigned .ensures)) in
     series-written t l m (octets l (λ j h. omega (arith, k .slice-known .given j))) (octets m (λ j h. omega (arith, c .slice-known2 .given j))) (sym (i .is-account .ensures) ∙ not-false _ (e .if1 .left)) (omega (arith, p .put-words .kept .0)) w
 
 pub write-series-spec : {M : Type 1} → statement M

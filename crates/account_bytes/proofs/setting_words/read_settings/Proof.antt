@@ -2,7 +2,7 @@
 use mathlib.Core.Path.{sym, _∙_}
 use mathlib.Core.Logic.{⊎-elim}
 use borrow.Author.Tests.{eq-eqb, ne-eqb}
-use Rattle.account_bytes.specs.Settings.{readSettings}
+use Rattle.account_bytes.specs.Settings.{holdSettings, readSettings}
 use borrow.Author.Needs.{needs}
 use Rattle.account_bytes.proofs.setting_words.read_settings.Statement.{statement}
 use Rattle.account_bytes.proofs.setting_words.read_settings.Tie as tie
@@ -14,7 +14,7 @@ settings-at-requires : tie.Need-settings-at-requires
 settings-at-requires c κs = search needs
 
 returns : tie.Need-returns
-unfolding readSettings
+unfolding readSettings holdSettings
 returns c =
     let t = c .before in
     simp (eq-eqb _ _ (t .before .before .if1 .taken), sym (t .before .are-settings .ensures) ∙ t .if2 .taken, c .settings-at .ensures)
@@ -23,7 +23,7 @@ zero-settings-requires : tie.Need-zero-settings-requires
 zero-settings-requires c κs = search needs
 
 returns-2 : tie.Need-returns-2
-unfolding readSettings
+unfolding readSettings holdSettings
 returns-2 c =
     ⊎-elim
     (λ w. simp (eq-eqb _ _ (w .0 .taken), sym (w .1 .ensures) ∙ w .2 .left, c .zero-settings .ensures))

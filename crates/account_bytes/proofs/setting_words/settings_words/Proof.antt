@@ -1,7 +1,7 @@
 -- Each word from its own field.
 use mir.Syntax.{w64}
 use mir.Val.{SFits}
-use Rattle.account_bytes.specs.Settings.{settingsWords}
+use Rattle.account_bytes.specs.Settings.{costsOf, settingsWords}
 use Rattle.account_bytes.proofs.Runs.{stored}
 use borrow.Author.Needs.{needs}
 use Rattle.account_bytes.proofs.setting_words.settings_words.Statement.{statement}
@@ -46,8 +46,8 @@ flag-word-requires-2 c κs = search needs
 returns : tie.Need-returns
 unfolding settingsWords
 returns c =
-    let a = c .before .before .before .before .before .before .before .before .before .before .before .before .before .before .before .before .before .args .s in
-    let f1 : SFits w64 (a .«cost_model» .«min_commission») = search needs in
+    let a = c .before .before .before .before .before .before .before .before .before .before .before .before .before .before .before .before .before .before .args .s in
+    let f1 : SFits w64 (costsOf a .«min_commission») = search needs in
     let f2 : SFits w64 (a .«quantity_step») = search needs in
     let f3 : SFits w64 (a .«min_order_value») = search needs in
     let f4 : SFits w64 (a .«max_order_value») = search needs in

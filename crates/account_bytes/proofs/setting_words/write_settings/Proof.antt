@@ -6,6 +6,7 @@ use lib.ListN.{length}
 use lib.Seq.{sets}
 use Rattle.word_bytes.specs.Words.{wordsOf}
 use Rattle.word_bytes.proofs.Words.{octets, length-words}
+use Rattle.account_bytes.specs.Sizes.{settingsSize, settingsLength}
 use Rattle.account_bytes.specs.Settings.{settingsWords, writtenSettings}
 use Rattle.account_bytes.proofs.Writing.{sets-all, bytes-are, length-settings}
 use borrow.Author.Tests.{eq-eqb, ne-eqb}
@@ -37,11 +38,11 @@ returns-2 c =
     let e = q .before in
     let s = e .before .before .args in
     let l = s .bytes .now in
-    let n : length l ≡ 96 = e .if1 .left in
+    let n : length l ≡ settingsLength = e .if1 .left in
     let r : q .settings-words .result ≡ settingsWords (s .s) = q .settings-words .ensures in
     let m : length (wordsOf l) ≡ length (settingsWords (s .s)) = length-words (length l / 8) l ∙ omega (arith, length-settings (s .s)) in
     let w : wordsOf (p .put-words .last .0) ≡ settingsWords (s .s) = p .put-words .ensures ∙ ap (sets (wordsOf l) 0) r ∙ sets-all (wordsOf l) (settingsWords (s .s)) m in
-    simp (eq-eqb _ _ n) (bytes-are 12 (p .put-words .last .0) (settingsWords (s .s)) (octets (p .put-words .last .0) (λ i h. omega (arith, c .slice-known2 .given i))) (omega (arith, p .put-words .kept .0)) w)
+    simp (eq-eqb _ _ n) (bytes-are settingsSize (p .put-words .last .0) (settingsWords (s .s)) (octets (p .put-words .last .0) (λ i h. omega (arith, c .slice-known2 .given i))) (omega (arith, p .put-words .kept .0)) w)
 
 pub write-settings-spec : {M : Type 1} → statement M
 write-settings-spec =

@@ -1,0 +1,57 @@
+-- Each test with its own word.
+use borrow.Author.Needs.{needs}
+use Rattle.account_bytes.proofs.setting_words.spare_settings.Statement.{statement}
+use Rattle.account_bytes.proofs.setting_words.spare_settings.Tie as tie
+
+add-word-at : tie.Need-add-word-at
+add-word-at c = search needs
+
+word-at-requires : tie.Need-word-at-requires
+word-at-requires c κs = search needs
+
+is-zero-requires : tie.Need-is-zero-requires
+is-zero-requires c κs = search needs
+
+add-word-at-2 : tie.Need-add-word-at-2
+add-word-at-2 c = search needs
+
+word-at-requires-2 : tie.Need-word-at-requires-2
+word-at-requires-2 c κs = search needs
+
+is-zero-requires-2 : tie.Need-is-zero-requires-2
+is-zero-requires-2 c κs = search needs
+
+add-word-at-3 : tie.Need-add-word-at-3
+add-word-at-3 c = search needs
+
+word-at-requires-3 : tie.Need-word-at-requires-3
+word-at-requires-3 c κs = search needs
+
+is-zero-requires-3 : tie.Need-is-zero-requires-3
+is-zero-requires-3 c κs = search needs
+
+both-requires : tie.Need-both-requires
+both-requires c κs = search needs
+
+both-requires-2 : tie.Need-both-requires-2
+both-requires-2 c κs = search needs
+
+returns : tie.Need-returns
+returns c = cc
+
+pub spare-settings-spec : {M : Type 1} → statement M
+spare-settings-spec =
+    tie.close
+    (tie.spec
+    add-word-at
+    word-at-requires
+    is-zero-requires
+    add-word-at-2
+    word-at-requires-2
+    is-zero-requires-2
+    add-word-at-3
+    word-at-requires-3
+    is-zero-requires-3
+    both-requires
+    both-requires-2
+    returns)
