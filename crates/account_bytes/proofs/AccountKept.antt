@@ -266,16 +266,16 @@ record Good (l : List ℕ) : Type 0 where
   long : length l ≡ accountLength
   passed : Octets l → Passed (wordsOf l)
 
+words-pass : (l : List ℕ) → length l ≡ accountLength → areSettings settingsFrom (wordsOf l) ≡ true → spareCounters (wordsOf l) ≡ true → Octets l → Passed (wordsOf l)
+words-pass l n s z o = record { fit = words-fit (length l / 8) l o (omega arith); long = length-words (length l / 8) l ∙ omega arith; settings = s; spare = z }
+
 good : (l : List ℕ) → readAccount l .good ≡ true → Good l
 unfolding holdAccount
 good l g =
     let b = both-true _ _ (sym (good-is l) ∙ g) in
     let c = both-true _ _ (b .1) in
     let n : length l ≡ accountLength = eqb-true (length l) accountLength (b .0) in
-    record {
-      long = n;
-      passed = λ o. record { fit = words-fit (length l / 8) l o (omega arith); long = length-words (length l / 8) l ∙ omega arith; settings = c .0; spare = c .1 };
-    }
+    record { long = n; passed = words-pass l n (c .0) (c .1) }
 
 pub good-long : (l : List ℕ) → readAccount l .good ≡ true → length l ≡ accountLength
 good-long l g = good l g .long

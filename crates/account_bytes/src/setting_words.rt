@@ -143,10 +143,9 @@ pub(crate) fn are_settings(bytes: &[u8], from: usize) -> bool
     ensures { λ r. ⌜ r ≡ areSettings from (wordsOf (now (bytes .entry))) ⌝ }
 {
     let rates = are_rates(bytes, from);
-    let cap = is_cap(
-        word_at(bytes, from + CAP_MARK_AT),
-        word_at(bytes, from + CAP_COUNT_AT),
-    );
+    let mark = word_at(bytes, from + CAP_MARK_AT);
+    let count = word_at(bytes, from + CAP_COUNT_AT);
+    let cap = is_cap(mark, count);
     let flags = are_flags(bytes, from);
     let spare = spare_settings(bytes, from);
     both(rates, both(cap, both(flags, spare)))
@@ -169,16 +168,15 @@ pub(crate) fn settings_at(bytes: &[u8], from: usize) -> Settings
     ensures { λ r. ⌜ r ≡ settingsAt from (wordsOf (now (bytes .entry))) ⌝ }
 {
     let cost_model = costs_at(bytes, from);
+    let mark = word_at(bytes, from + CAP_MARK_AT);
+    let count = word_at(bytes, from + CAP_COUNT_AT);
     Settings {
         cost_model,
         quantity_step: number_at(bytes, from + STEP_AT),
         min_order_value: number_at(bytes, from + MIN_ORDER_AT),
         max_order_value: number_at(bytes, from + MAX_ORDER_AT),
         no_trade_band_bps: rate_at(bytes, from + BAND_AT),
-        max_trades_per_rebalance: cap_of(
-            word_at(bytes, from + CAP_MARK_AT),
-            word_at(bytes, from + CAP_COUNT_AT),
-        ),
+        max_trades_per_rebalance: cap_of(mark, count),
         max_rebalance_notional: number_at(bytes, from + MAX_NOTIONAL_AT),
         recording: word_at(bytes, from + RECORDING_AT) == 1,
         cash_first: word_at(bytes, from + CASH_FIRST_AT) == 1,
