@@ -21,10 +21,60 @@ extern "C" {
 #define TC_MAX_PRICES 128
 #define TC_MAX_RETURNS 4096
 
-#define TC_ACCOUNT_BYTES 2736
-#define TC_SETTINGS_BYTES 96
-#define TC_COUNTERS_BYTES 40
-#define TC_SERIES_BYTES 24
+/* The words of settings, eight bytes each, by their places. The last three stand for no setting and are 0. */
+enum tc_settings_word {
+    TC_COMMISSION_AT = 0,
+    TC_SLIPPAGE_AT = 1,
+    TC_MIN_COMMISSION_AT = 2,
+    TC_STEP_AT = 3,
+    TC_MIN_ORDER_AT = 4,
+    TC_MAX_ORDER_AT = 5,
+    TC_BAND_AT = 6,
+    TC_CAP_MARK_AT = 7,
+    TC_CAP_COUNT_AT = 8,
+    TC_MAX_NOTIONAL_AT = 9,
+    TC_RECORDING_AT = 10,
+    TC_CASH_FIRST_AT = 11,
+    TC_CEILING_AT = 12,
+    TC_COVER_RULE_AT = 13,
+    TC_LONG_ONLY_AT = 14,
+    TC_SETTINGS_WORDS = 15
+};
+
+/* The words of the counters that tc_counters tells. The last two stand for no counter and are 0. */
+enum tc_counters_word {
+    TC_ORDER_COUNT_AT = 0,
+    TC_LAST_NOTIONAL_AT = 1,
+    TC_TRIMMED_COUNT_AT = 2,
+    TC_SHORTFALL_AT = 3,
+    TC_RECORD_COUNT_AT = 4,
+    TC_OPEN_COUNT_AT = 5,
+    TC_CLOSED_TOTAL_AT = 6,
+    TC_COUNTERS_WORDS = 7
+};
+
+/* The words of the series that tc_series tells. */
+enum tc_series_word { TC_EQUITY_COUNT_AT = 0, TC_RETURN_COUNT_AT = 1, TC_PREV_EQUITY_AT = 2, TC_SERIES_WORDS = 3 };
+
+/* Where the parts of an account begin; its last five are columns of TC_MAX_POSITIONS words. */
+enum tc_account_word {
+    TC_CASH_AT = 0,
+    TC_SETTINGS_AT = 1,
+    TC_COUNTERS_AT = 16,
+    TC_SERIES_AT = 23,
+    TC_COUNT_AT = 26,
+    TC_SYMBOLS_AT = 27,
+    TC_QUANTITIES_AT = 91,
+    TC_AVERAGES_AT = 155,
+    TC_REALIZED_AT = 219,
+    TC_TOTALS_AT = 283,
+    TC_ACCOUNT_WORDS = 347
+};
+
+#define TC_ACCOUNT_BYTES (8 * TC_ACCOUNT_WORDS)
+#define TC_SETTINGS_BYTES (8 * TC_SETTINGS_WORDS)
+#define TC_COUNTERS_BYTES (8 * TC_COUNTERS_WORDS)
+#define TC_SERIES_BYTES (8 * TC_SERIES_WORDS)
 #define TC_TARGET_BYTES 16
 #define TC_PRICE_BYTES 16
 #define TC_WEIGHT_BYTES 16
@@ -51,7 +101,7 @@ enum tc_answer {
     TC_NO_RECORD_ROOM = 8,  /* recording is on and the record buffer has too few places */
     TC_NOT_HELD = 9,        /* a close names an absent or flat position */
     TC_BUFFER_FULL = 10,    /* the equity or return buffer has no free place */
-    TC_UNSOUND = 11,        /* the account is not sound */
+    TC_UNSOUND = 11,        /* the account is not sound, or its bytes have another length */
     TC_BAD_SERIES = 12      /* a return series is empty or has a non-finite member */
 };
 #define TC_ANSWER(r) ((r) & 0xff)
@@ -61,7 +111,7 @@ enum tc_kind { TC_REBALANCE = 0, TC_STOP_EXIT = 1 };
 
 /* ---- the account, as TC_ACCOUNT_BYTES bytes. A refusal leaves every lent place as found. */
 
-/* Opening: settings are TC_SETTINGS_BYTES bytes; the cash becomes the first equity. */
+/* Opening: settings are TC_SETTINGS_BYTES bytes; the cash becomes the first equity. Account bytes of another length answer 11. */
 uint64_t tc_open(int64_t cash, const uint8_t *settings, size_t settings_bytes, uint8_t *account, size_t account_bytes,
                  int64_t *equities, size_t equity_places);
 

@@ -53,10 +53,10 @@ static void leaves(void)
 static void case_d(void)
 {
     uint8_t settings[TC_SETTINGS_BYTES] = {0};
-    put_double(settings, 0, 10);
-    put(settings, 2, 100);
-    put(settings, 3, TC_SCALE);
-    put(settings, 10, 1); /* recording */
+    put_double(settings, TC_COMMISSION_AT, 10);
+    put(settings, TC_MIN_COMMISSION_AT, 100);
+    put(settings, TC_STEP_AT, TC_SCALE);
+    put(settings, TC_RECORDING_AT, 1);
     uint8_t account[TC_ACCOUNT_BYTES];
     int64_t equities[1];
     held("d, opening", (int64_t)tc_open(100000, settings, sizeof settings, account, sizeof account, equities, 1), TC_DONE);
@@ -78,8 +78,8 @@ static void case_d(void)
     held("d, cash", (int64_t)word(cash, 0), 900);
     uint8_t counters[TC_COUNTERS_BYTES];
     held("d, counters query", (int64_t)tc_counters(account, sizeof account, counters, sizeof counters), TC_DONE);
-    held("d, trimmed", (int64_t)word(counters, 2), 1);
-    held("d, shortfall", (int64_t)word(counters, 3), 1000);
+    held("d, trimmed", (int64_t)word(counters, TC_TRIMMED_COUNT_AT), 1);
+    held("d, shortfall", (int64_t)word(counters, TC_SHORTFALL_AT), 1000);
 
     r = tc_rebalance_simple(account, sizeof account, target, sizeof target, price, sizeof price, 0, 2, records,
                             sizeof records);

@@ -5,12 +5,11 @@ use Prim.Native.Nat.{ℕ, _+_, _/_, _<_, _^_}
 use native.Mathlib.Omega.{arith}
 use mathlib.Core.List.{List, [], _∷_, _++_, map, append-nil}
 use lib.ListN.{length, getD, take, drop, length-map, drop-of-length-le}
-use lib.Dec.{eqb}
 use lib.Seq.{sets, take-at, drop-at, drop-cons, drop-drop, take-all}
 use mir.Syntax.{w64}
 use mir.Val.{SFits}
 use borrow.Author.Tests.{eq-eqb, eqb-true}
-use Rattle.table.specs.Keyed.{pick, both}
+use Rattle.table.specs.Keyed.{pick}
 use Rattle.table.specs.Rows.{Cols, Full, columnsOf}
 use Rattle.table.proofs.Keyed.{both-true}
 use Rattle.table.specs.declared.table.Table.{Table}

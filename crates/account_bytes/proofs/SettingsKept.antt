@@ -27,7 +27,7 @@ use Rattle.word_bytes.specs.Numbers.{signedOf, unsignedOf, floatOf, patternOf}
 use Rattle.word_bytes.proofs.Words.{Words, Octets, length-words, words-bytes, length-bytes, words-fit, bytes-words}
 use Rattle.word_bytes.proofs.Numbers.{signed-unsigned, unsigned-signed, unsigned-lt, float-pattern, pattern-float, pattern-lt}
 use Rattle.account_bytes.specs.Sizes.{settingsSize, settingsLength, commissionAt, slippageAt, bandAt, capMarkAt, capCountAt, recordingAt, cashFirstAt, ceilingAt, coverRuleAt, longOnlyAt}
-use Rattle.account_bytes.specs.Settings.{flagWord, flagOf, isFlag, isNumber, isZero, capMark, capCount, capOf, isCap, costsOf, settingsWords, settingsAt, areRates, areFlags, spareSettings, areSettings, gotSettings, noSettings, holdSettings, readSettings, writtenSettings}
+use Rattle.account_bytes.specs.Settings.{flagWord, flagOf, isFlag, isNumber, capMark, capCount, capOf, isCap, costsOf, settingsWords, settingsAt, areRates, areFlags, spareSettings, areSettings, gotSettings, noSettings, holdSettings, readSettings, writtenSettings}
 use Rattle.account_bytes.proofs.Writing.{length-settings}
 use Rattle.account_bytes.proofs.Lists.{run, run-is, word-lt}
 

@@ -9,11 +9,12 @@ use lib.ListN.{length}
 use mir.Syntax.{w64}
 use mir.Val.{toZ, ofZ, SFits}
 use mir.ValLaws.{toZ-ofZ}
-use borrow.Author.Tests.{ne-eqb}
+use borrow.Author.Tests.{eq-eqb, ne-eqb}
 use Rattle.answer.specs.declared.Answer.the-variants.{Done, BadSetting, Unsound}
 use Rattle.answer.specs.Numbers.{numberOf}
 use Rattle.table.specs.Keyed.{pick, both}
 use Rattle.table.specs.Rows.{emptyTable}
+use Rattle.table.proofs.Keyed.{both-true}
 use Rattle.word_bytes.specs.Words.{wordsOf}
 use Rattle.cost_model.specs.Costs.{free, goodCosts}
 use Rattle.account.specs.declared.account.Account.{Account}
@@ -22,8 +23,9 @@ use Rattle.account.specs.declared.change.Changed.{Changed}
 use Rattle.account.specs.Settings.{goodSettings}
 use Rattle.account.specs.Account.{soundTable, soundScalars, soundAccount, withSettings}
 use Rattle.account.specs.Calls.{zeroAccount, answered, changed}
-use Rattle.account_bytes.specs.Settings.{areSettings}
-use Rattle.account_bytes.specs.Account.{gotAccount, noAccount, accountOf, readAccount, writtenAccount}
+use Rattle.account_bytes.specs.Sizes.{accountLength}
+use Rattle.account_bytes.specs.Account.{gotAccount, noAccount, accountOf, holdAccount, readAccount, writtenAccount}
+use Rattle.account_bytes.proofs.AccountKept.{good-long}
 use Rattle.c_accounts.specs.Entries.{accountIn, soundIn, accountBytes, told, answering, unlessUnsound}
 use Rattle.c_accounts.specs.Setters.{setIn, filed}
 
@@ -43,16 +45,12 @@ good-or-zero false a = sym zero-unsound
 
 pub sound-in : (b : List ℕ) → soundIn b ≡ soundAccount (accountIn b)
 unfolding soundIn readAccount
-sound-in b = good-or-zero (both (eqb (length b) 2736) (areSettings 1 (wordsOf b))) (accountOf (wordsOf b))
+sound-in b = good-or-zero (holdAccount b) (accountOf (wordsOf b))
 
 -- the bytes of a sound account are as many as are written
-long-or-zero : (t u : Bool) (a : Account) → both (pick (both t u) (gotAccount a) noAccount .good) (soundAccount (pick (both t u) (gotAccount a) noAccount .account)) ≡ true → t ≡ true
-long-or-zero true u a e = refl
-long-or-zero false u a e = e
-
-pub sound-length : (b : List ℕ) → soundIn b ≡ true → eqb (length b) 2736 ≡ true
-unfolding soundIn readAccount
-sound-length b e = long-or-zero (eqb (length b) 2736) (areSettings 1 (wordsOf b)) (accountOf (wordsOf b)) e
+pub sound-length : (b : List ℕ) → soundIn b ≡ true → eqb (length b) accountLength ≡ true
+unfolding soundIn
+sound-length b e = eq-eqb (length b) accountLength (good-long b (both-true (readAccount b .good) (soundAccount (accountIn b)) e .0))
 
 pub written-sound : (a : Account) (b : List ℕ) → soundIn b ≡ true → writtenAccount a b ≡ accountBytes a
 unfolding writtenAccount accountBytes

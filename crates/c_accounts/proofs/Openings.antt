@@ -3,18 +3,18 @@ use mathlib.Core.Path.{_≡_, refl, sym, _∙_, ap}
 use Prim.Native.Nat.{ℕ, _≤_, _<_}
 use mathlib.Core.Bool.{Bool, true, false}
 use mathlib.Core.List.{List}
-use lib.Dec.{eqb}
 use lib.IntN.{ℤ}
 use lib.ListN.{length, set}
 use borrow.Author.Tests.{eq-eqb, ne-eqb, lt-ltb, le-ltb}
-use Rattle.answer.specs.declared.Answer.the-variants.{Done, BadSetting, TooLong, BufferFull}
+use Rattle.answer.specs.declared.Answer.the-variants.{Done, BadSetting, BufferFull, Unsound}
 use Rattle.table.specs.Keyed.{pick, both}
 use Rattle.word_bytes.specs.Words.{wordsOf, bytesOf}
 use Rattle.cost_model.specs.Costs.{free, goodCosts}
 use Rattle.account.specs.declared.settings.Settings.{Settings}
 use Rattle.account.specs.Settings.{atLeast, goodSettings}
 use Rattle.account.specs.Account.{soundScalars}
-use Rattle.account_bytes.specs.Settings.{zeroSettings, gotSettings, noSettings, settingsAt, areSettings, readSettings}
+use Rattle.account_bytes.specs.Sizes.{accountLength}
+use Rattle.account_bytes.specs.Settings.{zeroSettings, gotSettings, noSettings, settingsAt, holdSettings, readSettings}
 use Rattle.account_bytes.specs.Account.{accountWords, writtenAccount}
 use Rattle.c_accounts.specs.Entries.{accountBytes}
 use Rattle.c_accounts.specs.Opening.{opening, openAccount, soundOpening, openIn}
@@ -35,26 +35,26 @@ good-or-zero false cash s = sym (zero-bad cash)
 
 pub sound-opening : (cash : ℤ) (g : List ℕ) → soundOpening cash g ≡ soundScalars cash (readSettings g .settings)
 unfolding soundOpening readSettings
-sound-opening cash g = good-or-zero (both (eqb (length g) 96) (areSettings 0 (wordsOf g))) cash (settingsAt 0 (wordsOf g))
+sound-opening cash g = good-or-zero (holdSettings g) cash (settingsAt 0 (wordsOf g))
 
 -- ---- each way out
 module _ (cash : ℤ) (g b : List ℕ) (es : List ℤ) where
-  pub open-bad : soundScalars cash (readSettings g .settings) ≡ false → opening BadSetting b es ≡ openIn cash g b es
+  pub open-short : (length b ≡ accountLength → ⊥) → opening Unsound b es ≡ openIn cash g b es
   unfolding openIn
-  open-bad e = let t = sound-opening cash g ∙ e in simp t
+  open-short n = simp (ne-eqb (length b) accountLength n)
 
-  pub open-short : soundScalars cash (readSettings g .settings) ≡ true → (length b ≡ 2736 → ⊥) → opening TooLong b es ≡ openIn cash g b es
+  pub open-bad : length b ≡ accountLength → soundScalars cash (readSettings g .settings) ≡ false → opening BadSetting b es ≡ openIn cash g b es
   unfolding openIn
-  open-short e n = let t = sound-opening cash g ∙ e in simp (t, ne-eqb (length b) 2736 n)
+  open-bad n e = let t = sound-opening cash g ∙ e in simp (eq-eqb (length b) accountLength n, t)
 
-  pub open-full : soundScalars cash (readSettings g .settings) ≡ true → length b ≡ 2736 → length es ≤ 0 → opening BufferFull b es ≡ openIn cash g b es
+  pub open-full : length b ≡ accountLength → soundScalars cash (readSettings g .settings) ≡ true → length es ≤ 0 → opening BufferFull b es ≡ openIn cash g b es
   unfolding openIn
-  open-full e n f = let t = sound-opening cash g ∙ e in simp (t, eq-eqb (length b) 2736 n, le-ltb 0 (length es) f)
+  open-full n e f = let t = sound-opening cash g ∙ e in simp (eq-eqb (length b) accountLength n, t, le-ltb 0 (length es) f)
 
-  pub open-done : (l : List ℕ) → soundScalars cash (readSettings g .settings) ≡ true → length b ≡ 2736 → 0 < length es → l ≡ writtenAccount (openAccount cash (readSettings g .settings)) b → opening Done l (set es 0 cash) ≡ openIn cash g b es
+  pub open-done : (l : List ℕ) → length b ≡ accountLength → soundScalars cash (readSettings g .settings) ≡ true → 0 < length es → l ≡ writtenAccount (openAccount cash (readSettings g .settings)) b → opening Done l (set es 0 cash) ≡ openIn cash g b es
   unfolding openIn writtenAccount accountBytes
-  open-done l e n f w =
+  open-done l n e f w =
       let t = sound-opening cash g ∙ e in
-      let q = eq-eqb (length b) 2736 n in
+      let q = eq-eqb (length b) accountLength n in
       let v : l ≡ bytesOf (accountWords (openAccount cash (readSettings g .settings))) = simp q at w in
-      simp (t, q, lt-ltb 0 (length es) f) (ap (λ (x : List ℕ). opening Done x (set es 0 cash)) v)
+      simp (q, t, lt-ltb 0 (length es) f) (ap (λ (x : List ℕ). opening Done x (set es 0 cash)) v)

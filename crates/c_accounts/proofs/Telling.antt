@@ -19,6 +19,7 @@ use Rattle.word_bytes.specs.Words.{bytesOf, turned}
 use Rattle.account.specs.declared.account.Account.{Account}
 use Rattle.account.specs.Account.{heldIn, soundAccount}
 use Rattle.account.specs.Calls.{absent, present, presentOr, positionOf, positionAt}
+use Rattle.account_bytes.specs.Sizes.{settingsLength}
 use Rattle.account_bytes.specs.Settings.{settingsWords, writtenSettings}
 use Rattle.c_accounts.specs.Entries.{accountIn, settingsIn, soundIn, told, answering, unlessUnsound}
 use Rattle.c_accounts.specs.Queries.{queried, heldWords, settingsTold, tellIn}
@@ -108,14 +109,14 @@ module _ (b out : List ℕ) (a : Account) (n : ℕ) (h : a ≡ accountIn b) (e :
       let m : n ≡ 11 = k ∙ ap (λ (x : Bool). numberOf (pick x Done Unsound)) t in
       simp (t, m)
 
-  pub settings-short : n ≡ 0 → (length out ≡ 96 → ⊥) → answering TooLong out ≡ settingsTold b out
+  pub settings-short : n ≡ 0 → (length out ≡ settingsLength → ⊥) → answering TooLong out ≡ settingsTold b out
   unfolding queried
-  settings-short z f = simp (sound-of (soundIn b) n (number-in b Done a n h e) z, ne-eqb (length out) 96 f)
+  settings-short z f = simp (sound-of (soundIn b) n (number-in b Done a n h e) z, ne-eqb (length out) settingsLength f)
 
-  pub settings-done : (l : List ℕ) → n ≡ 0 → length out ≡ 96 → l ≡ writtenSettings (a .settings) out → told n l ≡ settingsTold b out
+  pub settings-done : (l : List ℕ) → n ≡ 0 → length out ≡ settingsLength → l ≡ writtenSettings (a .settings) out → told n l ≡ settingsTold b out
   unfolding queried writtenSettings
   settings-done l z f w =
-      let q = eq-eqb (length out) 96 f in
+      let q = eq-eqb (length out) settingsLength f in
       let v : l ≡ bytesOf (settingsWords (a .settings)) = simp q at w in
       let u : l ≡ bytesOf (settingsWords (settingsIn b)) = v ∙ ap (λ (x : Account). bytesOf (settingsWords (x .settings))) h in
       simp (sound-of (soundIn b) n (number-in b Done a n h e) z, q, z, u)

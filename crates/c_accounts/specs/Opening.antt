@@ -6,13 +6,14 @@ use lib.Dec.{eqb, ltb}
 use lib.IntN.{ℤ}
 use lib.ListN.{length, set}
 use Rattle.answer.specs.declared.Answer.{Answer}
-use Rattle.answer.specs.declared.Answer.the-variants.{Done, BadSetting, TooLong, BufferFull}
+use Rattle.answer.specs.declared.Answer.the-variants.{Done, BadSetting, BufferFull, Unsound}
 use Rattle.answer.specs.Numbers.{numberOf}
 use Rattle.table.specs.Keyed.{pick, both}
 use Rattle.account.specs.declared.account.Account.{Account}
 use Rattle.account.specs.declared.settings.Settings.{Settings}
 use Rattle.account.specs.Account.{soundScalars}
 use Rattle.account.specs.Calls.{emptyAccount, series}
+use Rattle.account_bytes.specs.Sizes.{accountLength}
 use Rattle.account_bytes.specs.Settings.{readSettings}
 use Rattle.c_accounts.specs.Entries.{accountBytes}
 
@@ -36,15 +37,14 @@ openAccount cash s = emptyAccount cash s (series 1 0 cash)
 unfoldable pub soundOpening : ℤ → List ℕ → Bool
 soundOpening cash given = both (readSettings given .good) (soundScalars cash (readSettings given .settings))
 
--- 1: "a setting or opening cash is bad"; 6 where the account's bytes have another length; 10: "the equity .. buffer has no free place"; else
--- "Opening writes the cash as the first equity". Where 01 has "all zeros from a refused opening", that is of an account that is returned; bytes that are
--- lent are "as found".
+-- "Account bytes of the wrong length answer 11"; 1: "a setting or opening cash is bad"; 10: "the equity .. buffer has no free place"; else "Opening writes the
+-- cash as the first equity". Where 01 has "all zeros from a refused opening", that is of an account that is returned; bytes that are lent are "as found".
 unfoldable pub openIn : ℤ → List ℕ → List ℕ → List ℤ → OpenTold
 openIn cash given b es =
-    pick (soundOpening cash given)
-    (pick (eqb (length b) 2736)
+    pick (eqb (length b) accountLength)
+    (pick (soundOpening cash given)
     (pick (ltb 0 (length es))
     (opening Done (accountBytes (openAccount cash (readSettings given .settings))) (set es 0 cash))
     (opening BufferFull b es))
-    (opening TooLong b es))
-    (opening BadSetting b es)
+    (opening BadSetting b es))
+    (opening Unsound b es)

@@ -11,11 +11,11 @@ use Rattle.position.specs.Symbols.{goodSymbol}
 use Rattle.table.specs.Keyed.{pick}
 use Rattle.word_bytes.specs.Words.{bytesOf, turned}
 use Rattle.word_bytes.specs.Numbers.{unsignedOf}
-use Rattle.account.specs.declared.account.Counters.{Counters}
-use Rattle.account.specs.declared.account.Series.{Series}
 use Rattle.account.specs.declared.holding.Held.{Held}
 use Rattle.account.specs.Calls.{positionOf, positionAt}
+use Rattle.account_bytes.specs.Sizes.{settingsLength, countersSize, seriesSize}
 use Rattle.account_bytes.specs.Settings.{flagWord, settingsWords}
+use Rattle.account_bytes.specs.Account.{counterWords, seriesWords}
 use Rattle.c_accounts.specs.Entries.{accountIn, settingsIn, soundIn, Told, told, answering}
 
 -- 11; then 6 where `out` has another length; then what the question itself is refused for; then the words, and nothing beside them.
@@ -28,18 +28,6 @@ queried b size w words out =
     (answering Unsound out)
 
 -- ---- the words of each figure
-abbrev pub counterWords : Counters → List ℕ
-counterWords k =
-    k .«last_rebalance_order_count»
-    ∷ unsignedOf (k .«last_rebalance_notional»)
-    ∷ k .«trimmed_fill_count»
-    ∷ unsignedOf (k .«trimmed_shortfall_cents»)
-    ∷ k .«record_count»
-    ∷ []
-
-abbrev pub seriesWords : Series → List ℕ
-seriesWords s = s .«equity_count» ∷ s .«return_count» ∷ unsignedOf (s .«prev_equity») ∷ []
-
 -- the present mark, the symbol's text, quantity, average, realized profit and total cost
 abbrev pub heldWords : Held → List ℕ
 heldWords h =
@@ -56,13 +44,13 @@ abbrev pub cashTold : List ℕ → List ℕ → Told
 cashTold b out = queried b 8 Done (unsignedOf (accountIn b .cash) ∷ []) out
 
 abbrev pub settingsTold : List ℕ → List ℕ → Told
-settingsTold b out = queried b 96 Done (settingsWords (settingsIn b)) out
+settingsTold b out = queried b settingsLength Done (settingsWords (settingsIn b)) out
 
 abbrev pub countersTold : List ℕ → List ℕ → Told
-countersTold b out = queried b 40 Done (counterWords (accountIn b .counters)) out
+countersTold b out = queried b (8 * countersSize) Done (counterWords (accountIn b .counters)) out
 
 abbrev pub seriesTold : List ℕ → List ℕ → Told
-seriesTold b out = queried b 24 Done (seriesWords (accountIn b .series)) out
+seriesTold b out = queried b (8 * seriesSize) Done (seriesWords (accountIn b .series)) out
 
 -- 2: "a symbol is bad"; "a position the account lacks is 0 with an absent mark"
 abbrev pub positionTold : ℕ → List ℕ → List ℕ → Told

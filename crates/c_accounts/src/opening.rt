@@ -6,6 +6,7 @@ use account::Counters;
 use account::Series;
 use account::Settings;
 use account::sound_scalars;
+use account_bytes::ACCOUNT_BYTES;
 use account_bytes::read_settings;
 use account_bytes::write_account;
 use answer::Answer;
@@ -37,7 +38,8 @@ fn open_account(cash: i64, settings: Settings) -> Account
     }
 }
 
-// All settings are given at once, as 96 bytes; bytes that hold none give zeros, which are no good settings. A refusal leaves account and equities as found.
+// All settings are given at once, as their bytes; bytes that hold none give zeros, which are no good settings. A refusal leaves account and equities as
+// found.
 #[no_mangle]
 pub extern "C" fn tc_open(
     cash: i64,
@@ -47,13 +49,13 @@ pub extern "C" fn tc_open(
 ) -> u64
     ensures { λ r. ⌜ openTold r (now (account .exit)) (now (equities .exit)) ≡ openIn cash (now (settings .entry)) (now (account .entry)) (now (equities .entry)) ⌝ }
 {
+    if account.len() != ACCOUNT_BYTES {
+        return answer::number(Answer::Unsound);
+    }
     let r = read_settings(settings);
     let s = r.settings;
     if !sound_scalars(cash, s) {
         return answer::number(Answer::BadSetting);
-    }
-    if account.len() != 2736 {
-        return answer::number(Answer::TooLong);
     }
     if equities.len() == 0 {
         return answer::number(Answer::BufferFull);

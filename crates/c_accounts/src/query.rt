@@ -4,13 +4,17 @@ ghost use Prim.Native.Nat.{_*_, _≤_};
 ghost use lib.ListN.{length};
 ghost use Rattle.word_bytes.specs.Words.{wordsOf, turned};
 ghost use Rattle.account_bytes.specs.Settings.{flagWord};
+ghost use Rattle.account_bytes.specs.Account.{counterWords, seriesWords};
 ghost use Rattle.c_accounts.specs.Entries.{told};
-ghost use Rattle.c_accounts.specs.Queries.{counterWords, seriesWords, heldWords, tellIn, cashTold, settingsTold, countersTold, seriesTold, positionTold, positionAtTold};
+ghost use Rattle.c_accounts.specs.Queries.{heldWords, tellIn, cashTold, settingsTold, countersTold, seriesTold, positionTold, positionAtTold};
 use crate::filed::account_in;
 use crate::filed::unless_unsound;
 use account::Counters;
 use account::Held;
 use account::Series;
+use account_bytes::COUNTER_WORDS;
+use account_bytes::SERIES_WORDS;
+use account_bytes::SETTINGS_BYTES;
 use account_bytes::write_settings;
 use answer::Answer;
 use position::Symbol;
@@ -21,7 +25,7 @@ use word_bytes::word_at;
 
 // Words into bytes that have room for them and no more.
 fn put_words(words: &[u64], out: &mut [u8])
-    requires { ⌜ (length (now words) ≤ 6) × (length (now out) ≡ 8 * length (now words)) ⌝ }
+    requires { ⌜ (length (now words) ≤ 7) × (length (now out) ≡ 8 * length (now words)) ⌝ }
     ensures { λ _. ⌜ wordsOf (now (out .exit)) ≡ now (words .entry) ⌝ }
 {
     let mut i = 0;
@@ -33,7 +37,7 @@ fn put_words(words: &[u64], out: &mut [u8])
 
 // The answer of a question to an account, and its words where it is 0.
 fn tell(number: u64, words: &[u64], out: &mut [u8]) -> u64
-    requires { ⌜ length (now words) ≤ 6 ⌝ }
+    requires { ⌜ length (now words) ≤ 7 ⌝ }
     ensures { λ r. ⌜ told r (now (out .exit)) ≡ tellIn number (now (words .entry)) (now (out .entry)) ⌝ }
 {
     if number == 11 {
@@ -49,7 +53,7 @@ fn tell(number: u64, words: &[u64], out: &mut [u8]) -> u64
     number
 }
 
-fn counter_words(k: Counters) -> [u64; 5]
+fn counter_words(k: Counters) -> [u64; COUNTER_WORDS]
     ensures { λ r. ⌜ r ≡ counterWords k ⌝ }
 {
     [
@@ -58,10 +62,12 @@ fn counter_words(k: Counters) -> [u64; 5]
         k.trimmed_fill_count,
         unsigned(k.trimmed_shortfall_cents),
         k.record_count,
+        0,
+        0,
     ]
 }
 
-fn series_words(s: Series) -> [u64; 3]
+fn series_words(s: Series) -> [u64; SERIES_WORDS]
     ensures { λ r. ⌜ r ≡ seriesWords s ⌝ }
 {
     [s.equity_count, s.return_count, unsigned(s.prev_equity)]
@@ -106,7 +112,7 @@ pub extern "C" fn tc_cash(account: &[u8], out: &mut [u8]) -> u64
     tell(number, &words[..], out)
 }
 
-// The twelve words of the settings, as opening takes them.
+// The words of the settings, as opening takes them.
 #[no_mangle]
 pub extern "C" fn tc_settings(account: &[u8], out: &mut [u8]) -> u64
     ensures { λ r. ⌜ told r (now (out .exit)) ≡ settingsTold (now (account .entry)) (now (out .entry)) ⌝ }
@@ -116,14 +122,14 @@ pub extern "C" fn tc_settings(account: &[u8], out: &mut [u8]) -> u64
     if number != 0 {
         return number;
     }
-    if out.len() != 96 {
+    if out.len() != SETTINGS_BYTES {
         return answer::number(Answer::TooLong);
     }
     write_settings(a.settings, out);
     number
 }
 
-// Five words: last order count and notional, trimmed count and shortfall, record count.
+// Seven words: last order count and notional, trimmed count and shortfall, record count, and two that stand for no counter.
 #[no_mangle]
 pub extern "C" fn tc_counters(account: &[u8], out: &mut [u8]) -> u64
     ensures { λ r. ⌜ told r (now (out .exit)) ≡ countersTold (now (account .entry)) (now (out .entry)) ⌝ }

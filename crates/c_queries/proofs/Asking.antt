@@ -4,7 +4,6 @@ use mathlib.Core.Path.{_≡_, refl, sym, ap, _∙_}
 use mathlib.Core.Bool.{Bool, true, false}
 use mathlib.Core.List.{List}
 use native.Mathlib.Omega.{arith}
-use lib.Dec.{eqb}
 use lib.IntN.{ℤ}
 use lib.ListN.{length, take}
 use Rattle.answer.specs.declared.Answer.{Answer}
@@ -19,8 +18,7 @@ use Rattle.account.specs.Settings.{goodSettings}
 use Rattle.account.specs.Account.{soundTable, soundScalars, soundAccount}
 use Rattle.account.specs.Calls.{zeroAccount}
 use Rattle.word_bytes.specs.Words.{wordsOf}
-use Rattle.account_bytes.specs.Settings.{areSettings}
-use Rattle.account_bytes.specs.Account.{gotAccount, noAccount, accountOf, readAccount}
+use Rattle.account_bytes.specs.Account.{gotAccount, noAccount, accountOf, holdAccount, readAccount}
 use Rattle.list_bytes.specs.declared.price.Prices.{Prices}
 use Rattle.list_bytes.specs.Entries.{wholeList}
 use Rattle.list_bytes.specs.Lists.{symbolsIn, pricesIn, pricesOf}
@@ -45,7 +43,7 @@ good-or-zero false a = sym zero-unsound
 
 sound-in : (b : List ℕ) → soundIn b ≡ soundAccount (accountIn b)
 unfolding soundIn readAccount
-sound-in b = good-or-zero (both (eqb (length b) 2736) (areSettings 1 (wordsOf b))) (accountOf (wordsOf b))
+sound-in b = good-or-zero (holdAccount b) (accountOf (wordsOf b))
 
 -- ---- prices
 pub prices-few : (ps : List ℕ) {p : Prices} → p ≡ pricesOf ps → p .count ≤ 128

@@ -16,6 +16,7 @@ use Rattle.word_bytes.proofs.Words.{length-words}
 use Rattle.account.specs.declared.account.Account.{Account}
 use Rattle.account.specs.declared.account.Ledger.{Ledger}
 use Rattle.account.specs.Account.{accountWith, ledgerOf, withSeries}
+use Rattle.account_bytes.specs.Sizes.{columnSize, symbolsFrom, quantitiesFrom, averagesFrom, realizedFrom, totalsFrom, accountSize, accountLength}
 use Rattle.account_bytes.specs.Account.{accountOf, tableFrom, readAccount, readColumns, writtenAccount, writtenSeries}
 use Rattle.account_bytes.proofs.AccountKept.{good-long}
 use Rattle.account_bytes.proofs.Parts.{columns-are, account-is, parts-read}
@@ -26,16 +27,16 @@ use Rattle.portfolio.specs.Returns.{notedBy}
 use Rattle.c_trades.specs.Asked.{Holds}
 use Rattle.c_trades.specs.Returns.{note, noted}
 
-columns-full : (b : List ℕ) → length b ≡ 2736 → Full (columnsOf (accountOf (wordsOf b) .positions))
+columns-full : (b : List ℕ) → length b ≡ accountLength → Full (columnsOf (accountOf (wordsOf b) .positions))
 unfolding accountOf tableFrom
 columns-full b n =
-    let w : length (wordsOf b) ≡ 342 = length-words (length b / 8) b ∙ omega arith in
+    let w : length (wordsOf b) ≡ accountSize = length-words (length b / 8) b ∙ omega arith in
     record {
-      symbol = length-run turned 64 22 (wordsOf b) (omega arith);
-      quantity = length-run signedOf 64 86 (wordsOf b) (omega arith);
-      average = length-run signedOf 64 150 (wordsOf b) (omega arith);
-      realized = length-run signedOf 64 214 (wordsOf b) (omega arith);
-      total = length-run signedOf 64 278 (wordsOf b) (omega arith);
+      symbol = length-run turned columnSize symbolsFrom (wordsOf b) (omega arith);
+      quantity = length-run signedOf columnSize quantitiesFrom (wordsOf b) (omega arith);
+      average = length-run signedOf columnSize averagesFrom (wordsOf b) (omega arith);
+      realized = length-run signedOf columnSize realizedFrom (wordsOf b) (omega arith);
+      total = length-run signedOf columnSize totalsFrom (wordsOf b) (omega arith);
     }
 
 pub read-holds : (b : List ℕ) (h : Ledger) (d e : Cols) → readAccount b .good ≡ true → h ≡ ledgerOf (accountOf (wordsOf b)) → d ≡ readColumns b e → Holds b h d

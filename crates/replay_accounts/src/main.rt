@@ -3,6 +3,7 @@ mod call;
 mod row;
 mod told;
 
+use account_bytes::ACCOUNT_BYTES;
 use libc::STDOUT_FILENO;
 use row::Row;
 
@@ -61,7 +62,7 @@ const MOST: u64 = 1_000_000;
 
 // Tells the first row that differs, counted from 0.
 fn replay(fd: i32) {
-    let mut account = [0u8; 2736];
+    let mut account = [0u8; ACCOUNT_BYTES];
     let mut left = MOST;
     let mut differences = 0u64;
     while left > 0 {

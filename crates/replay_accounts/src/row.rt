@@ -2,6 +2,7 @@
 // numbers told. Then eight targets and eight prices of two words, eight records of twelve or as many weights of two, and the account after the call: its
 // first 22 words and eight places of five columns.
 ghost use Prim.Native.Nat.{_≤_};
+use account_bytes::ACCOUNT_WORDS;
 use word_bytes::word_at;
 
 pub(crate) struct Row {
@@ -42,7 +43,7 @@ fn same_to(told: &[u8], account: &[u8], n: usize) -> bool {
 }
 
 pub(crate) fn same_account(r: Row, account: &[u8]) -> bool {
-    same_to(&r.account[..], account, 342)
+    same_to(&r.account[..], account, ACCOUNT_WORDS)
 }
 
 // Whether both have the same first n words.

@@ -15,22 +15,16 @@ use Rattle.c_accounts.proofs.Openings.{open-bad, open-short, open-full,
 use Rattle.c_accounts.proofs.opening.tc_open.Statement.{statement}
 use Rattle.c_accounts.proofs.opening.tc_open.Tie as tie
 
-abbrev began : tie.After-sound-scalars → tie.Start
-began c = c .before .before .before .before .before
+abbrev began : tie.After-sound-scalars → tie.Else1
+began c = c .before .before .before
 
-same-test : (c : tie.After-sound-scalars) → let s = began c .args in c .sound-scalars .result ≡ soundScalars (s .cash) (readSettings (s .settings .now) .settings)
-same-test c = simp (toZ-ofZ (began c .fits .cash), c .before .before .read-settings .ensures) at (c .sound-scalars .ensures)
+same-test : (c : tie.After-sound-scalars) → let s = began c .before .before .before .args in c .sound-scalars .result ≡ soundScalars (s .cash) (readSettings (s .settings .now) .settings)
+same-test c = simp (toZ-ofZ (began c .before .before .before .fits .cash), c .before .before .read-settings .ensures) at (c .sound-scalars .ensures)
 
-account-is : (c : tie.After-open-account) → let u = c .before .before .before .before in let s = began u .args in c .open-account .result ≡ openAccount (s .cash) (readSettings (s .settings .now) .settings)
+account-is : (c : tie.After-open-account) → let u = c .before .before .before in let s = began u .before .before .before .args in c .open-account .result ≡ openAccount (s .cash) (readSettings (s .settings .now) .settings)
 account-is c =
-    let u = c .before .before .before .before in
-    simp (toZ-ofZ (began u .fits .cash), u .before .before .read-settings .ensures) at (c .open-account .ensures)
-
-read-settings-requires : tie.Need-read-settings-requires
-read-settings-requires c κs = search needs
-
-sound-scalars-requires : tie.Need-sound-scalars-requires
-sound-scalars-requires c κs = search needs
+    let u = c .before .before .before in
+    simp (toZ-ofZ (began u .before .before .before .fits .cash), u .before .before .read-settings .ensures) at (c .open-account .ensures)
 
 number-requires : tie.Need-number-requires
 number-requires c κs = search needs
@@ -38,10 +32,15 @@ number-requires c κs = search needs
 returns : tie.Need-returns
 returns c =
     let t = c .before in
-    let u = t .before in
-    let s = began u .args in
+    let s = t .before .before .before .args in
     ap (λ (n : ℕ). openTold n (s .account .now) (s .equities .now)) (c .number .ensures)
-    ∙ open-bad (s .cash) (s .settings .now) (s .account .now) (s .equities .now) (sym (same-test u) ∙ not-true _ (t .if1 .taken))
+    ∙ open-short (s .cash) (s .settings .now) (s .account .now) (s .equities .now) (t .if1 .taken)
+
+read-settings-requires : tie.Need-read-settings-requires
+read-settings-requires c κs = search needs
+
+sound-scalars-requires : tie.Need-sound-scalars-requires
+sound-scalars-requires c κs = search needs
 
 number-requires-2 : tie.Need-number-requires-2
 number-requires-2 c κs = search needs
@@ -49,11 +48,11 @@ number-requires-2 c κs = search needs
 returns-2 : tie.Need-returns-2
 returns-2 c =
     let t = c .before in
-    let e = t .before in
-    let u = e .before in
-    let s = began u .args in
+    let u = t .before in
+    let e = began u in
+    let s = e .before .before .before .args in
     ap (λ (n : ℕ). openTold n (s .account .now) (s .equities .now)) (c .number2 .ensures)
-    ∙ open-short (s .cash) (s .settings .now) (s .account .now) (s .equities .now) (sym (same-test u) ∙ not-false _ (e .if1 .left)) (t .if2 .taken)
+    ∙ open-bad (s .cash) (s .settings .now) (s .account .now) (s .equities .now) (e .if1 .left) (sym (same-test u) ∙ not-true _ (t .if2 .taken))
 
 number-requires-3 : tie.Need-number-requires-3
 number-requires-3 c κs = search needs
@@ -62,11 +61,11 @@ returns-3 : tie.Need-returns-3
 returns-3 c =
     let t = c .before in
     let f = t .before in
-    let e = f .before in
-    let u = e .before in
-    let s = began u .args in
+    let u = f .before in
+    let e = began u in
+    let s = e .before .before .before .args in
     ap (λ (n : ℕ). openTold n (s .account .now) (s .equities .now)) (c .number3 .ensures)
-    ∙ open-full (s .cash) (s .settings .now) (s .account .now) (s .equities .now) (sym (same-test u) ∙ not-false _ (e .if1 .left)) (f .if2 .left) (omega (arith, t .if3 .taken))
+    ∙ open-full (s .cash) (s .settings .now) (s .account .now) (s .equities .now) (e .if1 .left) (sym (same-test u) ∙ not-false _ (f .if2 .left)) (omega (arith, t .if3 .taken))
 
 slice-set-from-cash : tie.Need-slice-set-from-cash
 slice-set-from-cash c = search needs
@@ -92,22 +91,22 @@ returns-4 c =
     let o = w .before .before in
     let t = o .before in
     let f = t .before in
-    let e = f .before in
-    let u = e .before in
-    let s = began u .args in
+    let u = f .before in
+    let e = began u in
+    let s = e .before .before .before .args in
     let l = w .write-account .last .1 .0 in
     let a = account-is o in
-    simp (toZ-ofZ (began u .fits .cash)) (ap (λ (n : ℕ). openTold n l (set (s .equities .now) 0 (s .cash))) (c .number4 .ensures)
-    ∙ open-done (s .cash) (s .settings .now) (s .account .now) (s .equities .now) l (sym (same-test u) ∙ not-false _ (e .if1 .left)) (f .if2 .left) (omega (arith, t .if3 .left)) (w .write-account .ensures ∙ ap (λ (x : Account). writtenAccount x (s .account .now)) a))
+    simp (toZ-ofZ (e .before .before .before .fits .cash)) (ap (λ (n : ℕ). openTold n l (set (s .equities .now) 0 (s .cash))) (c .number4 .ensures)
+    ∙ open-done (s .cash) (s .settings .now) (s .account .now) (s .equities .now) l (e .if1 .left) (sym (same-test u) ∙ not-false _ (f .if2 .left)) (omega (arith, t .if3 .left)) (w .write-account .ensures ∙ ap (λ (x : Account). writtenAccount x (s .account .now)) a))
 
 pub tc-open-spec : {M : Type 1} → statement M
 tc-open-spec =
     tie.close
     (tie.spec
-    read-settings-requires
-    sound-scalars-requires
     number-requires
     returns
+    read-settings-requires
+    sound-scalars-requires
     number-requires-2
     returns-2
     number-requires-3

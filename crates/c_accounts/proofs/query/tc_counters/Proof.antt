@@ -3,7 +3,7 @@ use mathlib.Core.Path.{refl, _∙_, ap}
 use borrow.Author.Needs.{needs}
 use Rattle.answer.specs.declared.Answer.the-variants.{Done}
 use Rattle.account.specs.declared.account.Account.{Account}
-use Rattle.c_accounts.specs.Queries.{counterWords}
+use Rattle.account_bytes.specs.Account.{counterWords}
 use Rattle.c_accounts.specs.Entries.{accountIn}
 use Rattle.c_accounts.proofs.Telling.{told-queried}
 use Rattle.c_accounts.proofs.query.tc_counters.Statement.{statement}
