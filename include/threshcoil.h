@@ -21,7 +21,7 @@ extern "C" {
 #define TC_MAX_PRICES 128
 #define TC_MAX_RETURNS 4096
 
-/* The words of settings, eight bytes each, by their places. The last three stand for no setting and are 0. */
+/* The words of settings, eight bytes each, by their places. The last three are spare: 0. */
 enum tc_settings_word {
     TC_COMMISSION_AT = 0,
     TC_SLIPPAGE_AT = 1,
@@ -41,7 +41,7 @@ enum tc_settings_word {
     TC_SETTINGS_WORDS = 15
 };
 
-/* The words of the counters that tc_counters tells. The last two stand for no counter and are 0. */
+/* The words of the counters that tc_counters tells. The last two are spare: 0. */
 enum tc_counters_word {
     TC_ORDER_COUNT_AT = 0,
     TC_LAST_NOTIONAL_AT = 1,
