@@ -1,5 +1,5 @@
 /* The C interface of Threshcoil. A slice is a pointer and a count of elements; docs/LAYOUT.md has the bytes, and
- * docs/CALLS.md what each function takes, leaves and refuses, in its order.
+ * docs/CALLS.md what each function takes, leaves and refuses, in its order, and the line that links with the library.
  *
  * Every function ends with an answer for all inputs, uses no heap, keeps nothing between calls and touches nothing but the
  * slices lent to it, so any thread may make any call. A slice's pointer must be valid for its count (never null, even at
@@ -53,7 +53,7 @@ enum tc_answer {
     TC_NO_RECORD_ROOM = 8,  /* recording is on and the record buffer has too few places */
     TC_NOT_HELD = 9,        /* a close names an absent or flat position */
     TC_BUFFER_FULL = 10,    /* the equity or return buffer has no free place */
-    TC_UNSOUND = 11,        /* the account is not sound */
+    TC_UNSOUND = 11,        /* the account is not sound, or its bytes have another length */
     TC_BAD_SERIES = 12      /* a return series is empty or has a non-finite member */
 };
 #define TC_ANSWER(r) ((r) & 0xff)
