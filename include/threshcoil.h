@@ -167,8 +167,7 @@ uint64_t tc_fill(double commission_bps, double slippage_bps, int64_t min_commiss
                  size_t int_count);
 
 /* Sizing. tc_size_qty and tc_truncate_qty_to_max_value take the listed price, the last two the effective one. A price or a
- * step of 0 gives 0, but tc_largest_affordable_buy_qty at price 0 gives the request snapped to the step: nothing is needed.
- * tc_drift_bps_of at equity 0 is an infinity, or a NaN for the value 0. */
+ * step of 0 gives 0. tc_drift_bps_of at equity 0 is an infinity, or a NaN for the value 0. */
 int64_t tc_notional_of(int64_t quantity, int64_t price);
 int64_t tc_size_qty(int64_t gap, int64_t price, int64_t step);
 int64_t tc_truncate_qty_to_max_value(int64_t quantity, int64_t price, int64_t step, int64_t max_value);
