@@ -1,4 +1,5 @@
-/* The C interface of Threshcoil. A slice is a pointer and a count of elements; docs/LAYOUT.md has the bytes.
+/* The C interface of Threshcoil. A slice is a pointer and a count of elements; docs/LAYOUT.md has the bytes, and
+ * docs/CALLS.md what each function takes, leaves and refuses, in its order, and the line that links with the library.
  *
  * Every function ends with an answer for all inputs, uses no heap, keeps nothing between calls and touches nothing but the
  * slices lent to it, so any thread may make any call. A slice's pointer must be valid for its count (never null, even at
@@ -84,7 +85,8 @@ enum tc_account_word {
 #define TC_UNPRICED_BYTES 16
 #define TC_CENTS_BYTES 8
 
-/* A rebalance that records asks for this many record places, a close for one; weights always take this many. */
+/* While recording is on, a rebalance asks for this many record places or more, a close for one or more. Record places are
+ * any whole number of TC_RECORD_BYTES; other lengths answer 6, recording or not. Weights take exactly this many places. */
 #define TC_RECORD_PLACES 64
 #define TC_WEIGHT_PLACES 64
 
@@ -125,7 +127,7 @@ uint64_t tc_set_max_rebalance_notional(uint8_t *account, size_t account_bytes, i
 uint64_t tc_set_recording(uint8_t *account, size_t account_bytes, uint64_t flag);
 uint64_t tc_set_cash_first(uint8_t *account, size_t account_bytes, uint64_t flag);
 
-/* Queries: out has exactly the bytes of what is told. */
+/* Queries: out has exactly the bytes of what is told. A symbol is a number here, as tc_good_symbol takes it. */
 uint64_t tc_cash(const uint8_t *account, size_t account_bytes, uint8_t *out, size_t out_bytes);
 uint64_t tc_settings(const uint8_t *account, size_t account_bytes, uint8_t *out, size_t out_bytes);
 uint64_t tc_counters(const uint8_t *account, size_t account_bytes, uint8_t *out, size_t out_bytes);
@@ -137,11 +139,11 @@ uint64_t tc_total_equity(const uint8_t *account, size_t account_bytes, const uin
 uint64_t tc_unpriced_holding(const uint8_t *account, size_t account_bytes, const uint8_t *prices, size_t price_bytes,
                              uint8_t *out, size_t out_bytes);
 uint64_t tc_current_weights(const uint8_t *account, size_t account_bytes, const uint8_t *prices, size_t price_bytes,
-                            uint8_t *weights, size_t weight_bytes);
+                            uint8_t *out, size_t out_bytes);
 uint64_t tc_snapshot(const uint8_t *account, size_t account_bytes, const uint8_t *prices, size_t price_bytes,
                      uint8_t *figures, size_t figure_bytes, uint8_t *weights, size_t weight_bytes);
 
-/* Calls that trade, and the return of a period. */
+/* Calls that trade, and the return of a period. Prices are listed ones; slippage is worked out inside. */
 uint64_t tc_rebalance_simple(uint8_t *account, size_t account_bytes, const uint8_t *targets, size_t target_bytes,
                              const uint8_t *prices, size_t price_bytes, uint64_t period, uint64_t kind,
                              uint8_t *records, size_t record_bytes);
@@ -157,10 +159,12 @@ uint64_t tc_figures(const double *returns, size_t return_count, double *rates, s
 
 /* ---- leaves */
 
-/* A symbol as a number: its bytes, the first one highest. */
+/* A symbol as a number: its eight bytes, padded with zeros, the first one highest: "AAPL" is 0x4141504c00000000. From its
+ * text: symbol = 0; for (i = 0; i < 8; i++) symbol = symbol << 8 | text[i]. The eight bytes read as a little-endian word
+ * are another number. */
 bool tc_good_symbol(uint64_t symbol);
 
-/* Two-word products and quotients, values and prices. */
+/* Two-word products and quotients, values and prices. A divisor, a step or, in tc_price_at, a quantity of 0 gives 0. */
 uint64_t tc_mul_high(uint64_t a, uint64_t b);
 uint64_t tc_mul_low(uint64_t a, uint64_t b);
 uint64_t tc_div_high(uint64_t high, uint64_t low, uint64_t divisor);
@@ -188,13 +192,15 @@ int64_t tc_shares_from_whole(int64_t n);
 int64_t tc_shares_whole(int64_t a);
 double tc_shares_to_f64(int64_t a);
 
-/* Costs. */
+/* Costs. tc_effective_price takes the listed price and gives the effective one: up for a quantity above 0, down for any
+ * other, 0 too. tc_compute_cost uses no slippage. */
 bool tc_good_costs(double commission_bps, double slippage_bps, int64_t min_commission);
 int64_t tc_compute_cost(double commission_bps, double slippage_bps, int64_t min_commission, int64_t notional);
 int64_t tc_effective_price(double commission_bps, double slippage_bps, int64_t min_commission, int64_t quantity,
                            int64_t price);
 
-/* One position; numbers are quantity, average, realized profit and total cost. */
+/* One position. Market value and profit take any price. tc_apply_fill takes the effective price, which may be 0, and four
+ * numbers: quantity, average, realized profit and total cost; another count of them answers 11. */
 bool tc_sound_position(uint64_t symbol, int64_t quantity, int64_t average, int64_t realized, int64_t total);
 int64_t tc_market_value(uint64_t symbol, int64_t quantity, int64_t average, int64_t realized, int64_t total,
                         int64_t price);
@@ -202,15 +208,16 @@ int64_t tc_unrealized_pnl(uint64_t symbol, int64_t quantity, int64_t average, in
                           int64_t price);
 uint64_t tc_apply_fill(uint64_t symbol, int64_t *numbers, size_t number_count, int64_t quantity, int64_t price);
 
-/* One fill on an account of at most one position. Money is cash, trimmed shortfall, and the position's quantity, average,
- * realized profit and total cost; tallies are the counts of trimmed fills and of records; words and ints take the record,
- * four words and eight numbers. */
+/* One fill on an account of at most one position, at the listed price. Money is six numbers: cash, trimmed shortfall, and the
+ * position's quantity, average, realized profit and total cost; tallies are two: trimmed fills and records; words and ints
+ * take the record, four words and eight numbers, and the answer counts it. */
 uint64_t tc_fill(double commission_bps, double slippage_bps, int64_t min_commission, int64_t quantity_step, uint64_t period,
                  uint64_t kind, uint64_t symbol, int64_t quantity, int64_t price, int64_t *money, size_t money_count,
                  uint64_t *tallies, size_t tally_count, uint64_t *words, size_t word_count, int64_t *ints,
                  size_t int_count);
 
-/* Sizing. */
+/* Sizing. tc_size_qty and tc_truncate_qty_to_max_value take the listed price, the last two the effective one. A price or a
+ * step of 0 gives 0. tc_drift_bps_of at equity 0 is an infinity, or a NaN for the value 0. */
 int64_t tc_notional_of(int64_t quantity, int64_t price);
 int64_t tc_size_qty(int64_t gap, int64_t price, int64_t step);
 int64_t tc_truncate_qty_to_max_value(int64_t quantity, int64_t price, int64_t step, int64_t max_value);
