@@ -72,6 +72,12 @@ def played(account, call, lines):
     return in_map_order(after, theirs[1])
 
 
+def in_order(accounts):
+    """Whether both maps have the positions in the same order."""
+    one, other = accounts
+    return one is other or list(one.positions) == list(other.positions)
+
+
 def without_order(lines):
     """What a call gave, without what the order of a list or of records decides: their places, and the cash between fills."""
     kept, any_order = [], []
@@ -164,9 +170,10 @@ def cause(call, accounts, runs):
     if verb == "snapshot" and any(saturates(p.realized for _, p in account.held()) for account in accounts):
         return REALIZED
     if verb == "rebalance" and orders_of(runs[0]) == orders_of(runs[1]):
-        cut = [order for ran in runs for order, filled in ran if filled != order.quantity]
-        if cut:
-            return CUT if any(order.quantity > 0 for order in cut) else SKIPPED
+        filled = [{order.symbol: filled for order, filled in ran} for ran in runs]
+        otherwise = [order for order, _ in runs[0] if filled[0][order.symbol] != filled[1][order.symbol]]
+        if otherwise:
+            return CUT if any(order.quantity > 0 for order in otherwise) else SKIPPED
         return UNEXPLAINED if cash_in_range(accounts[0], runs[0]) else CASH
     return UNEXPLAINED
 
@@ -182,10 +189,6 @@ def shares(n):
     sign, n = ("-", -n) if n < 0 else ("", n)
     part = f"{n % model.SCALE:06}".rstrip("0")
     return f"{sign}{n // model.SCALE:,}" + (f".{part}" if part else "")
-
-
-def named(symbol):
-    return symbol.to_bytes(8, "big").rstrip(b"\0").decode("ascii")
 
 
 def conditions(account):
@@ -204,37 +207,45 @@ def conditions(account):
             yield f"{name} {cents(getattr(s, name))}"
 
 
-def shown(call, account, lines, ran):
-    """What one screen shows of the call."""
-    verb = call.split(" ", 1)[0]
-    if verb == "rebalance":
-        side = lambda order: "buys" if order.quantity > 0 else "sells"
-        part = lambda order, filled: shares(abs(filled)) + ("" if filled == order.quantity else f" of {shares(abs(order.quantity))}")
-        fills = ", ".join(f"{side(order)} {part(order, filled)} {named(order.symbol)}" for order, filled in ran)
-        return f"{fills or 'no order'}; cash {cents(account.cash)}"
-    words = next(line for line in lines if line.split(" ")[0] in ("unpriced", "equity", "recorded", "snapshot", "weights")).split(" ")
-    if words[0] == "unpriced":
-        return f"unpriced {named(int(words[1], 16))}"
-    if words[0] == "snapshot":
-        return f"equity {cents(int(words[2]))}, realized {cents(int(words[4]))}"
-    if words[0] == "weights":
-        return "weights " + ", ".join(f"{named(s)} {w:.4g}" for s, w in compare.pairs(words[1:], compare.double))
-    return f"equity {cents(int(words[1]))}"
+def fill(order, filled, named):
+    verb = "buy" if order.quantity > 0 else "sell"
+    if filled == order.quantity:
+        return f"{verb} {shares(abs(filled))} {named[order.symbol]}"
+    return f"{verb} {shares(abs(filled))} of {shares(abs(order.quantity))} {named[order.symbol]}"
+
+
+def shown(account, lines, ran, named):
+    """What one screen shows of a call."""
+    if ran is not None:
+        return f"{', '.join(fill(*one, named) for one in ran) or 'no order'}; cash {cents(account.cash)}"
+    word, *words = lines[1].split(" ")
+    if word == "unpriced":
+        return f"unpriced {named[int(words[0], 16)]}"
+    if word == "weights":
+        return "weights " + ", ".join(f"{named[s]} {w:.4g}" for s, w in compare.pairs(words, compare.double))
+    if word == "snapshot":
+        return f"equity {cents(int(words[1]))}, realized {cents(int(words[3]))}"
+    return f"equity {cents(int(words[0]))}"
 
 
 def example(call, accounts, after, lines, runs):
+    """The call for a reader, the symbols named A, B, .. in their order; and how much there is to read."""
     verb, (targets, prices), account = call.split(" ", 1)[0], lists_of(call), accounts[0]
-    bearing = {s for s, p in account.held() if p.quantity or p.realized} | {s for s, _ in targets if s in prices}
-    held = [f"{named(s)} {shares(p.quantity)}" + (f" (realized {cents(p.realized)})" if verb == "snapshot" else "")
-            for s, p in account.held() if s in bearing and (p.quantity or p.realized)]
-    told = [f"cash {cents(account.cash)}; " + "; ".join(conditions(account)),
-            "holds " + ", ".join(held),
-            "prices " + (", ".join(f"{named(s)} {cents(p)}" for s, p in prices.items() if s in bearing) or "none of these")]
-    if verb == "rebalance":
-        told.append("targets " + (", ".join(f"{named(s)} {w:g}" for s, w in targets if s in prices) or "none"))
-    for how, *one in zip(("by symbol", "by hash  "), after, lines, runs or (None, None)):
-        told.append(f"{how} {verb}: {shown(call, *one)}")
-    return told
+    held = [(s, p) for s, p in sorted(account.held()) if p.quantity or p.realized and verb == "snapshot"]
+    asked = [(s, w) for s, w in targets if s in prices]
+    bearing = sorted({s for s, _ in held} | {s for s, _ in asked})
+    named = {s: f"{chr(ord('A') + k % 26)}{k // 26 or ''}" for k, s in enumerate(bearing)}
+    profit = lambda p: f" (realized {cents(p.realized)})" if verb == "snapshot" else ""
+    priced = ", ".join(f"{named[s]} {cents(prices[s])}" for s in bearing if s in prices)
+    told = ["; ".join([f"cash {cents(account.cash)}", *(conditions(account) if runs else [])]),
+            "holds " + ", ".join(f"{named[s]} {shares(p.quantity)}{profit(p)}" for s, p in held),
+            f"{verb} at {priced or 'no price'}"
+            + ("; targets " + (", ".join(f"{named[s]} {w:g}" for s, w in asked) or "none") if runs else "")]
+    for how, *one in zip(("by symbol", "by hash"), after, lines, runs or (None, None)):
+        told.append(f"{how}: {shown(*one, named)}")
+    # An example in which one screen shows every order filled whole tells most.
+    size = runs is not None and not any(map(whole, runs)), len(bearing), len("".join(told))
+    return size, told
 
 
 # ---- The count
@@ -250,7 +261,10 @@ class Count:
         found = set()
         accounts = (None, None)
         for k, ((call, one), (_, other)) in enumerate(zip(*plays)):
-            after = tuple(played(account, call, lines) for account, lines in zip(accounts, (one, other)))
+            if one == other and in_order(accounts):
+                after = (played(accounts[0], call, one),) * 2
+            else:
+                after = tuple(played(account, call, lines) for account, lines in zip(accounts, (one, other)))
             if None in after:
                 self.fault(name, call, "a play is not the model's")
                 found.add(UNEXPLAINED)
@@ -272,7 +286,8 @@ class Count:
         self.calls["read"] += 1
         runs = None
         if call.startswith("rebalance "):
-            runs = tuple(fates(account, *lists_of(call)) for account in accounts)
+            lists = lists_of(call)
+            runs = (fates(accounts[0], *lists),) * 2 if in_order(accounts) else tuple(fates(a, *lists) for a in accounts)
             self.rebalance(name, call, accounts, after, runs)
         if lines[0] == lines[1]:
             return "same"
@@ -283,9 +298,9 @@ class Count:
         self.parted[why] += after[0] != after[1]
         if why == UNEXPLAINED:
             self.fault(name, call, "no cause is known")
-        told = [f"{why}: {name}"] + example(call, accounts, after, lines, runs)
-        if why not in self.examples or len("".join(told)) < len("".join(self.examples[why])):
-            self.examples[why] = told
+        size, told = example(call, accounts, after, lines, runs)
+        if why not in self.examples or size < self.examples[why][0]:
+            self.examples[why] = size, [f"{why} ({name})"] + told
         return why
 
     def rebalance(self, name, call, accounts, after, runs):
@@ -318,7 +333,7 @@ class Count:
     def fault(self, name, call, why):
         self.faults.append(why)
         if len(self.faults) <= 5:
-            print(f"FAULT in {name}: {why}\n  {call}")
+            print(f"FAULT in {name}: {why}\n  {call[:300]}")
 
     def tell(self):
         print(f"hash order: {self.scenarios.total()} scenarios; the same to the last number {self.scenarios['the same']}; "
@@ -335,7 +350,7 @@ class Count:
               f"{r['outside, in another order, another left']} do not")
         for why in CAUSES:
             if why in self.examples:
-                print("\n" + "\n  ".join(self.examples[why]))
+                print("\n" + "\n  ".join(self.examples[why][1]))
 
 
 def main():

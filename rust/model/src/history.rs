@@ -7,7 +7,7 @@ use threshcoil::{
     figures,
 };
 
-/// Something that was not done, and the line that asked for it.
+/// Something that did not count, and its line.
 #[derive(Clone, Debug)]
 pub struct Refused {
     pub line: usize,
@@ -20,6 +20,8 @@ pub enum Why {
     Library(Refusal),
     /// Of a close: the library, asked at a price of 0, would blame the price.
     NoPrice,
+    /// Of a holding, whose equity is then short by it.
+    Unpriced,
 }
 
 impl fmt::Display for Refused {
@@ -27,6 +29,7 @@ impl fmt::Display for Refused {
         match self.why {
             Why::Library(refusal) => write!(f, "{} was refused, {}: {refusal}", self.what, refusal.number()),
             Why::NoPrice => write!(f, "{} has no price: the period lists none, nor does the line give one", self.what),
+            Why::Unpriced => write!(f, "{} is held and the period has no price of it: it counts 0", self.what),
         }
     }
 }
@@ -73,6 +76,7 @@ pub fn run(plan: &Plan, stop: bool, mut told: impl FnMut(usize, &Told)) -> Resul
                 now.equity = Some(account.previous_equity());
                 now.gain = (account.return_count() > gains).then(|| returns[gains as usize]);
                 weights = account.current_weights(&prices).map(|w| w.to_vec()).unwrap_or_default();
+                now.refused.extend(unpriced(&account, period));
             }
             Err(refusal) => {
                 let line = bad_prices(&account, period).unwrap_or(period.line);
@@ -120,6 +124,15 @@ fn trade(account: &mut Account, index: u64, period: &Period, now: &mut Told) {
             now.refused.push(Refused { line, what: "the rebalance".into(), why: Why::Library(refusal) });
         }
     }
+}
+
+/// The open holdings that the period has no price of.
+fn unpriced(account: &Account, period: &Period) -> Vec<Refused> {
+    let prices = period.all_prices();
+    let open = account.positions().filter(|p| p.quantity.0 != 0);
+    open.filter(|p| prices.iter().all(|q| q.symbol != p.symbol))
+        .map(|p| Refused { line: period.line, what: p.symbol.to_string(), why: Why::Unpriced })
+        .collect()
 }
 
 /// The first line whose prices are refused by themselves; none where the fault is between lines.

@@ -98,7 +98,7 @@ fn run(asked: Asked) -> io::Result<bool> {
     writeln!(out, "page: {}", asked.page.display())?;
     let left_out = unread.len() + history.refusals().count();
     if left_out > 0 {
-        eprintln!("threshcoil: refused or not to be read: {left_out}; the page tells each");
+        eprintln!("threshcoil: {left_out} refused, unreadable or without a price; the page tells each");
     }
     Ok(left_out == 0)
 }

@@ -60,13 +60,13 @@ fn left_out(out: &mut String, unread: &[Unread], history: &History) {
     if all.is_empty() {
         return;
     }
-    all.sort();
-    let (count, do_not) = (all.len(), if all.len() == 1 { "entry of the file does" } else { "entries of the file do" });
+    all.sort_by_key(|(line, _)| *line);
+    let (count, do_not) = (all.len(), if all.len() == 1 { "entry does" } else { "entries do" });
     let then = if history.stopped { "; the run stopped there" } else { "" };
     let _ = write!(
         out,
         "<section class=\"left-out\">\n<h2>{count} {do_not} not count</h2>\n\
-         <p>Refused, or not to be read. The account stayed as it was{then}.</p>\n"
+         <p>Each was refused, can't be read or has no price, and the account stayed as it was{then}.</p>\n"
     );
     let (open, folded) = all.split_at(all.len().min(OPEN));
     list(out, open);

@@ -62,7 +62,7 @@ fn what_the_feed_lost_is_told_and_the_account_stays() {
         assert!(said.contains(&format!(":{line}: {why}")), "{said}");
         assert!(page.contains(&format!(", line {line}: {why}</li>")), "{why}");
     }
-    assert!(page.contains("<h2>2 entries of the file do not count</h2>"));
+    assert!(page.contains("<h2>2 entries do not count</h2>"));
     assert!(said.contains("60 periods, 59 returns"), "{said}");
 }
 
@@ -89,7 +89,7 @@ fn a_bad_line_is_told_with_its_number_and_the_run_goes_on() {
 fn a_long_list_is_folded() {
     let (_, page) = model("long", Some(&("cash 1.00\nperiod one\n".to_string() + &"nonsense\n".repeat(50))), &[]);
     let page = page.unwrap();
-    assert!(page.contains("50 entries of the file do not count") && page.contains("<summary>42 more</summary>"));
+    assert!(page.contains("50 entries do not count") && page.contains("<summary>42 more</summary>"));
 }
 
 #[test]
@@ -141,7 +141,13 @@ fn a_close_without_a_price_says_so() {
         "{said}"
     );
     assert!(said.contains(":8: the close of A was refused, 4: a price is below 1"), "{said}");
-    assert!(page.unwrap().contains("<li>two, line 7: the close of A has no price:"));
+    assert!(said.contains(":5: A is held and the period has no price of it: it counts 0"), "{said}");
+    let page = page.unwrap();
+    for shown in
+        ["<li>two, line 7: the close of A has no price:", "<li>two, line 5: A is held and the period has no price"]
+    {
+        assert!(page.contains(shown), "{shown}");
+    }
 }
 
 #[test]
