@@ -1,17 +1,37 @@
 //! A plan run through the library, period by period.
 
-use crate::plan::{Period, Plan, Said};
+use crate::plan::{Close, Period, Plan, Said};
+use std::fmt;
 use threshcoil::{
     Account, Context, ExecutionKind, ExecutionRecord, Figures, Position, Price, Refusal, Symbol, Target, Weight,
     figures,
 };
 
-/// Something the library did not accept, and the line that asked for it.
+/// Something that did not count, and its line.
 #[derive(Clone, Debug)]
 pub struct Refused {
     pub line: usize,
     pub what: String,
-    pub refusal: Refusal,
+    pub why: Why,
+}
+
+#[derive(Clone, Copy, Debug)]
+pub enum Why {
+    Library(Refusal),
+    /// Of a close: the library, asked at a price of 0, would blame the price.
+    NoPrice,
+    /// Of a holding, whose equity is then short by it.
+    Unpriced,
+}
+
+impl fmt::Display for Refused {
+    fn fmt(&self, f: &mut fmt::Formatter<'_>) -> fmt::Result {
+        match self.why {
+            Why::Library(refusal) => write!(f, "{} was refused, {}: {refusal}", self.what, refusal.number()),
+            Why::NoPrice => write!(f, "{} has no price: the period lists none, nor does the line give one", self.what),
+            Why::Unpriced => write!(f, "{} is held and the period has no price of it: it counts 0", self.what),
+        }
+    }
 }
 
 #[derive(Clone, Debug, Default)]
@@ -41,7 +61,7 @@ pub struct History {
 
 /// Runs the plan. `told` hears each period as it ends; where `stop` is set, the first refusal ends the run.
 pub fn run(plan: &Plan, stop: bool, mut told: impl FnMut(usize, &Told)) -> Result<History, Refused> {
-    let opening = |refusal| Refused { line: plan.line, what: "the opening".into(), refusal };
+    let opening = |refusal| Refused { line: plan.line, what: "the opening".into(), why: Why::Library(refusal) };
     let mut equities = vec![0; plan.periods.len() + 1];
     let mut returns = vec![0.0; plan.periods.len() + 1];
     let mut account = Account::open(plan.cash, &plan.settings, &mut equities).map_err(opening)?;
@@ -56,10 +76,11 @@ pub fn run(plan: &Plan, stop: bool, mut told: impl FnMut(usize, &Told)) -> Resul
                 now.equity = Some(account.previous_equity());
                 now.gain = (account.return_count() > gains).then(|| returns[gains as usize]);
                 weights = account.current_weights(&prices).map(|w| w.to_vec()).unwrap_or_default();
+                now.refused.extend(unpriced(&account, period));
             }
             Err(refusal) => {
                 let line = bad_prices(&account, period).unwrap_or(period.line);
-                now.refused.push(Refused { line, what: "the period's return".into(), refusal });
+                now.refused.push(Refused { line, what: "the period's return".into(), why: Why::Library(refusal) });
             }
         }
         now.trimmed = account.trimmed_fill_count() - trims;
@@ -81,14 +102,16 @@ pub fn run(plan: &Plan, stop: bool, mut told: impl FnMut(usize, &Told)) -> Resul
 fn trade(account: &mut Account, index: u64, period: &Period, now: &mut Told) {
     let prices = period.all_prices();
     let mut records = [ExecutionRecord::EMPTY; 64];
-    for Said { line, what } in &period.closes {
-        let listed = prices.iter().find(|p| p.symbol == what.symbol).map(|p| p.price);
+    for Said { line, what: Close { symbol, price } } in &period.closes {
+        let listed = prices.iter().find(|p| p.symbol == *symbol).map(|p| p.price);
         let context = Context { period_index: index, kind: ExecutionKind::StopExit };
-        match account.close_position_at(what.symbol, what.price.or(listed).unwrap_or(0), context, &mut records) {
+        let closed = match price.or(listed) {
+            Some(price) => account.close_position_at(*symbol, price, context, &mut records).map_err(Why::Library),
+            None => Err(Why::NoPrice),
+        };
+        match closed {
             Ok(filled) => now.fills.extend(&records[..filled]),
-            Err(refusal) => {
-                now.refused.push(Refused { line: *line, what: format!("the close of {}", what.symbol), refusal })
-            }
+            Err(why) => now.refused.push(Refused { line: *line, what: format!("the close of {symbol}"), why }),
         }
     }
     let Some(lines) = &period.targets else { return };
@@ -98,9 +121,18 @@ fn trade(account: &mut Account, index: u64, period: &Period, now: &mut Told) {
         Err(refusal) => {
             let first = lines.first().map_or(period.line, |said| said.line);
             let line = bad_targets(account, lines).or(bad_prices(account, period)).unwrap_or(first);
-            now.refused.push(Refused { line, what: "the rebalance".into(), refusal });
+            now.refused.push(Refused { line, what: "the rebalance".into(), why: Why::Library(refusal) });
         }
     }
+}
+
+/// The open holdings that the period has no price of.
+fn unpriced(account: &Account, period: &Period) -> Vec<Refused> {
+    let prices = period.all_prices();
+    let open = account.positions().filter(|p| p.quantity.0 != 0);
+    open.filter(|p| prices.iter().all(|q| q.symbol != p.symbol))
+        .map(|p| Refused { line: period.line, what: p.symbol.to_string(), why: Why::Unpriced })
+        .collect()
 }
 
 /// The first line whose prices are refused by themselves; none where the fault is between lines.

@@ -12,27 +12,26 @@ use std::process::ExitCode;
 
 const EXAMPLE: &str = include_str!("../example.txt");
 
-const USAGE: &str = "usage: threshcoil [FILE] [--page PAGE.html] [--stop] [--example]
-  FILE          a model portfolio; without one, the built-in example is run
-  --page PAGE   where the page goes
-  --stop        end at the first line that is refused or can't be read; else such a line is told and passed over
-  --example     print the built-in example, to begin a file of one's own from";
+// tools/threshcoil prints it too, before anything is proved.
+const USAGE: &str = include_str!("../usage.txt");
 
 struct Asked {
     file: Option<PathBuf>,
     page: PathBuf,
     stop: bool,
-    example: bool,
+    /// A text that is asked for in the place of a run.
+    text: Option<&'static str>,
 }
 
 fn asked() -> Result<Asked, String> {
-    let mut asked = Asked { file: None, page: "model.html".into(), stop: false, example: false };
+    let mut asked = Asked { file: None, page: "target/model.html".into(), stop: false, text: None };
     let mut words = std::env::args_os().skip(1);
     while let Some(word) = words.next() {
         match word.to_str() {
             Some("--page") => asked.page = words.next().ok_or("--page names a file")?.into(),
             Some("--stop") => asked.stop = true,
-            Some("--example") => asked.example = true,
+            Some("--example") => asked.text = Some(EXAMPLE),
+            Some("--help" | "-h") => asked.text = Some(USAGE),
             Some(other) if other.starts_with('-') => return Err(format!("'{other}' is not known")),
             _ if asked.file.is_some() => return Err("one file is run at a time".into()),
             _ => asked.file = Some(word.into()),
@@ -48,7 +47,7 @@ fn main() -> ExitCode {
         // Who reads the first lines and closes the pipe has what they wanted.
         Ok(Err(e)) if e.kind() == io::ErrorKind::BrokenPipe => ExitCode::SUCCESS,
         Ok(Err(e)) => fault(&e.to_string()),
-        Err(why) => fault(&format!("{why}\n{USAGE}")),
+        Err(why) => fault(&format!("{why}\n{}", USAGE.trim_end())),
     }
 }
 
@@ -57,11 +56,11 @@ fn fault(why: &str) -> ExitCode {
     ExitCode::from(2)
 }
 
-/// Whether the run came to its end.
+/// Whether every line of the file counted.
 fn run(asked: Asked) -> io::Result<bool> {
     let mut out = io::stdout().lock();
-    if asked.example {
-        out.write_all(EXAMPLE.as_bytes())?;
+    if let Some(text) = asked.text {
+        out.write_all(text.as_bytes())?;
         return Ok(true);
     }
     let (name, text) = match &asked.file {
@@ -72,7 +71,8 @@ fn run(asked: Asked) -> io::Result<bool> {
     for u in &unread {
         eprintln!("{name}:{}: {}", u.line, u.why);
     }
-    if asked.stop && !unread.is_empty() {
+    if unread.iter().any(|u| u.opening || asked.stop) {
+        eprintln!("threshcoil: nothing is run or written");
         return Ok(false);
     }
     let progress = Progress::new(plan.periods.len());
@@ -86,7 +86,7 @@ fn run(asked: Asked) -> io::Result<bool> {
     let history = match history {
         Ok(history) => history,
         Err(refused) => {
-            eprintln!("{}", text::refusal(&name, &refused));
+            eprintln!("{}\nthreshcoil: nothing is run or written", text::refusal(&name, &refused));
             return Ok(false);
         }
     };
@@ -94,9 +94,13 @@ fn run(asked: Asked) -> io::Result<bool> {
     if let Some(folder) = asked.page.parent() {
         std::fs::create_dir_all(folder)?;
     }
-    std::fs::write(&asked.page, page::page(&plan, &history))?;
+    std::fs::write(&asked.page, page::page(&plan, &unread, &history))?;
     writeln!(out, "page: {}", asked.page.display())?;
-    Ok(!history.stopped)
+    let left_out = unread.len() + history.refusals().count();
+    if left_out > 0 {
+        eprintln!("threshcoil: {left_out} refused, unreadable or without a price; the page tells each");
+    }
+    Ok(left_out == 0)
 }
 
 fn read(file: &PathBuf) -> io::Result<String> {

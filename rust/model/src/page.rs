@@ -2,7 +2,7 @@
 
 use crate::chart::Chart;
 use crate::history::{History, Told};
-use crate::plan::Plan;
+use crate::plan::{Plan, Unread};
 use crate::text::{figures, money, percent, shares};
 use std::fmt::Write;
 use threshcoil::{ExecutionKind, Position};
@@ -13,7 +13,7 @@ pub fn escaped(text: &str) -> String {
     text.replace('&', "&amp;").replace('<', "&lt;").replace('>', "&gt;").replace('"', "&quot;")
 }
 
-pub fn page(plan: &Plan, history: &History) -> String {
+pub fn page(plan: &Plan, unread: &[Unread], history: &History) -> String {
     let name = escaped(&plan.name);
     let mut out = format!(
         "<!doctype html>\n<html lang=\"en\">\n<head>\n<meta charset=\"utf-8\">\n\
@@ -21,11 +21,11 @@ pub fn page(plan: &Plan, history: &History) -> String {
          <style>\n{STYLE}</style>\n</head>\n<body>\n<main>\n"
     );
     head(&mut out, &name, history);
+    left_out(&mut out, unread, history);
     tiles(&mut out, history);
     curves(&mut out, history);
     holdings(&mut out, history);
     trades(&mut out, history);
-    refused(&mut out, history);
     out.push_str(
         "<footer>Equity, fills, holdings, weights and figures come from code that is proved to meet its definition; the curves \
          are drawn from them. A model portfolio is no advice, and past returns promise nothing.</footer>\n</main>\n</body>\n</html>\n",
@@ -47,6 +47,43 @@ fn head(out: &mut String, name: &str, history: &History) {
         money(opening),
         money(history.account.cash())
     );
+}
+
+/// How many lines of the box stand open; the others are folded away.
+const OPEN: usize = 8;
+
+/// What of the file did not count, in the file's order, where it can't be overlooked.
+fn left_out(out: &mut String, unread: &[Unread], history: &History) {
+    let refused = history.refusals().map(|(label, r)| (r.line, format!("{label}, line {}: {r}", r.line)));
+    let mut all: Vec<_> =
+        unread.iter().map(|u| (u.line, format!("line {}: {}", u.line, u.why))).chain(refused).collect();
+    if all.is_empty() {
+        return;
+    }
+    all.sort_by_key(|(line, _)| *line);
+    let (count, do_not) = (all.len(), if all.len() == 1 { "entry does" } else { "entries do" });
+    let then = if history.stopped { "; the run stopped there" } else { "" };
+    let _ = write!(
+        out,
+        "<section class=\"left-out\">\n<h2>{count} {do_not} not count</h2>\n\
+         <p>Each was refused, can't be read or has no price, and the account stayed as it was{then}.</p>\n"
+    );
+    let (open, folded) = all.split_at(all.len().min(OPEN));
+    list(out, open);
+    if !folded.is_empty() {
+        let _ = writeln!(out, "<details>\n<summary>{} more</summary>", folded.len());
+        list(out, folded);
+        out.push_str("</details>\n");
+    }
+    out.push_str("</section>\n");
+}
+
+fn list(out: &mut String, entries: &[(usize, String)]) {
+    out.push_str("<ul>\n");
+    for (_, entry) in entries {
+        let _ = writeln!(out, "<li>{}</li>", escaped(entry));
+    }
+    out.push_str("</ul>\n");
 }
 
 fn tiles(out: &mut String, history: &History) {
@@ -153,24 +190,4 @@ fn trades(out: &mut String, history: &History) {
         out.push_str("</table></div>\n</details>\n");
     }
     out.push_str("</section>\n");
-}
-
-fn refused(out: &mut String, history: &History) {
-    let all: Vec<_> = history.refusals().collect();
-    if all.is_empty() {
-        return;
-    }
-    out.push_str("<section>\n<h2>Refused</h2>\n<p class=\"span\">What the feed gave and the engine did not take; the account stayed as it was.</p>\n<ul class=\"refused\">\n");
-    for (label, r) in all {
-        let _ = writeln!(
-            out,
-            "<li><b>{}</b>, line {}: {} &mdash; {}: {}</li>",
-            escaped(label),
-            r.line,
-            escaped(&r.what),
-            r.refusal.number(),
-            r.refusal
-        );
-    }
-    out.push_str("</ul>\n</section>\n");
 }

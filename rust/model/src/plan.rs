@@ -51,13 +51,21 @@ pub struct Plan {
 pub struct Unread {
     pub line: usize,
     pub why: String,
+    /// Whether it may have been a setting or the cash, without which no number of a run means anything.
+    pub opening: bool,
+}
+
+impl Plan {
+    fn new() -> Plan {
+        let costs = CostModel { commission_bps: 0.0, slippage_bps: 0.0, min_commission: 0 };
+        let settings = Settings { recording: true, ..Settings::new(costs) };
+        Plan { name: "Model portfolio".into(), line: 1, cash: 0, settings, periods: Vec::new() }
+    }
 }
 
 /// Reads the whole text. What can't be read stands in the second list, line by line, and the rest of the file counts.
 pub fn read(text: &str) -> (Plan, Vec<Unread>) {
-    let costs = CostModel { commission_bps: 0.0, slippage_bps: 0.0, min_commission: 0 };
-    let settings = Settings { recording: true, ..Settings::new(costs) };
-    let mut plan = Plan { name: "Model portfolio".into(), line: 1, cash: 0, settings, periods: Vec::new() };
+    let mut plan = Plan::new();
     let mut unread = Vec::new();
     for (k, raw) in text.lines().enumerate() {
         let line = k + 1;
@@ -67,7 +75,7 @@ pub fn read(text: &str) -> (Plan, Vec<Unread>) {
         }
         let (word, rest) = said.split_once(char::is_whitespace).unwrap_or((said, ""));
         if let Err(why) = take(&mut plan, line, word, rest.trim()) {
-            unread.push(Unread { line, why });
+            unread.push(Unread { line, why, opening: plan.periods.is_empty() || is_setting(word) });
         }
     }
     (plan, unread)
@@ -75,19 +83,27 @@ pub fn read(text: &str) -> (Plan, Vec<Unread>) {
 
 fn take(plan: &mut Plan, line: usize, word: &str, rest: &str) -> Result<(), String> {
     if word == "period" {
-        if rest.is_empty() {
-            return Err("a period has a label".into());
-        }
-        plan.periods.push(Period { line, label: rest.into(), prices: Vec::new(), targets: None, closes: Vec::new() });
-        return Ok(());
+        // Without a label it still begins here: its lines are not those of the period before.
+        let label = if rest.is_empty() { format!("line {line}") } else { rest.into() };
+        plan.periods.push(Period { line, label, prices: Vec::new(), targets: None, closes: Vec::new() });
+        return if rest.is_empty() { Err("a period has a label".into()) } else { Ok(()) };
     }
     match plan.periods.last_mut() {
+        Some(_) if is_setting(word) => Err(format!("'{word}' is a setting, and settings come before the first period")),
         Some(period) => take_in_period(period, line, word, rest),
-        None => take_setting(plan, line, word, rest),
+        None => match take_setting(plan, line, word, rest)? {
+            true => Ok(()),
+            false => Err(format!("'{word}' is no setting, and no period has begun")),
+        },
     }
 }
 
-fn take_setting(plan: &mut Plan, line: usize, word: &str, rest: &str) -> Result<(), String> {
+fn is_setting(word: &str) -> bool {
+    take_setting(&mut Plan::new(), 0, word, "") != Ok(false)
+}
+
+/// False for a word that is no setting's.
+fn take_setting(plan: &mut Plan, line: usize, word: &str, rest: &str) -> Result<bool, String> {
     let settings = &mut plan.settings;
     match word {
         "name" => plan.name = rest.into(),
@@ -102,9 +118,9 @@ fn take_setting(plan: &mut Plan, line: usize, word: &str, rest: &str) -> Result<
         "max_trades" => settings.max_trades_per_rebalance = cap(rest)?,
         "max_rebalance_notional" => settings.max_rebalance_notional = cents(rest)?,
         "cash_first" => settings.cash_first = flag(rest)?,
-        _ => return Err(format!("'{word}' is no setting, and no period has begun")),
+        _ => return Ok(false),
     }
-    Ok(())
+    Ok(true)
 }
 
 fn take_in_period(period: &mut Period, line: usize, word: &str, rest: &str) -> Result<(), String> {
@@ -211,5 +227,21 @@ mod tests {
         assert_eq!(unread.iter().map(|u| u.line).collect::<Vec<_>>(), [3, 5]);
         assert_eq!(plan.periods[0].all_targets().len(), 1);
         assert!(plan.periods[0].all_prices().is_empty());
+        assert!(unread.iter().all(|u| !u.opening));
+    }
+
+    #[test]
+    fn a_line_of_the_opening_is_known_wherever_it_stands() {
+        for bad in ["cash abc", "cahs 1.00", "max_trades few", "prices A 1.00\nperiod one", "period one\ncash 1.00"] {
+            let (_, unread) = read(bad);
+            assert!(unread.len() == 1 && unread[0].opening, "{bad}");
+        }
+    }
+
+    #[test]
+    fn a_period_without_a_label_is_not_the_one_before() {
+        let (plan, unread) = read("period one\nprices A 1.00\nperiod\nprices A 2.00\n");
+        assert_eq!(unread.iter().map(|u| (u.line, u.opening)).collect::<Vec<_>>(), [(3, false)]);
+        assert_eq!(plan.periods.iter().map(|p| p.all_prices().len()).collect::<Vec<_>>(), [1, 1]);
     }
 }

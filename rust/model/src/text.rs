@@ -48,7 +48,7 @@ pub fn ratio(x: f64) -> String {
 }
 
 pub fn refusal(file: &str, r: &Refused) -> String {
-    format!("{file}:{}: {} was refused, {}: {}", r.line, r.what, r.refusal.number(), r.refusal)
+    format!("{file}:{}: {r}", r.line)
 }
 
 fn fill(r: &ExecutionRecord) -> String {

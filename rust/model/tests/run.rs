@@ -1,4 +1,4 @@
-//! The command as it is run: the built-in example, a file with bad lines, and where it stops.
+//! The command as it is run: the built-in example, files with bad lines, and where it stops.
 
 use std::path::PathBuf;
 use std::process::{Command, Output};
@@ -8,79 +8,171 @@ fn place(name: &str) -> PathBuf {
     folder.join(name)
 }
 
-fn model(name: &str, text: Option<&str>, more: &[&str]) -> (Output, PathBuf) {
+/// A run by its name, the text of its file (none: the built-in example) and further words; and its page, if it wrote one.
+fn model(name: &str, text: Option<&str>, more: &[&str]) -> (Output, Option<String>) {
     let page = place(&format!("{name}.html"));
+    let _ = std::fs::remove_file(&page);
     let mut command = Command::new(env!("CARGO_BIN_EXE_model"));
     if let Some(text) = text {
         let file = place(&format!("{name}.txt"));
         std::fs::write(&file, text).unwrap();
         command.arg(file);
     }
-    (command.arg("--page").arg(&page).args(more).output().unwrap(), page)
+    let out = command.arg("--page").arg(&page).args(more).output().unwrap();
+    (out, std::fs::read_to_string(page).ok())
 }
 
 fn said(out: &Output) -> String {
     String::from_utf8_lossy(&out.stdout).into_owned() + &String::from_utf8_lossy(&out.stderr)
 }
 
-/// The line of the example on which a text stands.
-fn line_of(text: &str) -> usize {
-    1 + include_str!("../example.txt").lines().position(|l| l.contains(text)).unwrap()
-}
+const BOX: &str = "<section class=\"left-out\">";
 
 #[test]
 fn the_example_runs_to_its_end() {
     let (out, page) = model("example", None, &[]);
-    assert!(out.status.success());
+    assert_eq!(out.status.code(), Some(0));
     let said = said(&out);
-    assert_eq!(said.matches("  equity ").count(), 59, "of 60 periods one has no prices that count");
-    for expected in [
-        format!("example:{}: the period's return was refused, 4: a price is below 1", line_of("INDIGO 0.00")),
-        format!("example:{}: the close of LUMEN was refused, 9:", line_of("close LUMEN")),
-        "cut down to the cash at hand".into(),
-        "stop exit".into(),
-        "60 periods, 59 returns".into(),
-    ] {
-        assert!(said.contains(&expected), "{expected}");
+    assert_eq!(said.matches("  equity ").count(), 60);
+    for expected in ["cut down to the cash at hand", "stop exit", "60 periods, 60 returns"] {
+        assert!(said.contains(expected), "{expected}");
     }
-    let page = std::fs::read_to_string(page).unwrap();
+    let page = page.unwrap();
     for alone in ["http", "<script", "<link", "@import", "url("] {
         assert!(!page.contains(alone), "the page stands alone, without {alone}");
     }
-    for shown in ["<h2>Equity", "<h2>Drawdown", "<h2>Holdings", "<h2>Trades", "<h2>Refused", "Kelly fraction"] {
+    for shown in ["<h2>Equity", "<h2>Drawdown", "<h2>Holdings", "<h2>Trades", "Kelly fraction"] {
         assert!(page.contains(shown), "{shown}");
     }
+    assert!(!page.contains(BOX));
+}
+
+#[test]
+fn what_the_feed_lost_is_told_and_the_account_stays() {
+    let example = include_str!("../example.txt");
+    let lost = example.replacen("INDIGO 151.02", "INDIGO 0.00", 1).replacen("close EMBER", "close LUMEN", 1);
+    let line_of = |text: &str| 1 + lost.lines().position(|l| l.contains(text)).unwrap();
+    let (out, page) = model("lost", Some(&lost), &[]);
+    assert_eq!(out.status.code(), Some(1));
+    let (said, page) = (said(&out), page.unwrap());
+    for (line, why) in [
+        (line_of("INDIGO 0.00"), "the period's return was refused, 4: a price is below 1"),
+        (line_of("close LUMEN"), "the close of LUMEN was refused, 9: a close names an absent or flat position"),
+    ] {
+        assert!(said.contains(&format!(":{line}: {why}")), "{said}");
+        assert!(page.contains(&format!(", line {line}: {why}</li>")), "{why}");
+    }
+    assert!(page.contains("<h2>2 entries do not count</h2>"));
+    assert!(said.contains("60 periods, 59 returns"), "{said}");
 }
 
 const BAD: &str =
-    "cash 1000.00\nperiod one\nprices A 1.00 A 2.00\ntargets A 0.5\nperiod two\nprices A 1.00\nwhat is this\n";
+    "cash 1000.00\nperiod one\nprices A 1.00 A 2.00\ntargets A 0.5\nperiod two\nprices A 1.00\nwhat is <this>\n";
 
 #[test]
 fn a_bad_line_is_told_with_its_number_and_the_run_goes_on() {
-    let (out, _) = model("bad", Some(BAD), &[]);
+    let (out, page) = model("bad", Some(BAD), &[]);
+    assert_eq!(out.status.code(), Some(1));
     let said = said(&out);
-    assert!(out.status.success());
     assert!(said.contains(":3: the rebalance was refused, 3: a symbol stands twice in one list"), "{said}");
     assert!(said.contains(":7: 'what' is neither"), "{said}");
     assert!(said.contains("two\n  equity 1,000.00"), "{said}");
+    let page = page.unwrap();
+    let listed: Vec<&str> = page.lines().filter(|l| l.starts_with("<li>")).collect();
+    assert_eq!(listed.len(), 3, "{listed:?}");
+    assert!(listed[0].starts_with("<li>one, line 3: the rebalance was refused, 3:"), "{listed:?}");
+    assert!(listed[2].starts_with("<li>line 7: 'what' is neither"), "{listed:?}");
+    assert!(page.find(BOX) < page.find("<h2>Equity"), "the box stands above the curves");
+}
+
+#[test]
+fn a_long_list_is_folded() {
+    let (_, page) = model("long", Some(&("cash 1.00\nperiod one\n".to_string() + &"nonsense\n".repeat(50))), &[]);
+    let page = page.unwrap();
+    assert!(page.contains("50 entries do not count") && page.contains("<summary>42 more</summary>"));
 }
 
 #[test]
 fn a_run_stops_where_asked() {
-    let stops = BAD.replace("what is this\n", "");
-    let (out, _) = model("stop", Some(&stops), &["--stop"]);
+    let stops = BAD.replace("what is <this>\n", "");
+    let (out, page) = model("stop", Some(&stops), &["--stop"]);
     assert_eq!(out.status.code(), Some(1));
     assert!(!said(&out).contains("\ntwo\n"));
-    let (out, _) = model("unread", Some(BAD), &["--stop"]);
+    assert!(page.unwrap().contains("the run stopped there"));
+    let (out, page) = model("unread", Some(BAD), &["--stop"]);
     assert_eq!(out.status.code(), Some(1));
-    assert!(!said(&out).contains("equity"));
+    assert!(!said(&out).contains("equity") && page.is_none());
+}
+
+#[test]
+fn an_opening_that_cannot_be_read_runs_nothing() {
+    for (name, bad, line) in [
+        ("cash", "cash abc\nperiod one\nprices A 1.00\n", 1),
+        ("word", "cash 10.00\ncahs 10.00\nperiod one\n", 2),
+        ("setting", "cash 10.00\ncommission_bps few\nperiod one\n", 2),
+        ("late", "cash 10.00\nperiod one\nprices A 1.00\ncash_first on\n", 4),
+    ] {
+        let (out, page) = model(&format!("opening-{name}"), Some(bad), &[]);
+        assert_eq!(out.status.code(), Some(1), "{name}");
+        assert!(out.stdout.is_empty() && page.is_none(), "{name}: {}", said(&out));
+        assert!(said(&out).contains(&format!(".txt:{line}: ")), "{name}: {}", said(&out));
+    }
 }
 
 #[test]
 fn a_refused_opening_and_a_missing_file_are_told() {
-    let (out, _) = model("opening", Some("cash 10.00\nslippage_bps 10001\n"), &[]);
+    let (out, page) = model("opening", Some("cash 10.00\nslippage_bps 10001\n"), &[]);
     assert_eq!(out.status.code(), Some(1));
     assert!(said(&out).contains(":1: the opening was refused, 1:"), "{}", said(&out));
+    assert!(out.stdout.is_empty() && page.is_none());
     let out = Command::new(env!("CARGO_BIN_EXE_model")).arg(place("no such file")).output().unwrap();
     assert_eq!(out.status.code(), Some(2));
+}
+
+#[test]
+fn a_close_without_a_price_says_so() {
+    let text =
+        "cash 10.00\nperiod one\nprices A 1.00\ntargets A 0.5\nperiod two\nprices B 1.00\nclose A\nclose A 0.00\n";
+    let (out, page) = model("unpriced", Some(text), &[]);
+    assert_eq!(out.status.code(), Some(1));
+    let said = said(&out);
+    assert!(
+        said.contains(":7: the close of A has no price: the period lists none, nor does the line give one"),
+        "{said}"
+    );
+    assert!(said.contains(":8: the close of A was refused, 4: a price is below 1"), "{said}");
+    assert!(said.contains(":5: A is held and the period has no price of it: it counts 0"), "{said}");
+    let page = page.unwrap();
+    for shown in
+        ["<li>two, line 7: the close of A has no price:", "<li>two, line 5: A is held and the period has no price"]
+    {
+        assert!(page.contains(shown), "{shown}");
+    }
+}
+
+#[test]
+fn a_symbol_is_shown_as_it_is() {
+    let text =
+        "cash 10.00\nperiod one\nprices A&B\"' 1.00 \\<C> 1.00\ntargets A&B\"' 0.5 \\<C> 0.25\nclose \u{dc}X 1.00\n";
+    let (out, page) = model("symbol", Some(text), &[]);
+    let said = said(&out);
+    for shown in ["buy  A&B\"' ", "buy  \\<C> ", "the close of \u{dc}X was refused, 2: a symbol is bad"] {
+        assert!(said.contains(shown), "{said}");
+    }
+    let page = page.unwrap();
+    for shown in ["<td>A&amp;B&quot;'</td>", "<td>\\&lt;C&gt;</td>"] {
+        assert!(page.contains(shown), "{shown}");
+    }
+}
+
+#[test]
+fn help_is_no_fault() {
+    for word in ["--help", "-h"] {
+        let (out, page) = model("help", None, &[word]);
+        assert_eq!(out.status.code(), Some(0));
+        assert!(said(&out).starts_with("usage: tools/threshcoil ") && page.is_none());
+    }
+    let (out, _) = model("unknown", None, &["--hlep"]);
+    assert_eq!(out.status.code(), Some(2));
+    assert!(said(&out).contains("'--hlep' is not known\nusage: "));
 }

@@ -2,7 +2,7 @@
 
 use crate::Refusal;
 use crate::bytes::{self, Word};
-use std::fmt;
+use std::fmt::{self, Write};
 
 /// One to eight bytes from 33 to 126, padded with zeros; ordered by bytes.
 #[derive(Clone, Copy, PartialEq, Eq, PartialOrd, Ord, Hash)]
@@ -44,9 +44,16 @@ impl Symbol {
     }
 }
 
+/// As it is; of a bad one, what can't be shown is escaped.
 impl fmt::Display for Symbol {
     fn fmt(&self, f: &mut fmt::Formatter<'_>) -> fmt::Result {
-        write!(f, "{}", self.as_bytes().escape_ascii())
+        for part in self.as_bytes().utf8_chunks() {
+            for c in part.valid().chars() {
+                if c.is_control() { write!(f, "{}", c.escape_default())? } else { f.write_char(c)? }
+            }
+            write!(f, "{}", part.invalid().escape_ascii())?;
+        }
+        Ok(())
     }
 }
 
