@@ -390,8 +390,9 @@ def need(costs, quantity, price):
 
 
 def affordable(settings, cash, request, price):
-    """'the largest step multiple, not above the request, whose need fits cash'; 'at cash 0 it is nothing'."""
-    if cash == 0:
+    """'the largest step multiple, not above the request, whose need fits cash'; 'at cash 0 it is nothing'. Nor is it
+    anything at a price that no buy has, 0 or below."""
+    if cash == 0 or price < 1:
         return 0
     fits, fails = 0, request // settings.quantity_step + 1
     while fails - fits > 1:

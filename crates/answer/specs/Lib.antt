@@ -1,2 +1,3 @@
--- What each answer says: document 01, 'Answer numbers'.
+-- What each answer says, and how a definition chooses: document 01, 'Answer numbers'.
+pub mod Choice
 pub mod Numbers

@@ -1,7 +1,10 @@
--- Document 01, 'Answer numbers': the number of each answer, given exactly when the table says.
+-- Document 01, 'Answer numbers': the number of each answer, given exactly when the table says, and how one check follows another.
 use Prim.Native.Nat.{ℕ}
+use mathlib.Core.Bool.{Bool}
+use lib.Dec.{eqb}
 use Rattle.answer.specs.declared.Answer.{Answer}
 use Rattle.answer.specs.declared.Answer.the-variants.{Done, BadSetting, BadSymbol, Twice, BadPrice, BadWeight, TooLong, TooMany, NoRecordRoom, NotHeld, BufferFull, Unsound, BadSeries}
+use Rattle.answer.specs.Choice.{pick}
 
 abbrev pub numberOf : Answer → ℕ
 -- done
@@ -30,3 +33,15 @@ numberOf BufferFull = 10
 numberOf Unsound = 11
 -- a return series is empty or has a non-finite member
 numberOf BadSeries = 12
+
+-- "0 done"
+abbrev pub isDone : Answer → Bool
+isDone answer = eqb (numberOf answer) 0
+
+-- "Check order where several apply": the later answer where the test holds, else this refusal
+abbrev pub unless : Bool → Answer → Answer → Answer
+unless ok refusal later = pick ok later refusal
+
+-- the later answer where this one is done
+abbrev pub orLater : Answer → Answer → Answer
+orLater answer later = pick (isDone answer) later answer

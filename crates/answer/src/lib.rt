@@ -1,6 +1,6 @@
 // The answers of document 01's table.
 ghost use mathlib.Core.Path.{_≡_};
-ghost use Rattle.answer.specs.Numbers.{numberOf};
+ghost use Rattle.answer.specs.Numbers.{numberOf, isDone};
 
 pub enum Answer {
     Done,
@@ -37,4 +37,10 @@ pub fn number(a: Answer) -> u64
         Answer::Unsound => 11,
         Answer::BadSeries => 12,
     }
+}
+
+pub fn is_done(a: Answer) -> bool
+    ensures { λ r. ⌜ r ≡ isDone a ⌝ }
+{
+    number(a) == 0
 }

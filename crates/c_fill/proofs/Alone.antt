@@ -24,7 +24,7 @@ use Rattle.fills.specs.declared.fill.Filled.{Filled}
 use Rattle.fills.specs.declared.order.Book.{Book}
 use Rattle.fills.specs.Records.{allWords, allInts, fronted, buffers, stored}
 use Rattle.fills.specs.Fill.{fill}
-use Rattle.fills.specs.Runs.{recordsOf, Fills}
+use Rattle.fills.specs.Inner.Runs.{recordsOf, Fills}
 use Rattle.fills.proofs.Storing.{keeps-one}
 use Rattle.fills.proofs.Fronts.{stored-fronts}
 use Rattle.c_fill.specs.declared.Ask.{Ask}

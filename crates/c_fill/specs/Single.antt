@@ -27,7 +27,7 @@ use Rattle.fills.specs.declared.record.ExecutionKind.the-variants.{Rebalance, S
 use Rattle.fills.specs.declared.record.ExecutionRecord.{ExecutionRecord}
 use Rattle.fills.specs.Orders.{State}
 use Rattle.fills.specs.Records.{allWords, allInts, fronted}
-use Rattle.fills.specs.Runs.{order, recordsOf}
+use Rattle.fills.specs.Inner.Runs.{order, recordsOf}
 use Rattle.fills.specs.Fill.{fill}
 use Rattle.c_fill.specs.declared.Ask.{Ask}
 use Rattle.c_fill.specs.declared.Seen.{Seen}

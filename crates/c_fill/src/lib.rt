@@ -5,7 +5,7 @@ ghost use lib.ListN.{length};
 ghost use Rattle.cost_model.specs.Costs.{model};
 ghost use Rattle.table.specs.Rows.{cols, counted};
 ghost use Rattle.fills.specs.Records.{allWords, allInts, fronted};
-ghost use Rattle.fills.specs.Runs.{recordsOf};
+ghost use Rattle.fills.specs.Inner.Runs.{recordsOf};
 ghost use Rattle.c_fill.specs.Single.{kindOf, asked, termsOf, bookOf, positionIn, isNone, enteredIn, soundIn, goodAsk, refusalOf, seenBy, seenAfter, moneyOf, talliesOf, slots, told, fillOne};
 use answer::Answer;
 use cost_model::CostModel;

@@ -11,10 +11,10 @@ ghost use Rattle.c_queries.specs.Reports.{snapshotWords, snapshotTold, s
 use crate::asked::account_in;
 use crate::asked::early;
 use account::Account;
+use answer::is_done;
 use list_bytes::Prices;
 use list_bytes::read_prices;
 use list_bytes::write_weights;
-use portfolio::is_done;
 use queries::Snapshot;
 use queries::snapshot;
 use word_bytes::put_word;

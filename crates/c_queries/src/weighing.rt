@@ -8,10 +8,10 @@ ghost use Rattle.c_queries.specs.Reports.{weightsTold, currentWeightsIn}
 use crate::asked::account_in;
 use crate::asked::early;
 use account::Account;
+use answer::is_done;
 use list_bytes::Prices;
 use list_bytes::read_prices;
 use list_bytes::write_weights;
-use portfolio::is_done;
 use queries::Weights;
 use queries::current_weights;
 

@@ -4,7 +4,7 @@ ghost use Rattle.c_timed.specs.Made.{doneOf, leave, left};
 use account::Changed;
 use account_bytes::write_account;
 use answer::Answer;
-use portfolio::is_done;
+use answer::is_done;
 
 // How many were done: all of them, or none.
 pub(crate) fn done_of(answer: Answer, times: u64) -> u64

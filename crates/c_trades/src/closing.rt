@@ -19,8 +19,8 @@ use account_bytes::is_account;
 use account_bytes::read_columns;
 use account_bytes::read_ledger;
 use answer::Answer;
+use answer::is_done;
 use portfolio::close_on;
-use portfolio::is_done;
 
 // A close on lent columns, whose record stands first in number slices.
 fn close_at(

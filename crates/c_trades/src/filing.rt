@@ -5,9 +5,9 @@ ghost use Rattle.table.specs.Rows.{cols};
 ghost use Rattle.portfolio.specs.Trades.{tradedOn};
 ghost use Rattle.c_trades.specs.Told.{tell, finished};
 use account_bytes::write_ledger;
+use answer::is_done;
 use list_bytes::write_records;
 use portfolio::Ran;
-use portfolio::is_done;
 
 // The places of a record buffer, of which a call fills no more than `most`.
 pub(crate) fn places(bytes: usize, most: usize) -> usize

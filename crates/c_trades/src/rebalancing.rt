@@ -23,10 +23,10 @@ use account_bytes::is_account;
 use account_bytes::read_columns;
 use account_bytes::read_ledger;
 use answer::Answer;
+use answer::is_done;
 use list_bytes::is_whole;
 use list_bytes::prices_into;
 use list_bytes::targets_into;
-use portfolio::is_done;
 use portfolio::rebalance_on;
 
 // A rebalance on lent columns by whole lists, whose records stand first in number slices.

@@ -18,10 +18,10 @@ use account_bytes::read_columns;
 use account_bytes::read_ledger;
 use account_bytes::write_series;
 use answer::Answer;
+use answer::is_done;
 use list_bytes::is_whole;
 use list_bytes::prices_into;
 use portfolio::Noted;
-use portfolio::is_done;
 use portfolio::return_on;
 
 // The series is written after a call that was done; after another the account's bytes stay.

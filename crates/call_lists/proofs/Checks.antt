@@ -1,20 +1,20 @@
 -- What lists that are not refused have: each test of the definition.
 use Prim.Native.Nat.{ℕ, _≤_}
-use mathlib.Core.Path.{_≡_, refl}
-use mathlib.Core.Bool.{Bool, true, false}
+use mathlib.Core.Path.{_≡_, refl, ap}
+use mathlib.Core.Bool.{true}
 use mathlib.Core.List.{List}
-use native.Mathlib.Omega.{arith}
 use lib.Dec.{eqb, leb}
 use lib.IntN.{ℤ}
 use lib.Ieee.{Float}
 use lib.ListN.{length}
 use borrow.Author.Tests.{leb-true, eqb-true}
-use Rattle.answer.specs.declared.Answer.{Answer}
 use Rattle.answer.specs.declared.Answer.the-variants.{Done, BadSymbol, Twice, BadPrice, BadWeight, TooLong}
+use Rattle.answer.specs.Numbers.{isDone}
+use Rattle.answer.proofs.Answers.{passed}
 use Rattle.table.specs.Keyed.{both}
 use Rattle.table.proofs.Keyed.{both-true}
 use Rattle.call_lists.specs.Lists.{allGood, distinct, allFinite, allPriced}
-use Rattle.call_lists.specs.Checks.{unless, shortEnough, listsAnswer}
+use Rattle.call_lists.specs.Checks.{shortEnough, listsAnswer}
 
 pub record Accepted (ts : List ℕ) (ws : List Float) (ps : List ℕ) (vs : List ℤ) : Type 0 where
   pub targetsBound : length ts ≤ 64
@@ -28,19 +28,15 @@ pub record Accepted (ts : List ℕ) (ws : List Float) (ps : List ℕ) (vs : List
   pub weightsFinite : allFinite ws ≡ true
   pub pricesListed : allPriced vs ≡ true
 
-passed : (ok : Bool) (refusal later : Answer) → (refusal ≡ Done → ⊥) → unless ok refusal later ≡ Done → (ok ≡ true) × (later ≡ Done)
-passed true refusal later n e = (refl, e)
-passed false refusal later n e = absurd (n e)
-
 module _ (ts : List ℕ) (ws : List Float) (ps : List ℕ) (vs : List ℤ) where
   pub done-accepted : listsAnswer ts ws ps vs ≡ Done → Accepted ts ws ps vs
   unfolding listsAnswer shortEnough
   done-accepted e =
-      let a = passed (shortEnough ts ws ps vs) TooLong _ (λ q. let z : _≡_ {A = ℕ} 0 1 = cc in omega arith) e in
-      let b = passed (both (allGood ts) (allGood ps)) BadSymbol _ (λ q. let z : _≡_ {A = ℕ} 0 1 = cc in omega arith) (a .1) in
-      let c = passed (both (distinct ts) (distinct ps)) Twice _ (λ q. let z : _≡_ {A = ℕ} 0 1 = cc in omega arith) (b .1) in
-      let d = passed (allFinite ws) BadWeight _ (λ q. let z : _≡_ {A = ℕ} 0 1 = cc in omega arith) (c .1) in
-      let f = passed (allPriced vs) BadPrice Done (λ q. let z : _≡_ {A = ℕ} 0 1 = cc in omega arith) (d .1) in
+      let a = passed (shortEnough ts ws ps vs) TooLong _ refl (ap isDone e) in
+      let b = passed (both (allGood ts) (allGood ps)) BadSymbol _ refl (a .1) in
+      let c = passed (both (distinct ts) (distinct ps)) Twice _ refl (b .1) in
+      let d = passed (allFinite ws) BadWeight _ refl (c .1) in
+      let f = passed (allPriced vs) BadPrice Done refl (d .1) in
       let s = both-true (both (leb (length ts) 64) (eqb (length ts) (length ws))) _ (a .0) in
       let t = both-true (leb (length ts) 64) (eqb (length ts) (length ws)) (s .0) in
       let p = both-true (leb (length ps) 128) (eqb (length ps) (length vs)) (s .1) in

@@ -18,7 +18,7 @@ use Rattle.table.specs.declared.found.Found.{Found}
 use Rattle.table.specs.declared.found.Found.the-variants.{At, Absent}
 use Rattle.table.proofs.Keyed.{both-true}
 use Rattle.call_lists.specs.Lists.{among, allPriced, priceOf}
-use Rattle.call_lists.specs.Quotes.{quoted}
+use Rattle.call_lists.specs.Inner.Quotes.{quoted}
 use Rattle.call_lists.proofs.Lists.{below-first, below-not-among}
 
 -- ---- what a symbol is priced at

@@ -8,12 +8,9 @@ use lib.ListN.{length}
 use lib.Ieee.{Float}
 use Rattle.answer.specs.declared.Answer.{Answer}
 use Rattle.answer.specs.declared.Answer.the-variants.{Done, BadSymbol, Twice, BadPrice, BadWeight, TooLong}
-use Rattle.table.specs.Keyed.{pick, both}
+pub use Rattle.answer.specs.Numbers.{unless}
+use Rattle.table.specs.Keyed.{both}
 use Rattle.call_lists.specs.Lists.{allGood, distinct, allFinite, allPriced}
-
--- the later answer where the test holds, else this refusal
-abbrev pub unless : Bool → Answer → Answer → Answer
-unless ok refusal later = pick ok later refusal
 
 -- "64 targets, 128 prices"; paired lists have one length
 unfoldable pub shortEnough : List ℕ → List Float → List ℕ → List ℤ → Bool

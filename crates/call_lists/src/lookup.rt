@@ -2,7 +2,7 @@
 ghost use mathlib.Core.Path.{_≡_};
 ghost use lib.IntN.{pos};
 ghost use lib.ListN.{getD};
-ghost use Rattle.call_lists.specs.Quotes.{Quotes};
+ghost use Rattle.call_lists.specs.Inner.Quotes.{Quotes};
 use crate::price::Quote;
 use table::Found;
 use table::find;

@@ -9,8 +9,9 @@ use Rattle.position.specs.Fills.{applied, sameSide, entered, averaged, grown, c
 use Rattle.cost_model.specs.Costs.{cost, commission, atLeast, slippageFactor, slipped, effective, goodRate, goodCosts}
 use Rattle.sizing.specs.Sizing.{above, sharesFor, sized, drift}
 use Rattle.sizing.specs.Afford.{need, fits, largest, affordable}
+use Rattle.sizing.specs.Cash.{cashTaken}
 use Rattle.fills.specs.Orders.{paid}
-use Rattle.fills.specs.Fill.{cashTaken, fillsWhole, made, counted, settled, trimmedFill, fill, fillAll}
+use Rattle.fills.specs.Fill.{fillsWhole, made, counted, settled, trimmedFill, fill, fillAll}
 use Rattle.wanted.specs.Plan.{withinBand}
 use Rattle.cases.specs.Rows.{allRight}
 use Rattle.cases.specs.Table.{table}

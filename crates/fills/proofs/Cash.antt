@@ -16,12 +16,14 @@ use Rattle.position.proofs.Fills.{short-parts}
 use Rattle.cost_model.specs.Costs.{cost, goodCosts}
 use Rattle.cost_model.proofs.Costs.{buy-price-at-least-1}
 use Rattle.sizing.specs.Afford.{need, affordable}
+use Rattle.sizing.specs.Cash.{cashTaken}
 use Rattle.sizing.proofs.Buys.{affordable-nonneg, affordable-fits}
+use Rattle.sizing.proofs.Cash.{need-is-taken}
 use Rattle.table.specs.Keyed.{pick}
 use Rattle.fills.specs.declared.order.Order.{Order}
 use Rattle.fills.specs.declared.order.Terms.{Terms}
 use Rattle.fills.specs.Orders.{State, buys, paid}
-use Rattle.fills.specs.Fill.{cashTaken, fillsWhole, counted, settled, trimmedFill, fill}
+use Rattle.fills.specs.Fill.{fillsWhole, counted, settled, trimmedFill, fill}
 
 -- ---- what becomes of an order
 module _ (Q : State → Type 0) (t : Terms) (o : Order) (s : State) where
@@ -64,19 +66,9 @@ left-is-taken c d =
     short (inr z) h = omega (arith, z, h, sizes .0, sizes .1, P-sub c d)
 
 -- ---- a buy: its need is the cash that it takes
-past-zero : (z : ℤ) → ltZ (pos 0) z ≡ true → leZ z (pos 0) ≡ false
-unfolding P N
-past-zero z h = gt-is z (pos 0) (omega (arith, lt-yes (pos 0) z h))
-
 from-one : (z : ℤ) → leZ (pos 1) z ≡ true → ltZ (pos 0) z ≡ true
 unfolding P N
 from-one z h = lt-is (pos 0) z (omega (arith, le-yes (pos 1) z h))
-
-pub need-is-taken : (t : Terms) (q p : ℤ) → ltZ (pos 0) q ≡ true → ltZ (pos 0) p ≡ true → need (t .costs) q p ≡ cashTaken t q p
-unfolding need cashTaken
-need-is-taken t q p h g =
-    rw (past-zero q h, past-zero p g)
-    (ap (λ (z : ℤ). satAdd z (cost (t .costs) (notional q p))) (notional-is-value q p (lt-le (pos 0) q h) (lt-le (pos 0) p g)))
 
 -- a count of at least 0 that is not 0
 some-positive : (q : ℤ) → leZ (pos 0) q ≡ true → isZero q ≡ false → ltZ (pos 0) q ≡ true
@@ -92,14 +84,14 @@ module _ (t : Terms) (good : goodCosts (t .costs) ≡ true) (o : Order) (price :
   bought-above-zero e = from-one (paid t o) (rw e (buy-price-at-least-1 (t .costs) (o .price) good price))
 
   -- an order fills whole exactly when the cash that it takes is there
-  pub whole-is-taken : (cash : ℤ) → fillsWhole t o cash ≡ leZ (cashTaken t (o .quantity .0) (paid t o)) cash
+  pub whole-is-taken : (cash : ℤ) → fillsWhole t o cash ≡ leZ (cashTaken (t .costs) (o .quantity .0) (paid t o)) cash
   unfolding fillsWhole
   whole-is-taken cash = go (buys o) refl
     where
       go : (b : Bool) → buys o ≡ b
-          → pick b (leZ (need (t .costs) (o .quantity .0) (paid t o)) cash) (leZ (pos 0) (satSub cash (cashTaken t (o .quantity .0) (paid t o)))) ≡ leZ (cashTaken t (o .quantity .0) (paid t o)) cash
-      go true e = ap (λ (z : ℤ). leZ z cash) (need-is-taken t (o .quantity .0) (paid t o) e (bought-above-zero e))
-      go false e = left-is-taken cash (cashTaken t (o .quantity .0) (paid t o))
+          → pick b (leZ (need (t .costs) (o .quantity .0) (paid t o)) cash) (leZ (pos 0) (satSub cash (cashTaken (t .costs) (o .quantity .0) (paid t o)))) ≡ leZ (cashTaken (t .costs) (o .quantity .0) (paid t o)) cash
+      go true e = ap (λ (z : ℤ). leZ z cash) (need-is-taken (t .costs) (o .quantity .0) (paid t o) e (bought-above-zero e))
+      go false e = left-is-taken cash (cashTaken (t .costs) (o .quantity .0) (paid t o))
 
   -- then it is settled whole
   pub whole-settles : (s : State) → isZero (o .quantity .0) ≡ false → fillsWhole t o (s .cash) ≡ true → fill t o s ≡ settled t o (o .quantity .0) s
@@ -110,13 +102,13 @@ module _ (t : Terms) (good : goodCosts (t .costs) ≡ true) (o : Order) (price :
   pub fill-keeps-cash : (s : State) → leZ (pos 0) (s .cash) ≡ true → leZ (pos 0) (fill t o s .cash) ≡ true
   unfolding settled counted
   fill-keeps-cash s h = by-outcome (λ x. leZ (pos 0) (x .cash) ≡ true) t o s h
-      (λ z w. left-is-taken (s .cash) (cashTaken t (o .quantity .0) (paid t o)) ∙ sym (whole-is-taken (s .cash)) ∙ w)
+      (λ z w. left-is-taken (s .cash) (cashTaken (t .costs) (o .quantity .0) (paid t o)) ∙ sym (whole-is-taken (s .cash)) ∙ w)
       (λ b z. h)
       (λ b z.
       let q = got (λ x. leZ (pos 0) (x .cash) ≡ true) t o s in
       let u = some-positive q (affordable-nonneg (t .costs) (t .«quantity_step») (s .cash) (o .quantity .0) (paid t o)) z in
-      left-is-taken (s .cash) (cashTaken t q (paid t o))
-      ∙ ap (λ x. leZ x (s .cash)) (sym (need-is-taken t q (paid t o) u (bought-above-zero b)))
+      left-is-taken (s .cash) (cashTaken (t .costs) q (paid t o))
+      ∙ ap (λ x. leZ x (s .cash)) (sym (need-is-taken (t .costs) q (paid t o) u (bought-above-zero b)))
       ∙ affordable-fits (t .costs) (t .«quantity_step») (s .cash) (o .quantity .0) (paid t o) h)
 
 -- a record's change of cash is the plain difference, of cash of at least 0

@@ -5,29 +5,29 @@ use lib.IntN.{ℤ, pos}
 use lib.Signed.{ltZ, leZ}
 use Rattle.position.proofs.Counts.{lt-not-ge, not-lt-ge}
 use Rattle.sums.specs.Sums.{satAdd, satSub}
+use Rattle.sizing.specs.Cash.{cashTaken}
 use Rattle.fills.specs.declared.deal.Deal.{Deal}
 use Rattle.fills.specs.declared.order.Terms.{Terms}
-use Rattle.fills.specs.Fill.{cashTaken}
 use Rattle.fills.specs.declared.order.Book.{Book}
 use Rattle.fills.specs.Orders.{nextCount}
-use Rattle.fills.specs.Deal.{dealt, noDeal, sold}
-use Rattle.fills.specs.Runs.{countedIn}
+use Rattle.fills.specs.Inner.Deal.{dealt, noDeal, sold}
+use Rattle.fills.specs.Inner.Runs.{countedIn}
 
 module _ (t : Terms) (q p cash : ℤ) (d : Deal) (e : d ≡ dealt t q p cash false (pos 0)) where
-  left : d .«cash_after» ≡ satSub cash (cashTaken t q p)
+  left : d .«cash_after» ≡ satSub cash (cashTaken (t .costs) q p)
   unfolding dealt
   left = ap (λ x. x .«cash_after») e
 
   pub sold-skips : ltZ (d .«cash_after») (pos 0) ≡ true → sold t q p cash ≡ noDeal p cash false (pos 0)
   unfolding sold
   sold-skips h =
-      let n : leZ (pos 0) (satSub cash (cashTaken t q p)) ≡ false = ap (leZ (pos 0)) (sym left) ∙ lt-not-ge (d .«cash_after») (pos 0) h in
+      let n : leZ (pos 0) (satSub cash (cashTaken (t .costs) q p)) ≡ false = ap (leZ (pos 0)) (sym left) ∙ lt-not-ge (d .«cash_after») (pos 0) h in
       simp n
 
   pub sold-fills : ltZ (d .«cash_after») (pos 0) ≡ false → sold t q p cash ≡ d
   unfolding sold
   sold-fills h =
-      let n : leZ (pos 0) (satSub cash (cashTaken t q p)) ≡ true = ap (leZ (pos 0)) (sym left) ∙ not-lt-ge (d .«cash_after») (pos 0) h in
+      let n : leZ (pos 0) (satSub cash (cashTaken (t .costs) q p)) ≡ true = ap (leZ (pos 0)) (sym left) ∙ not-lt-ge (d .«cash_after») (pos 0) h in
       simp (n, e)
 
 module _ (d : Deal) (b : Book) where

@@ -14,6 +14,7 @@ use Rattle.position.specs.Shares.{isZero}
 use Rattle.position.specs.Fills.{applied}
 use Rattle.position.proofs.Fills.{applied-keeps-symbol}
 use Rattle.sizing.specs.Afford.{need, affordable}
+use Rattle.sizing.specs.Cash.{cashTaken}
 use Rattle.table.specs.declared.found.Found.{Found}
 use Rattle.table.specs.Keyed.{pick, orElse, seek, put64}
 use Rattle.table.specs.Places.{Finds, found}
@@ -29,9 +30,9 @@ use Rattle.fills.specs.declared.order.Terms.{Terms}
 use Rattle.fills.specs.declared.record.ExecutionRecord.{ExecutionRecord}
 use Rattle.fills.specs.Orders.{State, buys, paid}
 use Rattle.fills.specs.Records.{recordOf}
-use Rattle.fills.specs.Fill.{cashTaken, fillsWhole, made, counted, settled, trimmedFill, fill}
-use Rattle.fills.specs.Deal.{dealt, noDeal, trimmedTo, bought, sold, dealOf, recordBy, countedBy, settledBy, afterDeal}
-use Rattle.fills.specs.Runs.{state, countedIn, sequenceAfter, settledIn, recordsOf, Fills}
+use Rattle.fills.specs.Fill.{fillsWhole, made, counted, settled, trimmedFill, fill}
+use Rattle.fills.specs.Inner.Deal.{dealt, noDeal, trimmedTo, bought, sold, dealOf, recordBy, countedBy, settledBy, afterDeal}
+use Rattle.fills.specs.Inner.Runs.{state, countedIn, sequenceAfter, settledIn, recordsOf, Fills}
 
 -- ---- a fill is what its deal says
 module _ (t : Terms) (o : Order) (s : State) where
@@ -73,7 +74,7 @@ module _ (t : Terms) (o : Order) (s : State) where
 
   pub fill-is-deal : fill t o s ≡ afterDeal t o (dealOf t o (s .cash)) s
   unfolding fill fillsWhole dealOf bought sold
-  fill-is-deal = by-tests (isZero (o .quantity .0)) (buys o) (leZ (need (t .costs) (o .quantity .0) (paid t o)) (s .cash)) (leZ (pos 0) (satSub (s .cash) (cashTaken t (o .quantity .0) (paid t o)))) refl
+  fill-is-deal = by-tests (isZero (o .quantity .0)) (buys o) (leZ (need (t .costs) (o .quantity .0) (paid t o)) (s .cash)) (leZ (pos 0) (satSub (s .cash) (cashTaken (t .costs) (o .quantity .0) (paid t o)))) refl
 
   -- a deal of nothing, and of something
   pub none-after : (d : Deal) → isZero (d .quantity .0) ≡ true → afterDeal t o d s ≡ countedBy d s

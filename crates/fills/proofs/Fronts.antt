@@ -16,7 +16,7 @@ use Rattle.fills.specs.declared.record.ExecutionRecord.{ExecutionRecord}
 use Rattle.fills.specs.Orders.{State}
 use Rattle.fills.specs.Records.{wordsOf, intsOf, allWords, allInts, fronted, Buffers, buffers, storedAll}
 use Rattle.fills.specs.Fill.{counted, settled, fill, fillAll}
-use Rattle.fills.specs.Runs.{state, Runs}
+use Rattle.fills.specs.Inner.Runs.{state, Runs}
 use Rattle.fills.proofs.Cash.{by-outcome}
 use Rattle.fills.proofs.Storing.{with-room}
 

@@ -24,7 +24,7 @@ use Rattle.fills.specs.declared.order.Order.{Order}
 use Rattle.fills.specs.declared.order.Terms.{Terms}
 use Rattle.fills.specs.Orders.{State, buys, paid}
 use Rattle.fills.specs.Fill.{made, counted, settled, fill, fillAll}
-use Rattle.fills.specs.Deal.{dealOf, countedBy}
+use Rattle.fills.specs.Inner.Deal.{dealOf, countedBy}
 use Rattle.fills.proofs.Cash.{by-outcome, fill-keeps-cash}
 use Rattle.fills.proofs.Filling.{fill-is-deal, none-after}
 

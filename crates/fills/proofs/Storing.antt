@@ -12,7 +12,7 @@ use Rattle.table.proofs.Keyed.{both-false}
 use Rattle.fills.specs.declared.record.ExecutionRecord.{ExecutionRecord}
 use Rattle.fills.specs.declared.fill.Filled.{Filled}
 use Rattle.fills.specs.Records.{wordsOf, intsOf, Buffers, buffers, room, stored, storedAll}
-use Rattle.fills.specs.Runs.{recordsOf}
+use Rattle.fills.specs.Inner.Runs.{recordsOf}
 
 -- ---- stores in a row, as code writes them: at i + j, i + (j + 1), ..
 module _ {A : Type 0} where

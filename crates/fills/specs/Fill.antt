@@ -4,28 +4,24 @@ use mathlib.Core.List.{List, [], _∷_, _++_}
 use mathlib.Core.Option.{Option}
 use lib.IntN.{ℤ, pos}
 use lib.Signed.{leZ}
-use Rattle.sums.specs.Sums.{satAdd, satSub, value, notional}
+use Rattle.sums.specs.Sums.{satAdd, satSub, notional}
 use Rattle.position.specs.declared.position.Position.{Position}
 use Rattle.position.specs.Rows.{fresh, keyOf}
 use Rattle.position.specs.Shares.{isZero}
 use Rattle.position.specs.Fills.{applied}
-use Rattle.cost_model.specs.Costs.{cost}
 use Rattle.sizing.specs.Afford.{need, affordable}
+use Rattle.sizing.specs.Cash.{cashTaken}
 use Rattle.table.specs.Keyed.{pick, orElse, seek, put64}
 use Rattle.fills.specs.declared.order.Order.{Order}
 use Rattle.fills.specs.declared.order.Terms.{Terms}
 use Rattle.fills.specs.Orders.{State, buys, paid, nextCount}
 use Rattle.fills.specs.Records.{recordOf}
 
--- "Cash falls by the signed value plus commission, saturating": by this much, for q micro-shares at price p
-unfoldable pub cashTaken : Terms → ℤ → ℤ → ℤ
-cashTaken t q p = satAdd (value q p) (cost (t .costs) (notional q p))
-
 -- "A buy's need is notional plus commission"; "A sell whose cash afterwards would be below 0 is skipped"
 unfoldable pub fillsWhole : Terms → Order → ℤ → Bool
 fillsWhole t o cash = pick (buys o)
     (leZ (need (t .costs) (o .quantity .0) (paid t o)) cash)
-    (leZ (pos 0) (satSub cash (cashTaken t (o .quantity .0) (paid t o))))
+    (leZ (pos 0) (satSub cash (cashTaken (t .costs) (o .quantity .0) (paid t o))))
 
 -- the position of the order's symbol after a fill of q; a symbol that the table lacks starts flat
 unfoldable pub made : Terms → Order → ℤ → Option Position → Position
@@ -45,12 +41,12 @@ counted t o q s = record {
 -- q micro-shares of the order are filled
 unfoldable pub settled : Terms → Order → ℤ → State → State
 settled t o q s = record {
-  cash = satSub (s .cash) (cashTaken t q (paid t o));
+  cash = satSub (s .cash) (cashTaken (t .costs) q (paid t o));
   held = put64 keyOf (made t o q (seek keyOf (o .symbol .0) (s .held))) (s .held);
   trimmed = s .trimmed;
   shortfall = s .shortfall;
   sequence = pick (t .recording) (nextCount (s .sequence)) (s .sequence);
-  records = pick (t .recording) (s .records ++ (recordOf t o q (s .sequence) (s .cash) (satSub (s .cash) (cashTaken t q (paid t o))) ∷ [])) (s .records);
+  records = pick (t .recording) (s .records ++ (recordOf t o q (s .sequence) (s .cash) (satSub (s .cash) (cashTaken (t .costs) q (paid t o))) ∷ [])) (s .records);
 }
 
 -- "the fill becomes the largest step multiple, not above the request, whose need fits cash"; with nothing left "no commission is charged"

@@ -2,5 +2,4 @@
 pub mod Orders
 pub mod Records
 pub mod Fill
-pub mod Deal
-pub mod Runs
+pub mod Inner

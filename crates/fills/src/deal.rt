@@ -1,6 +1,6 @@
 // What an order comes to before anything is written.
 ghost use mathlib.Core.Path.{_≡_};
-ghost use Rattle.fills.specs.Deal.{dealt, noDeal, trimmedTo, bought, sold, dealOf};
+ghost use Rattle.fills.specs.Inner.Deal.{dealt, noDeal, trimmedTo, bought, sold, dealOf};
 use crate::order::Order;
 use crate::order::Terms;
 use position::Shares;
@@ -88,7 +88,7 @@ fn sold(t: Terms, quantity: Shares, price: i64, cash: i64) -> Deal
 }
 
 // What an order comes to, given the cash: all of it, the part of a buy that cash covers, or nothing.
-pub fn deal_of(o: Order, cash: i64, t: Terms) -> Deal
+pub(crate) fn deal_of(o: Order, cash: i64, t: Terms) -> Deal
     ensures { λ r. ⌜ r ≡ dealOf t o cash ⌝ }
 {
     let price = t.costs.effective_price(o.quantity, o.price);

@@ -6,7 +6,7 @@ ghost use lib.ListN.{getD};
 ghost use Rattle.table.specs.Rows.{cols, Ordered};
 ghost use Rattle.fills.specs.Orders.{nextCount};
 ghost use Rattle.fills.specs.Records.{buffers, storedAll};
-ghost use Rattle.fills.specs.Runs.{order, orders, sequenceAfter, settledIn, countedIn, recordsOf, keptIn, Fills, Given, Runs};
+ghost use Rattle.fills.specs.Inner.Runs.{order, orders, sequenceAfter, settledIn, countedIn, recordsOf, keptIn, Fills, Given, Runs};
 use crate::deal::Deal;
 use crate::deal::deal_of;
 use crate::order::Book;

@@ -5,7 +5,6 @@ mod order;
 mod record;
 
 pub use deal::Deal;
-pub use deal::deal_of;
 pub use fill::Filled;
 pub use fill::fill_all;
 pub use fill::fill_one;
@@ -15,5 +14,4 @@ pub use order::Terms;
 pub use record::ExecutionKind;
 pub use record::ExecutionRecord;
 pub use record::kind_number;
-pub use record::record_of;
 pub use record::store;

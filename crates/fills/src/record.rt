@@ -3,7 +3,7 @@ ghost use mathlib.Core.Path.{_≡_};
 ghost use Prim.Native.Nat.{_+_, _*_, _≤_};
 ghost use lib.ListN.{length};
 ghost use lib.Seq.{sets};
-ghost use Rattle.fills.specs.Deal.{recordBy};
+ghost use Rattle.fills.specs.Inner.Deal.{recordBy};
 ghost use Rattle.fills.specs.Records.{kindNumber, wordsOf, intsOf, buffers, stored};
 use crate::deal::Deal;
 use crate::order::Order;
@@ -42,7 +42,7 @@ pub struct ExecutionRecord {
 }
 
 // The record of a deal, with the running count and the cash before it.
-pub fn record_of(t: Terms, o: Order, d: Deal, sequence: u64, cash: i64) -> ExecutionRecord
+pub(crate) fn record_of(t: Terms, o: Order, d: Deal, sequence: u64, cash: i64) -> ExecutionRecord
     ensures { λ r. ⌜ r ≡ recordBy t o d sequence cash ⌝ }
 {
     let period_index = t.period_index;

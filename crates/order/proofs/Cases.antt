@@ -14,11 +14,12 @@ use Rattle.position.specs.Fills.{applied, sameSide, entered, averaged, grown, c
 use Rattle.cost_model.specs.Costs.{cost, commission, atLeast, effective, slipped, slippageFactor, goodCosts, goodRate}
 use Rattle.sizing.specs.Sizing.{above}
 use Rattle.sizing.specs.Afford.{need, fits, largest, affordable}
+use Rattle.sizing.specs.Cash.{cashTaken, cashChange}
 use Rattle.fills.specs.declared.order.Terms.{Terms}
 use Rattle.fills.specs.Orders.{paid}
-use Rattle.fills.specs.Fill.{cashTaken, fillsWhole, made, counted, settled, trimmedFill, fill, fillAll}
+use Rattle.fills.specs.Fill.{fillsWhole, made, counted, settled, trimmedFill, fill, fillAll}
 use Rattle.order.specs.Running.{swap, total, nothing, and, parted, NotBelow0, InRange}
-use Rattle.order.specs.Statement.{cashChange, cashRaised, lowersCash, Batch, allWhole, AllWhole, SameLeft}
+use Rattle.order.specs.Statement.{lowers, cashRaised, Batch, allWhole, AllWhole, SameLeft}
 use Rattle.order.specs.Examples.{floorOf, opened, allComeOut, saleFirst, buyFirst, smallSale, runs, sameSymbol, oneRoom}
 use Rattle.order.proofs.Perms.{perm-refl}
 use Rattle.order.proofs.OrderTheorem.{condition-3, parted-whole}
@@ -29,7 +30,7 @@ free = floorOf (pos 0)
 pub record Evaluated : Type 0 where
   pub runs-come-out : allComeOut runs ≡ true
   -- document 01's cash-first mode is not always an order that puts those not lowering cash first
-  pub small-sale-lowers-cash : lowersCash (floorOf (pos 15)) smallSale ≡ true
+  pub small-sale-lowers-cash : lowers (floorOf (pos 15)) smallSale ≡ true
   pub same-symbol-matters : sameSymbol ≡ (pos 50 ∷ []) ∷ ((pos 0 ∷ []) ∷ [])
   pub one-room-matters : oneRoom ≡ (64 ∷ []) ∷ ((65 ∷ []) ∷ [])
   good : goodCosts (free .costs) ≡ true
@@ -70,7 +71,7 @@ batch c low top = record {
 }
 
 -- cash 50: a running order fills both, so those not lowering cash first do
-pub case-l-fills : AllWhole free (parted (lowersCash free) saleFirst) (opened (pos 50))
+pub case-l-fills : AllWhole free (parted (lowers free) saleFirst) (opened (pos 50))
 case-l-fills = parted-whole free saleFirst (opened (pos 50)) (batch (pos 50) refl refl .funded) saleFirst (perm-refl saleFirst) (evaluated .sale-first-at-50)
 
 -- cash 100: both running orders fill both, and leave the same

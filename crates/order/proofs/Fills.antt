@@ -13,13 +13,15 @@ use Rattle.position.specs.Rows.{fresh, keyOf}
 use Rattle.position.proofs.Fills.{applied-keeps-symbol}
 use Rattle.cost_model.specs.Costs.{goodCosts}
 use Rattle.cost_model.proofs.Costs.{buy-price-at-least-1}
+use Rattle.sizing.specs.Cash.{cashTaken, cashChange}
 use Rattle.sizing.proofs.Buys.{need-nonneg}
+use Rattle.sizing.proofs.Cash.{need-is-taken}
 use Rattle.fills.specs.declared.order.Order.{Order}
 use Rattle.fills.specs.declared.order.Terms.{Terms}
 use Rattle.fills.specs.Orders.{State, buys, paid}
-use Rattle.fills.specs.Fill.{cashTaken, fillsWhole, made, settled, fill}
-use Rattle.fills.proofs.Cash.{need-is-taken, whole-is-taken, whole-settles}
-use Rattle.order.specs.Statement.{cashChange, Tradable}
+use Rattle.fills.specs.Fill.{fillsWhole, made, settled, fill}
+use Rattle.fills.proofs.Cash.{whole-is-taken, whole-settles}
+use Rattle.order.specs.Statement.{Tradable}
 use Rattle.order.proofs.Rule.{Rule}
 
 is-true : (b : Bool) → T b → b ≡ true
@@ -50,7 +52,7 @@ module _ (t : Terms) (good : goodCosts (t .costs) ≡ true) where
   fills = record {
     symbol = λ o. o .symbol .0;
     key = keyOf;
-    taken = λ o. cashTaken t (o .quantity .0) (paid t o);
+    taken = λ o. cashTaken (t .costs) (o .quantity .0) (paid t o);
     apply = λ o. made t o (o .quantity .0);
     cash = λ s. s .cash;
     held = λ s. s .held;
@@ -64,11 +66,11 @@ module _ (t : Terms) (good : goodCosts (t .costs) ≡ true) where
   }
 
   -- a buy raises no cash
-  pub buy-raises-none : (o : Order) → Tradable o → T (buys o) → T (ltZ (pos 0) (cashChange t o)) → ⊥
+  pub buy-raises-none : (o : Order) → Tradable o → T (buys o) → T (ltZ (pos 0) (cashChange (t .costs) (o .quantity .0) (o .price))) → ⊥
   unfolding cashChange paid
   buy-raises-none o k b h =
       let q = o .quantity .0 in
       let p = paid t o in
       let e : buys o ≡ true = is-true (buys o) b in
       let above-zero : ltZ (pos 0) p ≡ true = from-one p (rw e (buy-price-at-least-1 (t .costs) (o .price) good (k .price))) in
-      none-above (cashTaken t q p) (rw (need-is-taken t q p e above-zero) at (need-nonneg (t .costs) good q p)) h
+      none-above (cashTaken (t .costs) q p) (rw (need-is-taken (t .costs) q p e above-zero) at (need-nonneg (t .costs) good q p)) h

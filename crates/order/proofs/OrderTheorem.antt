@@ -6,13 +6,14 @@ use mathlib.Core.Path.{_≡_, refl, sym, ap, _∙_, subst}
 use lib.Dec.{T}
 use lib.IntN.{ℤ, pos, _+ℤ_}
 use lib.Signed.{ltZ}
+use Rattle.sizing.specs.Cash.{cashChange}
 use Rattle.sizing.proofs.Sizes.{above-is-P}
 use Rattle.fills.specs.declared.order.Order.{Order}
 use Rattle.fills.specs.declared.order.Terms.{Terms}
-use Rattle.fills.specs.Orders.{State, buys}
+use Rattle.fills.specs.Orders.{State, buys, paid}
 use Rattle.fills.specs.Fill.{fillsWhole, fill, fillAll}
 use Rattle.order.specs.Running.{Perm, All, parted, InRange}
-use Rattle.order.specs.Statement.{cashChange, lowersCash, cashRaised, Funded, Batch, allWhole, AllWhole, LowersLast, OrderIsFree}
+use Rattle.order.specs.Statement.{lowers, cashRaised, Funded, Batch, allWhole, AllWhole, LowersLast, OrderIsFree}
 use Rattle.order.proofs.Perms.{total-same, perm-parted, all-perm, all-both, all-right}
 use Rattle.order.proofs.Rule as Rule
 use Rattle.order.proofs.Fills.{fills, buy-raises-none}
@@ -30,11 +31,11 @@ whole t g (o ∷ os) s = ap (λ (b : Bool). fillsWhole t o (s .cash) && b) (whol
 
 module _ (t : Terms) (os : List Order) (s : State) where
   funded : (f : Funded t os s) → Rule.Funded (fills t (f .costs)) os s
-  unfolding fills cashChange cashRaised
+  unfolding fills cashChange cashRaised paid
   funded f = record {
     orders = f .orders;
     cash-low = f .cash-low;
-    cash-top = subst (λ (n : ℕ). InRange (s .cash +ℤ pos n)) (total-same _ _ (λ o. above-is-P (cashChange t o)) os) (f .cash-top);
+    cash-top = subst (λ (n : ℕ). InRange (s .cash +ℤ pos n)) (total-same _ _ (λ o. above-is-P (cashChange (t .costs) (o .quantity .0) (o .price))) os) (f .cash-top);
   }
 
   apart : (b : Batch t os s) → Rule.Apart (fills t (b .funded .costs)) os s
@@ -44,7 +45,7 @@ module _ (t : Terms) (os : List Order) (s : State) where
   -- "If some running order lets each fill whole, so does every running order that puts orders not lowering cash ahead of those lowering it". Neither different symbols
   -- nor room are asked.
   pub whole-if-any : Funded t os s → (w : List Order) → Perm Order os w → AllWhole t w s → (v : List Order) → Perm Order os v → LowersLast t v → AllWhole t v s
-  unfolding fills cashChange
+  unfolding fills cashChange paid
   whole-if-any f w p a v q l =
       sym (whole t (f .costs) v s) ∙ Rule.lowers-last-fills (fills t (f .costs)) os s (funded f) w p (whole t (f .costs) w s ∙ a) v q l
 
@@ -72,16 +73,16 @@ module _ (t : Terms) (os : List Order) (s : State) where
   }
 
   -- Such a running order there always is: those not lowering cash, then the others, both as they stand.
-  pub parted-whole : Funded t os s → (w : List Order) → Perm Order os w → AllWhole t w s → AllWhole t (parted (lowersCash t) os) s
-  unfolding fills cashChange
+  pub parted-whole : Funded t os s → (w : List Order) → Perm Order os w → AllWhole t w s → AllWhole t (parted (lowers t) os) s
+  unfolding fills cashChange paid
   parted-whole f w p a =
-      whole-if-any f w p a (parted (lowersCash t) os) (perm-parted (lowersCash t) os) (Rule.parted-last (fills t (f .costs)) os)
+      whole-if-any f w p a (parted (lowers t) os) (perm-parted (lowers t) os) (Rule.parted-last (fills t (f .costs)) os)
 
   -- Cash-first mode, "admitted sells run before admitted buys", in whatever order within the two, is such a running order where no sell lowers cash.
   pub cash-first-whole : Funded t os s → (w : List Order) → Perm Order os w → AllWhole t w s
-      → (sells bought : List Order) → Perm Order os (sells ++ bought) → All Order (λ o. T (lowersCash t o) → ⊥) sells → All Order (λ o. T (buys o)) bought → AllWhole t (sells ++ bought) s
-  unfolding fills cashChange
+      → (sells bought : List Order) → Perm Order os (sells ++ bought) → All Order (λ o. T (lowers t o) → ⊥) sells → All Order (λ o. T (buys o)) bought → AllWhole t (sells ++ bought) s
+  unfolding fills cashChange paid
   cash-first-whole f w p a x y q hx hy =
       let g = f .costs in
-      let none : All Order (λ o. T (ltZ (pos 0) (cashChange t o)) → ⊥) y = all-both (λ o k b. buy-raises-none t g o k b) (all-right x (all-perm q (f .orders))) hy in
+      let none : All Order (λ o. T (ltZ (pos 0) (cashChange (t .costs) (o .quantity .0) (o .price))) → ⊥) y = all-both (λ o k b. buy-raises-none t g o k b) (all-right x (all-perm q (f .orders))) hy in
       sym (whole t g (x ++ y) s) ∙ Rule.raises-first-fills (fills t g) os s (funded f) w p (whole t g w s ∙ a) (x ++ y) q (Rule.two-parts-first (fills t g) x y hx none)

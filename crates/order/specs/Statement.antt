@@ -4,31 +4,28 @@ use mathlib.Core.List.{List, [], _∷_}
 use mathlib.Core.Bool.{Bool, true, false, _&&_}
 use mathlib.Core.Path.{_≡_}
 use lib.ListN.{length}
-use lib.IntN.{ℤ, pos, negℤ, _+ℤ_}
-use lib.Signed.{ltZ, leZ}
+use lib.IntN.{pos, _+ℤ_}
+use lib.Signed.{leZ}
 use Rattle.position.specs.declared.position.Position.{Position}
 use Rattle.position.specs.Rows.{keyOf}
 use Rattle.position.specs.Shares.{isZero}
 use Rattle.cost_model.specs.Costs.{goodCosts}
 use Rattle.sizing.specs.Sizing.{above}
+use Rattle.sizing.specs.Cash.{cashChange, lowersCash}
 use Rattle.table.specs.Keyed.{seek, new}
 use Rattle.fills.specs.declared.order.Order.{Order}
 use Rattle.fills.specs.declared.order.Terms.{Terms}
-use Rattle.fills.specs.Orders.{State, paid}
-use Rattle.fills.specs.Fill.{cashTaken, fillsWhole, fill, fillAll}
+use Rattle.fills.specs.Orders.{State}
+use Rattle.fills.specs.Fill.{fillsWhole, fill, fillAll}
 use Rattle.order.specs.Running.{Perm, total, All, Pairs, Last, Different, Room, NotBelow0, InRange}
 
--- the change of cash by an order that fills whole: of the terms and the order alone
-unfoldable pub cashChange : Terms → Order → ℤ
-cashChange t o = negℤ (cashTaken t (o .quantity .0) (paid t o))
-
 -- "orders not lowering cash .. those lowering it"
-abbrev pub lowersCash : Terms → Order → Bool
-lowersCash t o = ltZ (cashChange t o) (pos 0)
+abbrev pub lowers : Terms → Order → Bool
+lowers t o = lowersCash (t .costs) (o .quantity .0) (o .price)
 
 -- "all cash raised"
 unfoldable pub cashRaised : Terms → Order → ℕ
-cashRaised t o = above (cashChange t o)
+cashRaised t o = above (cashChange (t .costs) (o .quantity .0) (o .price))
 
 -- "non-zero orders", at a price that the calls take
 pub record Tradable (o : Order) : Type 0 where
@@ -66,7 +63,7 @@ AllWhole t os s = allWhole t os s ≡ true
 
 -- "puts orders not lowering cash ahead of those lowering it"
 abbrev pub LowersLast : Terms → List Order → Type 0
-LowersLast t os = Last (lowersCash t) os
+LowersLast t os = Last (lowers t) os
 
 -- "equal cash and equal positions"
 pub record SameLeft (a b : State) : Type 0 where

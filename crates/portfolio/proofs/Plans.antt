@@ -27,7 +27,7 @@ use Rattle.wanted.specs.Plan.{closings, targetings, wanted, orderCount}
 use Rattle.wanted.proofs.Plans.{targetings-length}
 use Rattle.wanted.proofs.Room.{count-append, count-most, orders-at-most}
 use Rattle.fills.specs.declared.record.ExecutionKind.{ExecutionKind}
-use Rattle.fills.specs.Runs.{orders}
+use Rattle.fills.specs.Inner.Runs.{orders}
 use Rattle.fills.proofs.Running.{next-order, no-order}
 use Rattle.admission.specs.Admission.{addedAll, admitted}
 use Rattle.admission.specs.Running.{cashFirst, inRunningOrder, notionalFrom}

@@ -1,18 +1,17 @@
--- Which answers are refusals, and what a call that is not refused has.
+-- What a call that is not refused has.
 use Prim.Native.Nat.{ℕ, _+_, _≤_, _<_}
 use mathlib.Core.Path.{_≡_, refl, sym, ap, _∙_}
 use mathlib.Core.Bool.{Bool, true, false}
 use mathlib.Core.List.{List}
 use native.Mathlib.Omega.{arith}
-use lib.Dec.{eqb, leb}
+use lib.Dec.{leb}
 use lib.IntN.{ℤ, pos}
 use lib.Ieee.{Float}
 use lib.ListN.{length}
 use lib.Signed.{leZ}
 use borrow.Author.Tests.{leb-true, le-leb, lt-leb}
-use Rattle.answer.specs.declared.Answer.{Answer}
-use Rattle.answer.specs.declared.Answer.the-variants.{Done, BadSetting, BadSymbol, Twice, BadPrice, BadWeight, TooLong, TooMany, NoRecordRoom, NotHeld, BufferFull, Unsound, BadSeries}
-use Rattle.answer.specs.Numbers.{numberOf}
+use Rattle.answer.specs.declared.Answer.the-variants.{Done, BadSymbol, BadPrice, TooMany, NoRecordRoom, BufferFull, Unsound}
+use Rattle.answer.proofs.Answers.{done-is, passed, passed-both}
 use Rattle.table.specs.Keyed.{both, Rising}
 use Rattle.table.specs.Rows.{columnsOf, Full, ordered}
 use Rattle.table.proofs.Keyed.{both-true}
@@ -25,51 +24,6 @@ use Rattle.account.proofs.Columns.{ordered-small}
 use Rattle.account.proofs.Holdings.{account-table}
 use Rattle.portfolio.specs.Answers.{isDone, orLater, hasRoom, notHeld, rebalanceAnswer, queryAnswer, returnAnswer, closeAnswer}
 use Rattle.portfolio.specs.Planned.{Ready}
-
-pub done-by-number : (w : Answer) → eqb (numberOf w) 0 ≡ isDone w
-done-by-number Done = refl
-done-by-number BadSetting = refl
-done-by-number BadSymbol = refl
-done-by-number Twice = refl
-done-by-number BadPrice = refl
-done-by-number BadWeight = refl
-done-by-number TooLong = refl
-done-by-number TooMany = refl
-done-by-number NoRecordRoom = refl
-done-by-number NotHeld = refl
-done-by-number BufferFull = refl
-done-by-number Unsound = refl
-done-by-number BadSeries = refl
-
-clash : {A : Type 0} (b : Bool) → b ≡ true → b ≡ false → A
-clash b p q = absurd (let z : _≡_ {A = Bool} true false = sym p ∙ q in let n : _≡_ {A = ℕ} 0 1 = cc in omega arith)
-
-pub done-is : (w : Answer) → isDone w ≡ true → w ≡ Done
-done-is Done e = refl
-done-is BadSetting e = clash false e refl
-done-is BadSymbol e = clash false e refl
-done-is Twice e = clash false e refl
-done-is BadPrice e = clash false e refl
-done-is BadWeight e = clash false e refl
-done-is TooLong e = clash false e refl
-done-is TooMany e = clash false e refl
-done-is NoRecordRoom e = clash false e refl
-done-is NotHeld e = clash false e refl
-done-is BufferFull e = clash false e refl
-done-is Unsound e = clash false e refl
-done-is BadSeries e = clash false e refl
-
--- a test that was passed, and the answer after it
-pub passed : (ok : Bool) (refusal later : Answer) → isDone refusal ≡ false → isDone (unless ok refusal later) ≡ true → (ok ≡ true) × (isDone later ≡ true)
-passed true refusal later n e = (refl, e)
-passed false refusal later n e = clash (isDone refusal) e n
-
-pub passed-both : (first later : Answer) → isDone (orLater first later) ≡ true → (isDone first ≡ true) × (isDone later ≡ true)
-passed-both first later e = go (isDone first) refl
-  where
-    go : (b : Bool) → isDone first ≡ b → (isDone first ≡ true) × (isDone later ≡ true)
-    go true q = (q, rw q at e)
-    go false q = let h : isDone first ≡ true = rw q at e in clash (isDone first) h q
 
 -- the count of a sound account's positions, whatever the lengths of its columns
 pub sound-small : (a : Account) → soundAccount a ≡ true → a .positions .count ≤ 64

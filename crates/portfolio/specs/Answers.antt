@@ -1,6 +1,6 @@
 -- When each call is refused: document 01, 'Answer numbers', in the order 11, 1, 6, 2, 3, 5, 4, 8, 7, 9, 10, 12.
 use Prim.Native.Nat.{ℕ, _+_, _/_, min}
-use mathlib.Core.Bool.{Bool, true, false, not}
+use mathlib.Core.Bool.{Bool, true, not}
 use mathlib.Core.List.{List, [], _∷_}
 use lib.Dec.{leb}
 use lib.ListN.{length}
@@ -8,34 +8,16 @@ use lib.IntN.{ℤ, pos}
 use lib.Signed.{leZ}
 use lib.Ieee.{Float}
 use Rattle.answer.specs.declared.Answer.{Answer}
-use Rattle.answer.specs.declared.Answer.the-variants.{Done, BadSetting, BadSymbol, Twice, BadPrice, BadWeight, TooLong, TooMany, NoRecordRoom, NotHeld, BufferFull, Unsound, BadSeries}
+use Rattle.answer.specs.declared.Answer.the-variants.{Done, BadSymbol, BadPrice, TooMany, NoRecordRoom, NotHeld, BufferFull, Unsound}
 use Rattle.position.specs.declared.position.Position.{Position}
 use Rattle.position.specs.Rows.{keyOf}
 use Rattle.position.specs.Symbols.{goodSymbol}
 use Rattle.table.specs.Keyed.{pick, both, there, seek}
 use Rattle.table.specs.Rows.{holding, isZero}
+pub use Rattle.answer.specs.Numbers.{isDone, orLater}
 use Rattle.call_lists.specs.Checks.{unless, listsAnswer, pricesAnswer}
 use Rattle.account.specs.declared.account.Account.{Account}
 use Rattle.account.specs.Account.{soundAccount, heldIn}
-
-abbrev pub isDone : Answer → Bool
-isDone Done = true
-isDone BadSetting = false
-isDone BadSymbol = false
-isDone Twice = false
-isDone BadPrice = false
-isDone BadWeight = false
-isDone TooLong = false
-isDone TooMany = false
-isDone NoRecordRoom = false
-isDone NotHeld = false
-isDone BufferFull = false
-isDone Unsound = false
-isDone BadSeries = false
-
--- the later answer where this one is done
-abbrev pub orLater : Answer → Answer → Answer
-orLater answer later = pick (isDone answer) later answer
 
 -- the places of a record buffer of four words and eight numbers a record
 abbrev pub places : ℕ → ℕ → ℕ

@@ -8,7 +8,6 @@ ghost use Rattle.portfolio.specs.Close.{closed};
 ghost use Rattle.portfolio.specs.Trades.{filed, filedBy, tradedOn};
 use crate::refusal::close_answer;
 use crate::refusal::holding_of;
-use crate::refusal::is_done;
 use crate::refusal::places;
 use crate::trade::Ran;
 use crate::trade::Traded;
@@ -17,6 +16,7 @@ use crate::trade::run;
 use crate::trade::traded_on;
 use account::Account;
 use account::Ledger;
+use answer::is_done;
 use fills::ExecutionKind;
 
 // The whole holding, the other way; the last-rebalance figures stay.

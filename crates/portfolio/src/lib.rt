@@ -11,7 +11,6 @@ pub use close::close_position_at;
 pub use equity::total_equity;
 pub use rebalance::rebalance_on;
 pub use rebalance::rebalance_simple;
-pub use refusal::is_done;
 pub use refusal::query_answer;
 pub use returns::Noted;
 pub use returns::record_return;

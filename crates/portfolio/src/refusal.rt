@@ -13,6 +13,7 @@ use account::Account;
 use account::Ledger;
 use account::sound_account;
 use answer::Answer;
+use answer::is_done;
 use call_lists::check_lists;
 use call_lists::check_prices;
 use position::Position;
@@ -20,12 +21,6 @@ use position::Symbol;
 use table::Found;
 use table::find;
 use table::held;
-
-pub fn is_done(answer: Answer) -> bool
-    ensures { λ r. ⌜ r ≡ isDone answer ⌝ }
-{
-    answer::number(answer) == 0
-}
 
 // A query with prices.
 pub fn query_answer(a: Account, symbols: &[u64], prices: &[i64]) -> Answer

@@ -8,7 +8,6 @@ ghost use Rattle.account.specs.Account.{accountWith};
 ghost use Rattle.portfolio.specs.Answers.{returnAnswer};
 ghost use Rattle.portfolio.specs.Returns.{returnOf, isDue, nextSeries, recordedBy, recorded, notedBy};
 use crate::equity::equity_in;
-use crate::refusal::is_done;
 use crate::trade::ledger_of;
 use account::Account;
 use account::Changed;
@@ -16,6 +15,7 @@ use account::Ledger;
 use account::Series;
 use account::sound_account;
 use answer::Answer;
+use answer::is_done;
 use call_lists::check_prices;
 
 // An answer, and the series after the call.

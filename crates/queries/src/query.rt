@@ -12,7 +12,7 @@ use crate::weight::no_weights;
 use crate::weight::weights_at;
 use account::Account;
 use answer::Answer;
-use portfolio::is_done;
+use answer::is_done;
 use portfolio::query_answer;
 
 // Of a sound account, at prices that were not refused.

@@ -8,7 +8,7 @@ use crate::answered::Unpriced;
 use crate::price::prices_of;
 use account::Account;
 use answer::Answer;
-use portfolio::is_done;
+use answer::is_done;
 use portfolio::query_answer;
 use position::Shares;
 use table::Found;

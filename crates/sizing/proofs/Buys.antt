@@ -88,6 +88,9 @@ module _ (costs : CostModel) (step cash request price : ℤ) where
   abbrev buy : ℤ
   buy = affordable costs step cash request price
 
+  abbrev nothing : Bool
+  nothing = leZ cash (pos 0) || leZ price (pos 0) || not (goodCosts costs)
+
   bought : Bool → ℤ
   bought t = cond t (pos 0) (pos (steps * above step))
 
@@ -96,13 +99,22 @@ module _ (costs : CostModel) (step cash request price : ℤ) where
   unfolding affordable
   affordable-without-cash h = simp h
 
-  pub affordable-steps : leZ cash (pos 0) ≡ false → goodCosts costs ≡ true → buy ≡ pos (steps * above step)
+  -- at a price of 0 or below too
+  pub affordable-without-price : leZ price (pos 0) ≡ true → buy ≡ pos 0
   unfolding affordable
-  affordable-steps h g = simp (h, g)
+  affordable-without-price h = by (leZ cash (pos 0))
+    where
+      by : (t : Bool) → cond (t || leZ price (pos 0) || not (goodCosts costs)) (pos 0) (pos (steps * above step)) ≡ pos 0
+      by true = refl
+      by false = simp h
+
+  pub affordable-steps : leZ cash (pos 0) ≡ false → leZ price (pos 0) ≡ false → goodCosts costs ≡ true → buy ≡ pos (steps * above step)
+  unfolding affordable
+  affordable-steps h p g = simp (h, p, g)
 
   pub affordable-multiple : natAbs buy % above step ≡ 0
   unfolding affordable bought
-  affordable-multiple = by (leZ cash (pos 0) || not (goodCosts costs))
+  affordable-multiple = by nothing
     where
       by : (t : Bool) → natAbs (bought t) % above step ≡ 0
       by true = zero-mod (above step)
@@ -110,7 +122,7 @@ module _ (costs : CostModel) (step cash request price : ℤ) where
 
   pub affordable-nonneg : leZ (pos 0) buy ≡ true
   unfolding affordable bought
-  affordable-nonneg = by (leZ cash (pos 0) || not (goodCosts costs))
+  affordable-nonneg = by nothing
     where
       by : (t : Bool) → leZ (pos 0) (bought t) ≡ true
       by true = refl
@@ -118,7 +130,7 @@ module _ (costs : CostModel) (step cash request price : ℤ) where
 
   pub affordable-within : natAbs buy ≤ above request
   unfolding affordable bought
-  affordable-within = by (leZ cash (pos 0) || not (goodCosts costs))
+  affordable-within = by nothing
     where
       by : (t : Bool) → natAbs (bought t) ≤ above request
       by true = omega arith
@@ -129,7 +141,7 @@ module _ (costs : CostModel) (step cash request price : ℤ) where
   -- it fits
   pub affordable-fits : leZ (pos 0) cash ≡ true → leZ (need costs buy price) cash ≡ true
   unfolding affordable bought fits
-  affordable-fits h = by (leZ cash (pos 0) || not (goodCosts costs))
+  affordable-fits h = by nothing
     where
       by : (t : Bool) → leZ (need costs (bought t) price) cash ≡ true
       by true = rw (need-none costs price) h
@@ -143,10 +155,10 @@ module _ (costs : CostModel) (step cash request price : ℤ) where
 
   -- and no larger multiple fits
   pub affordable-largest :
-      goodCosts costs ≡ true → leZ cash (pos 0) ≡ false → 0 < above step → (k : ℕ) → k * above step ≤ above request
+      goodCosts costs ≡ true → leZ cash (pos 0) ≡ false → leZ price (pos 0) ≡ false → 0 < above step → (k : ℕ) → k * above step ≤ above request
       → leZ (need costs (pos (k * above step)) price) cash ≡ true → k * above step ≤ natAbs buy
   unfolding fits
-  affordable-largest good some h k within pays =
-      rw (affordable-steps some good)
+  affordable-largest good some quoted h k within pays =
+      rw (affordable-steps some quoted good)
       (mul-le-mul-right (above step)
       (none-larger-passes passes (above request / above step) k (le-div-iff-mul-le h .1 within) pays))

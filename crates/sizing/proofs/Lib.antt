@@ -3,3 +3,4 @@ pub mod Bits
 pub mod Search
 pub mod Sizes
 pub mod Buys
+pub mod Cash

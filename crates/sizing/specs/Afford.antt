@@ -25,9 +25,9 @@ largest passes zero = zero
 largest passes (suc n) = cond (passes (suc n)) (suc n) (largest passes n)
 
 -- "the largest step multiple, not above the request, whose need fits cash (a zero fill needs 0); at cash 0 it is nothing": of step, cash,
--- request and effective price. Costs that no account may have pay for nothing.
+-- request and effective price. At a price that no buy has, 0 or below, it is nothing, and costs that no account may have pay for nothing.
 unfoldable pub affordable : CostModel → ℤ → ℤ → ℤ → ℤ → ℤ
 affordable costs step cash request price =
-    cond (leZ cash (pos 0) || not (goodCosts costs))
+    cond (leZ cash (pos 0) || leZ price (pos 0) || not (goodCosts costs))
     (pos 0)
     (pos (largest (fits costs (above step) cash price) (above request / above step) * above step))

@@ -177,8 +177,9 @@ fn affordable_steps(most: u64, cash: i64, step: u64, price: i64, costs: CostMode
     lo
 }
 
-// "the largest step multiple, not above the request, whose need fits cash (a zero fill needs 0); at cash 0 it is nothing". Under
-// costs that no account may have the need could fall as the quantity rises, and halving would miss the largest.
+// "the largest step multiple, not above the request, whose need fits cash (a zero fill needs 0); at cash 0 it is nothing". At a
+// price of 0 or below every count needs 0; no buy is at such a price, and nothing is bought there. Under costs that no account may
+// have the need could fall as the quantity rises, and halving would miss the largest.
 pub fn largest_affordable_buy_qty(
     requested: Shares,
     cash: i64,
@@ -188,7 +189,7 @@ pub fn largest_affordable_buy_qty(
 ) -> Shares
     ensures { λ r. ⌜ r .0 ≡ affordable costs step cash (requested .0) price ⌝ }
 {
-    if cash <= 0 {
+    if cash <= 0 || price <= 0 {
         return Shares::ZERO;
     }
     if !costs.is_good() {

@@ -5,14 +5,7 @@ use mathlib.Core.Bool.{Bool, true, false}
 use mathlib.Core.Option.{Option, none, some}
 use lib.Dec.{eqb, leb, ltb}
 use lib.ListN.{length}
-
--- the first where the test holds, else the second
-abbrev pub pick : {A : Type 0} → Bool → A → A → A
-pick true a b = a
-pick false a b = b
-
-abbrev pub both : Bool → Bool → Bool
-both a b = pick a b false
+pub use Rattle.answer.specs.Choice.{pick, both}
 
 -- the test of every element
 abbrev pub all : {A : Type 0} → (A → Bool) → List A → Bool

@@ -2,6 +2,7 @@
 use Prim.Native.Nat.{_*_, _/_, _≤_, _<_, _^_}
 use mathlib.Core.Path.{_≡_, sym, _∙_}
 use mathlib.Core.Bool.{true, false}
+use mathlib.Core.Logic.{⊎-elim}
 use native.Mathlib.Omega.{arith}
 use native.Mathlib.Nat.{mul-le-mul-right, div-mul-le-self, mul-zero}
 use borrow.Author.Needs.{needs}
@@ -23,11 +24,16 @@ use Rattle.sizing.proofs.largest_affordable_buy_qty.Tie as tie
 returns : tie.Need-returns
 unfolding affordable
 returns c =
-    let e = rw (read-back (c .before .args .cash) (c .before .fits .cash .sfits)) at (c .if1 .taken) in
-    simp e
+    let s = c .before in
+    let n = read-back (s .args .cash) (s .fits .cash .sfits) in
+    let p = read-back (s .args .price) (s .fits .price .sfits) in
+    ⊎-elim (λ w. let e = rw n at (w .taken) in simp e) (λ w. let e = rw n at (w .0 .left) in let f = rw p at (w .1 .taken) in simp (e, f)) (c .if1 .came)
 
-some-cash : (d : tie.Else1) → leZ (d .before .args .cash) (pos 0) ≡ false
-some-cash d = rw (read-back (d .before .args .cash) (d .before .fits .cash .sfits)) at (d .if1 .left)
+some-cash : (d : tie.Else2) → leZ (d .before .before .args .cash) (pos 0) ≡ false
+some-cash d = let s = d .before .before in rw (read-back (s .args .cash) (s .fits .cash .sfits)) at (d .before .if1 .left)
+
+some-price : (d : tie.Else2) → leZ (d .before .before .args .price) (pos 0) ≡ false
+some-price d = let s = d .before .before in rw (read-back (s .args .price) (s .fits .price .sfits)) at (d .if2 .left)
 
 is-good-requires : tie.Need-is-good-requires
 is-good-requires c κs = search needs
@@ -35,26 +41,27 @@ is-good-requires c κs = search needs
 returns-2 : tie.Need-returns-2
 unfolding affordable
 returns-2 c =
-    let g = sym (c .before .is-good .ensures) ∙ not-true _ (c .if2 .taken) in
-    simp (some-cash (c .before .before), g)
+    let g = sym (c .before .is-good .ensures) ∙ not-true _ (c .if3 .taken) in
+    let d = c .before .before in
+    simp (some-cash d, some-price d, g)
 
-good : (d : tie.Else2) → goodCosts (d .before .before .before .args .costs) ≡ true
-good d = sym (d .before .is-good .ensures) ∙ not-false _ (d .if2 .left)
+good : (d : tie.Else3) → goodCosts (d .before .before .before .before .args .costs) ≡ true
+good d = sym (d .before .is-good .ensures) ∙ not-false _ (d .if3 .left)
 
 above-requires : tie.Need-above-requires
 above-requires c κs = search needs
 
-unit-is : (d : tie.After-above) → d .above .result ≡ above (d .before .before .before .before .args .step)
+unit-is : (d : tie.After-above) → d .above .result ≡ above (d .before .before .before .before .before .args .step)
 unit-is d =
-    let s = d .before .before .before .before in
+    let s = d .before .before .before .before .before in
     rw (d .above .ensures, read-back (s .args .step) (s .fits .step .sfits))
 
 returns-3 : tie.Need-returns-3
 unfolding affordable
 returns-3 c =
     let d = c .before .before in
-    let z = sym (unit-is (c .before)) ∙ c .if3 .taken in
-    simp (some-cash (d .before .before), good d, z, mul-zero)
+    let z = sym (unit-is (c .before)) ∙ c .if4 .taken in
+    simp (some-cash (d .before .before), some-price (d .before .before), good d, z, mul-zero)
 
 above-requires-2 : tie.Need-above-requires-2
 above-requires-2 c κs = search needs
@@ -63,13 +70,13 @@ div-affordable-steps : tie.Need-div-affordable-steps
 div-affordable-steps c = search needs
 
 module _ (d : tie.After-above2) where
-  request-is : d .above2 .result ≡ above (d .before .before .before .before .before .before .before .args .requested .0)
+  request-is : d .above2 .result ≡ above (d .before .before .before .before .before .before .before .before .args .requested .0)
   request-is =
-      rw (d .above2 .ensures, read-back (d .before .before .before .before .before .before .before .args .requested .0) (d .before .struct-told .given .0 .1))
+      rw (d .above2 .ensures, read-back (d .before .before .before .before .before .before .before .before .args .requested .0) (d .before .struct-told .given .0 .1))
 
   steps-within : d .above2 .result / d .before .before .before .above .result * d .before .before .before .above .result < 2 ^ 63
   steps-within =
-      let z = d .before .before .before .before .before .before .before .args .requested .0 in
+      let z = d .before .before .before .before .before .before .before .before .args .requested .0 in
       omega (arith, div-mul-le-self (d .above2 .result) (d .before .before .before .above .result), request-is, above-is-P z, P-fits z (record { sfits = d .before .struct-told .given .0 .1 }))
 
 affordable-steps-requires : tie.Need-affordable-steps-requires
@@ -97,8 +104,8 @@ unfolding affordable
 returns-4 c =
     let d = c .before .before in
     let e = d .before .before .before .before in
-    let s = e .before .before .before in
-    simp (some-cash (e .before .before), good e)
+    let s = e .before .before .before .before in
+    simp (some-cash (e .before .before), some-price (e .before .before), good e)
     (rw (c .from-raw .ensures, toZ-pos w64 _ (fill-small (c .before)), c .before .affordable-steps .ensures, unit-is (d .before .before .before), request-is d, read-back (s .args .cash) (s .fits .cash .sfits), read-back (s .args .price) (s .fits .price .sfits)))
 
 pub largest-affordable-buy-qty-spec : {M : Type 1} → statement M

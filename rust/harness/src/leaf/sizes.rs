@@ -46,7 +46,7 @@ pub fn need(requested: i64, price: i64, c: Costs) -> i64 {
 /// "the largest step multiple, not above the request, whose need fits cash": halved for over unsigned counts of steps, so
 /// that no midpoint overflows.
 pub fn largest(requested: i64, cash: i64, step: i64, price: i64, c: Costs) -> i64 {
-    if cash < 1 || step < 1 || requested < 1 || !costs::are_good(c) {
+    if cash < 1 || step < 1 || requested < 1 || price < 1 || !costs::are_good(c) {
         return 0;
     }
     let (mut fits, mut over) = (0, (requested / step) as u64 + 1);
@@ -174,7 +174,9 @@ pub const LEAVES: &[Leaf] = &[
         left_out: &[
             ("costs that no account has", |i| !costs::are_good(last(i))),
             ("the request fits, and nanobook gives it off the step", |i| {
-                i[1] as i64 > 0 && need(i[0] as i64, i[3] as i64, last(i)) <= i[1] as i64
+                let [requested, cash, step, price] = [i[0], i[1], i[2], i[3]].map(|n| n as i64);
+                let takes = requested > 0 && cash > 0 && step > 0 && price > 0;
+                takes && requested % step != 0 && need(requested, price, last(i)) <= cash
             }),
             ("nanobook does not end", |i| {
                 let cash = i[1] as i64;
@@ -184,6 +186,7 @@ pub const LEAVES: &[Leaf] = &[
         classes: &[
             ("nothing", |i, r| r == 0 && i[1] as i64 > 0),
             ("cash below 1", |i, _| (i[1] as i64) < 1),
+            ("price below 1", |i, _| (i[3] as i64) < 1 && i[1] as i64 > 0),
             ("cut down, not to nothing", |i, r| r != 0 && r < i[0]),
             ("step 1", |i, r| r != 0 && i[2] == 1),
             ("step 100", |i, r| r != 0 && i[2] == 100),

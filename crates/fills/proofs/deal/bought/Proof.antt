@@ -3,7 +3,7 @@ use mathlib.Core.Path.{_∙_}
 use mir.Syntax.{w64}
 use mir.Val.{SFits}
 use mir.Facts.{toZ-ofZ}
-use Rattle.fills.specs.Deal.{bought}
+use Rattle.fills.specs.Inner.Deal.{bought}
 use borrow.Author.Needs.{needs}
 use Rattle.fills.proofs.deal.bought.Statement.{statement}
 use Rattle.fills.proofs.deal.bought.Tie as tie

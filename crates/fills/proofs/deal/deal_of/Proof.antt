@@ -4,7 +4,7 @@ use mir.Syntax.{w64}
 use mir.Val.{SFits}
 use mir.Facts.{toZ-ofZ}
 use Rattle.fills.specs.Orders.{paid}
-use Rattle.fills.specs.Deal.{dealOf}
+use Rattle.fills.specs.Inner.Deal.{dealOf}
 use borrow.Author.Needs.{needs}
 use Rattle.fills.proofs.deal.deal_of.Statement.{statement}
 use Rattle.fills.proofs.deal.deal_of.Tie as tie

@@ -3,8 +3,8 @@ use mathlib.Core.Path.{_∙_}
 use mir.Syntax.{w64}
 use mir.Val.{SFits}
 use mir.Facts.{toZ-ofZ}
-use Rattle.fills.specs.Fill.{cashTaken}
-use Rattle.fills.specs.Deal.{dealt}
+use Rattle.sizing.specs.Cash.{cashTaken}
+use Rattle.fills.specs.Inner.Deal.{dealt}
 use borrow.Author.Needs.{needs}
 use Rattle.fills.proofs.deal.dealt.Statement.{statement}
 use Rattle.fills.proofs.deal.dealt.Tie as tie

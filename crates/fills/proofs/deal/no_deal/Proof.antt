@@ -1,6 +1,6 @@
 -- The fields as given.
 use mir.Facts.{toZ-ofZ}
-use Rattle.fills.specs.Deal.{noDeal}
+use Rattle.fills.specs.Inner.Deal.{noDeal}
 use Rattle.fills.proofs.deal.no_deal.Statement.{statement}
 use Rattle.fills.proofs.deal.no_deal.Tie as tie
 

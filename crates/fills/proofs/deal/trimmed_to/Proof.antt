@@ -3,7 +3,7 @@ use mathlib.Core.Path.{sym, _∙_}
 use mir.Syntax.{w64}
 use mir.Val.{SFits}
 use mir.Facts.{toZ-ofZ}
-use Rattle.fills.specs.Deal.{trimmedTo}
+use Rattle.fills.specs.Inner.Deal.{trimmedTo}
 use borrow.Author.Needs.{needs}
 use Rattle.fills.proofs.deal.trimmed_to.Statement.{statement}
 use Rattle.fills.proofs.deal.trimmed_to.Tie as tie

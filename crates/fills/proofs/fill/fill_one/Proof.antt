@@ -4,8 +4,8 @@ use mir.Syntax.{w64}
 use mir.Val.{SFits}
 use mir.Facts.{toZ-ofZ}
 use Rattle.table.specs.Rows.{Cols, cols}
-use Rattle.fills.specs.Deal.{dealOf, recordBy}
-use Rattle.fills.specs.Runs.{settledIn}
+use Rattle.fills.specs.Inner.Deal.{dealOf, recordBy}
+use Rattle.fills.specs.Inner.Runs.{settledIn}
 use Rattle.fills.proofs.Filling.{none-filled, one-filled}
 use borrow.Author.Needs.{needs}
 use Rattle.fills.proofs.fill.fill_one.Statement.{statement}

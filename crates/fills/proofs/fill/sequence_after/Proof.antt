@@ -1,5 +1,5 @@
 -- By whether the call records.
-use Rattle.fills.specs.Runs.{sequenceAfter}
+use Rattle.fills.specs.Inner.Runs.{sequenceAfter}
 use borrow.Author.Needs.{needs}
 use Rattle.fills.proofs.fill.sequence_after.Statement.{statement}
 use Rattle.fills.proofs.fill.sequence_after.Tie as tie

@@ -2,7 +2,7 @@
 use mir.Syntax.{w64}
 use mir.Val.{SFits}
 use mir.Facts.{toZ-ofZ}
-use Rattle.fills.specs.Runs.{settledIn}
+use Rattle.fills.specs.Inner.Runs.{settledIn}
 use borrow.Author.Needs.{needs}
 use Rattle.fills.proofs.fill.settled_in.Statement.{statement}
 use Rattle.fills.proofs.fill.settled_in.Tie as tie

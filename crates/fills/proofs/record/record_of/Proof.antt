@@ -3,7 +3,7 @@ use mathlib.Core.Path.{_∙_}
 use mir.Syntax.{w64}
 use mir.Val.{SFits}
 use mir.Facts.{toZ-ofZ}
-use Rattle.fills.specs.Deal.{recordBy}
+use Rattle.fills.specs.Inner.Deal.{recordBy}
 use borrow.Author.Needs.{needs}
 use Rattle.fills.proofs.record.record_of.Statement.{statement}
 use Rattle.fills.proofs.record.record_of.Tie as tie

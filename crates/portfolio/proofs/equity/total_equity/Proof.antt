@@ -10,7 +10,7 @@ use lib.IntN.{pos}
 use Rattle.answer.specs.declared.Answer.the-variants.{Done}
 use Rattle.portfolio.specs.Answers.{isDone, queryAnswer}
 use Rattle.portfolio.specs.Queries.{answeredCents, toldEquity}
-use Rattle.portfolio.proofs.Refusals.{done-is}
+use Rattle.answer.proofs.Answers.{done-is}
 use Rattle.portfolio.proofs.equity.total_equity.Statement.{statement}
 use Rattle.portfolio.proofs.equity.total_equity.Tie as tie
 

@@ -11,7 +11,7 @@ use borrow.Author.Needs.{needs}
 use Rattle.table.specs.Keyed.{pick}
 use Rattle.table.specs.Rows as table
 use Rattle.call_lists.specs.Lists.{priceOf}
-use Rattle.fills.specs.Runs.{orders}
+use Rattle.fills.specs.Inner.Runs.{orders}
 use Rattle.account.specs.declared.account.Account.{Account}
 use Rattle.account.specs.Account.{accountWith}
 use Rattle.wanted.specs.declared.plan.PlannedOrder.{PlannedOrder}

@@ -16,7 +16,8 @@ use Rattle.account.proofs.Columns.{rows-length}
 use Rattle.account.proofs.Holdings.{account-ordered}
 use Rattle.portfolio.specs.Answers.{isDone, hasRoom, notHeld, rebalanceAnswer}
 use Rattle.portfolio.proofs.Lacking.{lacking-held}
-use Rattle.portfolio.proofs.Refusals.{done-is, sound-small}
+use Rattle.answer.proofs.Answers.{done-is}
+use Rattle.portfolio.proofs.Refusals.{sound-small}
 use Rattle.portfolio.proofs.refusal.rebalance_answer.Statement.{statement}
 use Rattle.portfolio.proofs.refusal.rebalance_answer.Tie as tie
 

@@ -22,7 +22,8 @@ use Rattle.table.specs.Keyed.{pick}
 use Rattle.table.specs.Rows.{Cols, cols}
 use Rattle.portfolio.specs.Answers.{isDone, returnAnswer}
 use Rattle.portfolio.specs.Returns.{Recorded, recorded, returnOf, isDue, nextSeries}
-use Rattle.portfolio.proofs.Refusals.{Returned, Queried, done-is, return-done, query-done}
+use Rattle.answer.proofs.Answers.{done-is}
+use Rattle.portfolio.proofs.Refusals.{Returned, Queried, return-done, query-done}
 use Rattle.portfolio.proofs.Worths.{equity-of-places}
 use Rattle.portfolio.proofs.returns.return_on.Statement.{statement}
 use Rattle.portfolio.proofs.returns.return_on.Tie as tie

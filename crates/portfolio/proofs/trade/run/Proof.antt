@@ -6,7 +6,7 @@ use borrow.Author.Needs.{needs}
 use Rattle.table.specs.Rows.{Cols, cols, Ordered}
 use Rattle.fills.specs.declared.order.Order.{Order}
 use Rattle.fills.specs.Records.{Buffers, buffers}
-use Rattle.fills.specs.Runs.{orders, Runs, Given}
+use Rattle.fills.specs.Inner.Runs.{orders, Runs, Given}
 use Rattle.account.specs.declared.account.Account.{Account}
 use Rattle.account.specs.Account.{accountWith}
 use Rattle.account.proofs.Holdings.{account-ordered}

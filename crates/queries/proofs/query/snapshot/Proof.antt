@@ -4,7 +4,7 @@ use mathlib.Core.Bool.{true}
 use borrow.Author.Needs.{needs}
 use borrow.Author.Tests.{not-true, not-false}
 use Rattle.portfolio.specs.Answers.{isDone, queryAnswer}
-use Rattle.portfolio.proofs.Refusals.{done-is}
+use Rattle.answer.proofs.Answers.{done-is}
 use Rattle.queries.specs.Answers.{noSnapshot, toldSnapshot}
 use Rattle.queries.proofs.query.snapshot.Statement.{statement}
 use Rattle.queries.proofs.query.snapshot.Tie as tie

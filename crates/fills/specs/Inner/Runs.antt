@@ -19,7 +19,7 @@ use Rattle.fills.specs.declared.record.ExecutionRecord.{ExecutionRecord}
 use Rattle.fills.specs.Orders.{State, nextCount}
 use Rattle.fills.specs.Records.{Buffers, storedAll}
 use Rattle.fills.specs.Fill.{fill, fillAll}
-use Rattle.fills.specs.Deal.{dealOf, recordBy}
+use Rattle.fills.specs.Inner.Deal.{dealOf, recordBy}
 
 abbrev pub order : ℕ → ℤ → ℤ → Order
 order s q p = record { symbol = symbol s; quantity = shares q; price = p }

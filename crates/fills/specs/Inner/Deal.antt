@@ -10,6 +10,7 @@ use Rattle.position.specs.Shares.{isZero}
 use Rattle.position.specs.Fills.{applied}
 use Rattle.cost_model.specs.Costs.{cost}
 use Rattle.sizing.specs.Afford.{need, affordable}
+use Rattle.sizing.specs.Cash.{cashTaken}
 use Rattle.table.specs.Keyed.{pick, put64}
 use Rattle.table.specs.Rows.{holding}
 use Rattle.fills.specs.declared.deal.Deal.{Deal}
@@ -17,7 +18,6 @@ use Rattle.fills.specs.declared.order.Order.{Order}
 use Rattle.fills.specs.declared.order.Terms.{Terms}
 use Rattle.fills.specs.declared.record.ExecutionRecord.{ExecutionRecord}
 use Rattle.fills.specs.Orders.{State, buys, paid, nextCount}
-use Rattle.fills.specs.Fill.{cashTaken}
 
 -- q micro-shares at price p, out of this cash; whether a request was trimmed to them, and what it lost
 unfoldable pub dealt : Terms → ℤ → ℤ → ℤ → Bool → ℤ → Deal
@@ -26,7 +26,7 @@ dealt t q p cash trimmed lost = record {
   price = p;
   notional = notional q p;
   cost = cost (t .costs) (notional q p);
-  «cash_after» = satSub cash (cashTaken t q p);
+  «cash_after» = satSub cash (cashTaken (t .costs) q p);
   trimmed = trimmed;
   lost = lost;
 }
@@ -50,7 +50,7 @@ bought t q p cash =
     (trimmedTo t q (affordable (t .costs) (t .«quantity_step») cash q p) p cash)
 
 unfoldable pub sold : Terms → ℤ → ℤ → ℤ → Deal
-sold t q p cash = pick (leZ (pos 0) (satSub cash (cashTaken t q p))) (dealt t q p cash false (pos 0)) (noDeal p cash false (pos 0))
+sold t q p cash = pick (leZ (pos 0) (satSub cash (cashTaken (t .costs) q p))) (dealt t q p cash false (pos 0)) (noDeal p cash false (pos 0))
 
 unfoldable pub dealOf : Terms → Order → ℤ → Deal
 dealOf t o cash =
