@@ -28,7 +28,7 @@ use Rattle.fills.specs.Inner.Runs.{recordsOf, Fills}
 use Rattle.fills.proofs.Storing.{keeps-one}
 use Rattle.fills.proofs.Fronts.{stored-fronts}
 use Rattle.c_fill.specs.declared.Ask.{Ask}
-use Rattle.c_fill.specs.Single.{termsOf, orderOf, Slots, slots, heldOf, isNone, stateIn, slotsOf, positionIn, soundIn, goodAsk, roomForOne, refusalOf, answerTo, told, fillOne, bookOf, enteredIn, Sight, seenBy, seenIn, seenAfter}
+use Rattle.c_fill.specs.Single.{termsOf, orderOf, Slots, slots, heldOf, isNone, stateIn, positionIn, soundIn, goodAsk, roomForOne, refusalOf, answerTo, Told, told, counting, doneIn, fillOne, bookOf, enteredIn, Sight, seenBy, seenIn, seenAfter}
 
 -- ---- the table of the position
 abbrev pub empty : Cols
@@ -118,15 +118,18 @@ module _ (a : Ask) (l : Slots) where
       unfolding fillOne
       refused-as-found h =
           ap (λ x. told x l) answer-is
-          ∙ sym (ap (λ x. told (numberOf (answerTo a l)) (pick x (slotsOf (a .symbol) (fill (termsOf a) (orderOf a) (stateIn a l)) l) l)) (ap (λ x. eqb x 0) (sym answer-is) ∙ ne-eqb n 0 h))
+          ∙ sym (ap (λ x. pick x (doneIn (a .symbol) (fill (termsOf a) (orderOf a) (stateIn a l)) l) (told (numberOf (answerTo a l)) l)) (ap (λ x. eqb x 0) (sym answer-is) ∙ ne-eqb n 0 h))
 
-      pub done-as-filled : n ≡ 0 → told 0 (slotsOf (a .symbol) (fill (termsOf a) (orderOf a) (stateIn a l)) l) ≡ fillOne a l
+      pub done-as-filled : n ≡ 0 → doneIn (a .symbol) (fill (termsOf a) (orderOf a) (stateIn a l)) l ≡ fillOne a l
       unfolding fillOne
       done-as-filled h = let z : numberOf (answerTo a l) ≡ 0 = sym answer-is ∙ h in simp z
 
 -- ---- what is put into the places
 abbrev pub placed : Sight → Slots → Slots
 placed v l = slots (v .money) (v .tallies) (fronted (allWords (v .records)) (l .words)) (fronted (allInts (v .records)) (l .ints))
+
+abbrev pub toldOf : Sight → Slots → Told
+toldOf v l = told (counting (v .records)) (placed v l)
 
 pub same-slots : {ms ms′ : List ℤ} {ts ts′ ws ws′ : List ℕ} {is is′ : List ℤ} → ms ≡ ms′ → ts ≡ ts′ → ws ≡ ws′ → is ≡ is′ → slots ms ts ws is ≡ slots ms′ ts′ ws′ is′
 same-slots {ms} {ms′} {ts} {ts′} {ws} {ws′} {is} {is′} a b c d =

@@ -1,5 +1,5 @@
 -- One fill on an account of at most one position, in lent places.
-use Prim.Native.Nat.{ℕ}
+use Prim.Native.Nat.{ℕ, _*_}
 use mathlib.Core.Bool.{Bool, true}
 use mathlib.Core.List.{List, [], _∷_}
 use lib.Dec.{eqb, leb, ltb}
@@ -123,9 +123,18 @@ pub record Told : Type 0 where
 abbrev pub told : ℕ → Slots → Told
 told n l = record { answer = n; places = l }
 
+-- "After 0, records fill the first places, the answer counts them": their count stands above the number, whose eight bits are then 0
+abbrev pub counting : List ExecutionRecord → ℕ
+counting rs = 256 * length rs
+
+abbrev pub doneIn : ℕ → State → Slots → Told
+doneIn s x l = told (counting (x .records)) (slotsOf s x l)
+
 unfoldable pub fillOne : Ask → Slots → Told
-fillOne a l = told (numberOf (answerTo a l))
-    (pick (eqb (numberOf (answerTo a l)) 0) (slotsOf (a .symbol) (fill (termsOf a) (orderOf a) (stateIn a l)) l) l)
+fillOne a l =
+    pick (eqb (numberOf (answerTo a l)) 0)
+    (doneIn (a .symbol) (fill (termsOf a) (orderOf a) (stateIn a l)) l)
+    (told (numberOf (answerTo a l)) l)
 
 -- ---- the same in the code's structs
 abbrev pub bookOf : List ℤ → List ℕ → Book

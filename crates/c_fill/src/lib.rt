@@ -6,7 +6,7 @@ ghost use Rattle.cost_model.specs.Costs.{model};
 ghost use Rattle.table.specs.Rows.{cols, counted};
 ghost use Rattle.fills.specs.Records.{allWords, allInts, fronted};
 ghost use Rattle.fills.specs.Inner.Runs.{recordsOf};
-ghost use Rattle.c_fill.specs.Single.{kindOf, asked, termsOf, bookOf, positionIn, isNone, enteredIn, soundIn, goodAsk, refusalOf, seenBy, seenAfter, moneyOf, talliesOf, slots, told, fillOne};
+ghost use Rattle.c_fill.specs.Single.{kindOf, asked, termsOf, bookOf, positionIn, isNone, enteredIn, soundIn, goodAsk, refusalOf, seenBy, seenAfter, moneyOf, talliesOf, counting, slots, told, fillOne};
 use answer::Answer;
 use cost_model::CostModel;
 use fills::Book;
@@ -283,8 +283,16 @@ fn keep(words: &mut [u64], ints: &mut [i64], f: Filled)
     fills::store(words, ints, 0, r);
 }
 
+// What an entry returns when it is done: 256 times the count of records.
+fn counting(f: Filled) -> u64
+    ensures { λ r. ⌜ r ≡ counting (recordsOf f) ⌝ }
+{
+    if f.recorded { 256 } else { 0 }
+}
+
 // The settings of a fill as numbers, the order, and the lent places: cash, shortfall and the position's quantity, average, realized profit and total cost;
 // the counts of trimmed fills and of records; and room for one record or more, as four words and eight numbers. A refusal leaves all as found.
+// The answer's number, and 256 times the count of records that were written.
 #[no_mangle]
 pub extern "C" fn tc_fill(
     commission_bps: f64,
@@ -333,5 +341,5 @@ pub extern "C" fn tc_fill(
     put_money(money, seen.filled.book, seen.position);
     put_tallies(tallies, seen.filled.book);
     keep(words, ints, seen.filled);
-    0
+    counting(seen.filled)
 }

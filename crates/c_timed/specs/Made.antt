@@ -1,45 +1,59 @@
--- What is told of a call that is made `times` times on one account: `times` where it is done, else 0, and in lent bytes what it left.
+-- What is told of a call that is made over and over on one account: the answer's number, and in lent bytes what it left. How often it was made does
+-- not show.
 use Prim.Native.Nat.{ℕ}
 use mathlib.Core.List.{List, [], _∷_}
 use Rattle.answer.specs.declared.Answer.{Answer}
+use Rattle.answer.specs.declared.Answer.the-variants.{TooLong, Unsound}
+use Rattle.answer.specs.Numbers.{numberOf}
 use Rattle.table.specs.Keyed.{pick}
+use Rattle.call_lists.specs.Checks.{unless}
 use Rattle.word_bytes.specs.Numbers.{unsignedOf}
+use Rattle.account.specs.declared.account.Account.{Account}
 use Rattle.account.specs.declared.change.Changed.{Changed}
+use Rattle.account.specs.Account.{soundAccount}
 use Rattle.account_bytes.specs.Account.{writtenAccount}
 use Rattle.list_bytes.specs.Records.{putAll}
 use Rattle.list_bytes.specs.Weights.{writtenWeights}
 use Rattle.portfolio.specs.Answers.{isDone}
 use Rattle.queries.specs.declared.answered.Snapshot.{Snapshot}
 
-abbrev pub doneOf : Answer → ℕ → ℕ
-doneOf answer times = pick (isDone answer) times 0
+-- "Check order where several apply: 11, .. 6": of a list that is not whole, or a place of another length
+abbrev pub tooLong : Account → Answer
+tooLong a = unless (soundAccount a) Unsound TooLong
 
 -- ---- of a call that changes the account
 pub record Left : Type 0 where
-  pub done : ℕ
+  pub answer : ℕ
   pub after : List ℕ
 
 abbrev pub leave : ℕ → List ℕ → Left
-leave n l = record { done = n; after = l }
+leave n l = record { answer = n; after = l }
 
-abbrev pub left : Changed → ℕ → List ℕ → Left
-left c times l = leave (doneOf (c .answer) times) (writtenAccount (c .account) l)
+-- a refusal leaves "every lent place as found"
+abbrev pub refusing : List ℕ → Answer → Left
+refusing l answer = leave (numberOf answer) l
+
+unfoldable pub left : Changed → List ℕ → Left
+left c l = pick (isDone (c .answer)) (leave 0 (writtenAccount (c .account) l)) (refusing l (c .answer))
 
 -- ---- of a snapshot
 pub record LeftBoth : Type 0 where
-  pub done : ℕ
+  pub answer : ℕ
   pub figures : List ℕ
   pub weights : List ℕ
 
 abbrev pub leaveBoth : ℕ → List ℕ → List ℕ → LeftBoth
-leaveBoth n fs ws = record { done = n; figures = fs; weights = ws }
+leaveBoth n fs ws = record { answer = n; figures = fs; weights = ws }
+
+abbrev pub refusingBoth : List ℕ → List ℕ → Answer → LeftBoth
+refusingBoth fs ws answer = leaveBoth (numberOf answer) fs ws
 
 -- cash, equity, open positions and realized profit
 abbrev pub figuresOf : Snapshot → List ℕ
 figuresOf s = unsignedOf (s .cash) ∷ unsignedOf (s .equity) ∷ s .«num_positions» ∷ unsignedOf (s .«total_realized_pnl») ∷ []
 
-abbrev pub leftBoth : Snapshot → ℕ → List ℕ → List ℕ → LeftBoth
-leftBoth s times fs ws =
-    leaveBoth (doneOf (s .answer) times)
-    (putAll fs 0 (figuresOf s))
-    (writtenWeights (s .weights .count) (s .weights .symbol) (s .weights .weight) ws)
+unfoldable pub leftBoth : Snapshot → List ℕ → List ℕ → LeftBoth
+leftBoth s fs ws =
+    pick (isDone (s .answer))
+    (leaveBoth 0 (putAll fs 0 (figuresOf s)) (writtenWeights (s .weights .count) (s .weights .symbol) (s .weights .weight) ws))
+    (refusingBoth fs ws (s .answer))

@@ -1,24 +1,28 @@
 // What is told of calls that were made over and over.
 ghost use mathlib.Core.Path.{_≡_};
-ghost use Rattle.c_timed.specs.Made.{doneOf, leave, left};
+ghost use Rattle.answer.specs.Numbers.{numberOf};
+ghost use Rattle.c_timed.specs.Made.{tooLong, leave, left};
+use account::Account;
 use account::Changed;
 use account_bytes::write_account;
-use answer::Answer;
 use answer::is_done;
 
-// How many were done: all of them, or none.
-pub(crate) fn done_of(answer: Answer, times: u64) -> u64
-    ensures { λ r. ⌜ r ≡ doneOf answer times ⌝ }
+// 6 for a list that is not whole or a place of another length, unless the account is not sound.
+pub(crate) fn too_long(a: Account) -> u64
+    ensures { λ r. ⌜ r ≡ numberOf (tooLong a) ⌝ }
 {
-    if is_done(answer) { times } else { 0 }
+    if a.is_sound() { 6 } else { 11 }
 }
 
 // The account that the last one left.
-pub(crate) fn leave(c: Changed, times: u64, after: &mut [u8]) -> u64
-    ensures { λ r. ⌜ leave r (now (after .exit)) ≡ left c times (now (after .entry)) ⌝ }
+pub(crate) fn leave(c: Changed, after: &mut [u8]) -> u64
+    ensures { λ r. ⌜ leave r (now (after .exit)) ≡ left c (now (after .entry)) ⌝ }
 {
     let answer = c.answer;
+    if !is_done(answer) {
+        return answer::number(answer);
+    }
     let a = c.account;
     write_account(a, after);
-    done_of(answer, times)
+    0
 }

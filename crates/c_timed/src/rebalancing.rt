@@ -3,6 +3,7 @@ ghost use mathlib.Core.Path.{_≡_};
 ghost use Rattle.c_timed.specs.Made.{leave};
 ghost use Rattle.c_timed.specs.Calls.{rebalanceCall, rebalancesIn};
 use crate::made::leave;
+use crate::made::too_long;
 use account::Account;
 use account::Changed;
 use account_bytes::read_account;
@@ -46,7 +47,7 @@ fn rebalances(
     }
 }
 
-// How many were done. Account and lists are read once.
+// The last one's answer, as a number. Account and lists are read once.
 #[no_mangle]
 pub extern "C" fn direct_rebalance(
     account: &[u8],
@@ -55,18 +56,21 @@ pub extern "C" fn direct_rebalance(
     times: u64,
     after: &mut [u8],
 ) -> u64
-    ensures { λ r. ⌜ leave r (now (after .exit)) ≡ rebalancesIn (now (account .entry)) (now (targets .entry)) (now (prices .entry)) times (now (after .entry)) ⌝ }
+    ensures { λ r. ⌜ leave r (now (after .exit)) ≡ rebalancesIn (now (account .entry)) (now (targets .entry)) (now (prices .entry)) (now (after .entry)) ⌝ }
 {
     let r = read_account(account);
     let t = read_targets(targets);
     let p = read_prices(prices);
+    let a = r.account;
     if !t.whole {
-        return 0;
+        return too_long(a);
     }
     if !p.whole {
-        return 0;
+        return too_long(a);
     }
-    let a = r.account;
+    if after.len() != 2736 {
+        return too_long(a);
+    }
     let n = t.count;
     let m = p.count;
     let ts = t.symbol;
@@ -74,5 +78,5 @@ pub extern "C" fn direct_rebalance(
     let ss = p.symbol;
     let ps = p.price;
     let c = rebalances(a, &ts[..n], &ws[..n], &ss[..m], &ps[..m], times);
-    leave(c, times, after)
+    leave(c, after)
 }

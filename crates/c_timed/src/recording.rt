@@ -3,6 +3,7 @@ ghost use mathlib.Core.Path.{_≡_};
 ghost use Rattle.c_timed.specs.Made.{leave};
 ghost use Rattle.c_timed.specs.Calls.{returnCall, returnsIn};
 use crate::made::leave;
+use crate::made::too_long;
 use account::Account;
 use account::Changed;
 use account_bytes::read_account;
@@ -25,20 +26,23 @@ fn returns(a: Account, symbols: &[u64], prices: &[i64], times: u64) -> Changed
     }
 }
 
-// How many were done. Account and prices are read once.
+// The last one's answer, as a number. Account and prices are read once.
 #[no_mangle]
 pub extern "C" fn direct_return(account: &[u8], prices: &[u8], times: u64, after: &mut [u8]) -> u64
-    ensures { λ r. ⌜ leave r (now (after .exit)) ≡ returnsIn (now (account .entry)) (now (prices .entry)) times (now (after .entry)) ⌝ }
+    ensures { λ r. ⌜ leave r (now (after .exit)) ≡ returnsIn (now (account .entry)) (now (prices .entry)) (now (after .entry)) ⌝ }
 {
     let r = read_account(account);
     let p = read_prices(prices);
-    if !p.whole {
-        return 0;
-    }
     let a = r.account;
+    if !p.whole {
+        return too_long(a);
+    }
+    if after.len() != 2736 {
+        return too_long(a);
+    }
     let m = p.count;
     let ss = p.symbol;
     let ps = p.price;
     let c = returns(a, &ss[..m], &ps[..m], times);
-    leave(c, times, after)
+    leave(c, after)
 }

@@ -4,9 +4,10 @@ ghost use Rattle.list_bytes.specs.Records.{putAll};
 ghost use Rattle.queries.specs.Answers.{toldSnapshot};
 ghost use Rattle.c_timed.specs.Made.{leaveBoth, figuresOf, leftBoth};
 ghost use Rattle.c_timed.specs.Calls.{snapshotsIn};
-use crate::made::done_of;
+use crate::made::too_long;
 use account::Account;
 use account_bytes::read_account;
+use answer::is_done;
 use list_bytes::read_prices;
 use list_bytes::write_weights;
 use queries::Snapshot;
@@ -37,20 +38,23 @@ fn put_figures(s: Snapshot, figures: &mut [u8])
     put_word(figures, 3, unsigned(s.total_realized_pnl));
 }
 
-fn leave_both(s: Snapshot, times: u64, figures: &mut [u8], weights: &mut [u8]) -> u64
-    ensures { λ r. ⌜ leaveBoth r (now (figures .exit)) (now (weights .exit)) ≡ leftBoth s times (now (figures .entry)) (now (weights .entry)) ⌝ }
+fn leave_both(s: Snapshot, figures: &mut [u8], weights: &mut [u8]) -> u64
+    ensures { λ r. ⌜ leaveBoth r (now (figures .exit)) (now (weights .exit)) ≡ leftBoth s (now (figures .entry)) (now (weights .entry)) ⌝ }
 {
-    put_figures(s, figures);
     let answer = s.answer;
+    if !is_done(answer) {
+        return answer::number(answer);
+    }
+    put_figures(s, figures);
     let w = s.weights;
     let n = w.count;
     let symbol = w.symbol;
     let weight = w.weight;
     write_weights(n, symbol, weight, weights);
-    done_of(answer, times)
+    0
 }
 
-// How many were done. Account and prices are read once.
+// The last one's answer, as a number. Account and prices are read once.
 #[no_mangle]
 pub extern "C" fn direct_snapshot(
     account: &[u8],
@@ -60,17 +64,23 @@ pub extern "C" fn direct_snapshot(
     weights: &mut [u8],
 ) -> u64
     ensures { λ r. ⌜ leaveBoth r (now (figures .exit)) (now (weights .exit))
-        ≡ snapshotsIn (now (account .entry)) (now (prices .entry)) times (now (figures .entry)) (now (weights .entry)) ⌝ }
+        ≡ snapshotsIn (now (account .entry)) (now (prices .entry)) (now (figures .entry)) (now (weights .entry)) ⌝ }
 {
     let r = read_account(account);
     let p = read_prices(prices);
-    if !p.whole {
-        return 0;
-    }
     let a = r.account;
+    if !p.whole {
+        return too_long(a);
+    }
+    if figures.len() != 32 {
+        return too_long(a);
+    }
+    if weights.len() != 1024 {
+        return too_long(a);
+    }
     let m = p.count;
     let ss = p.symbol;
     let ps = p.price;
     let s = snapshots(a, &ss[..m], &ps[..m], times);
-    leave_both(s, times, figures, weights)
+    leave_both(s, figures, weights)
 }

@@ -3,3 +3,4 @@ pub mod Reading
 pub mod Fronting
 pub mod Writing
 pub mod Lending
+pub mod Again

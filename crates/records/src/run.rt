@@ -25,7 +25,8 @@ pub fn collect<'w, 'i, 'a>(
 {
     let mut i: usize = 0;
     while (i < count) & (i < out.len()) {
-        out[i] = record_at(words, ints, i);
+        let r = record_at(words, ints, i);
+        store_record(out, i, r);
         i += 1;
     }
 }

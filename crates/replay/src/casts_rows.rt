@@ -6,7 +6,7 @@ use crate::row::same_bool;
 use crate::row::same_float;
 use crate::row::same_int;
 
-pub fn agrees(r: Row) -> bool {
+pub(crate) fn agrees(r: Row) -> bool {
     let leaf = r.leaf;
     let x = float(r.a);
     match leaf {

@@ -7,7 +7,7 @@ use crate::row::same_int;
 use cost_model::CostModel;
 use position::Shares;
 
-pub fn costs_of(commission_bps: u64, slippage_bps: u64, min_commission: u64) -> CostModel {
+pub(crate) fn costs_of(commission_bps: u64, slippage_bps: u64, min_commission: u64) -> CostModel {
     CostModel {
         commission_bps: float(commission_bps),
         slippage_bps: float(slippage_bps),
@@ -15,7 +15,7 @@ pub fn costs_of(commission_bps: u64, slippage_bps: u64, min_commission: u64) -> 
     }
 }
 
-pub fn agrees(r: Row) -> bool {
+pub(crate) fn agrees(r: Row) -> bool {
     let leaf = r.leaf;
     let costs = costs_of(r.a, r.b, r.c);
     match leaf {

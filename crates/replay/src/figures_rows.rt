@@ -16,7 +16,7 @@ fn rate_agrees(leaf: u64, figures: Figures, answer: u64) -> bool {
     }
 }
 
-pub fn agrees(r: Row) -> bool {
+pub(crate) fn agrees(r: Row) -> bool {
     let leaf = r.leaf;
     let count = r.a;
     if 6 < count {

@@ -33,7 +33,7 @@ fn fill_agrees(r: Row) -> bool {
     }
 }
 
-pub fn agrees(r: Row) -> bool {
+pub(crate) fn agrees(r: Row) -> bool {
     let leaf = r.leaf;
     match leaf {
         51 => same_bool(Symbol(r.a).is_good(), r.answer),

@@ -28,7 +28,7 @@ fn word(b: &[u8; 72], at: usize) -> u64
     low | high << 32
 }
 
-pub fn read(b: &[u8; 72]) -> Row {
+pub(crate) fn read(b: &[u8; 72]) -> Row {
     Row {
         leaf: word(b, 0),
         a: word(b, 8),
@@ -43,7 +43,7 @@ pub fn read(b: &[u8; 72]) -> Row {
 }
 
 // Two's complement.
-pub fn int(w: u64) -> i64 {
+pub(crate) fn int(w: u64) -> i64 {
     if w < 0x8000_0000_0000_0000 {
         w as i64
     } else {
@@ -52,7 +52,7 @@ pub fn int(w: u64) -> i64 {
 }
 
 // The double of a pattern; each NaN's pattern is the one NaN.
-pub fn float(w: u64) -> f64 {
+pub(crate) fn float(w: u64) -> f64 {
     if 0x7ff0_0000_0000_0000 < w % 0x8000_0000_0000_0000 {
         0.0 / 0.0
     } else {
@@ -60,16 +60,16 @@ pub fn float(w: u64) -> f64 {
     }
 }
 
-pub fn same_bool(ours: bool, answer: u64) -> bool {
+pub(crate) fn same_bool(ours: bool, answer: u64) -> bool {
     if ours { answer == 1 } else { answer == 0 }
 }
 
-pub fn same_int(ours: i64, answer: u64) -> bool {
+pub(crate) fn same_int(ours: i64, answer: u64) -> bool {
     ours == int(answer)
 }
 
 // Equal with the sign of a zero, which one over it tells; all NaNs are one.
-pub fn same_float(ours: f64, answer: u64) -> bool {
+pub(crate) fn same_float(ours: f64, answer: u64) -> bool {
     let theirs = float(answer);
     if ours != ours {
         return theirs != theirs;
@@ -78,7 +78,7 @@ pub fn same_float(ours: f64, answer: u64) -> bool {
 }
 
 // "In figures, zeros of either sign and all NaNs compare equal."
-pub fn same_figure(ours: f64, answer: u64) -> bool {
+pub(crate) fn same_figure(ours: f64, answer: u64) -> bool {
     let theirs = float(answer);
     if ours != ours {
         return theirs != theirs;

@@ -5,7 +5,7 @@ use crate::row::same_float;
 use crate::row::same_int;
 use position::Shares;
 
-pub fn agrees(r: Row) -> bool {
+pub(crate) fn agrees(r: Row) -> bool {
     let leaf = r.leaf;
     let a = Shares(int(r.a));
     let b = Shares(int(r.b));

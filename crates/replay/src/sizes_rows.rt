@@ -26,7 +26,7 @@ fn need_agrees(r: Row) -> bool {
     )
 }
 
-pub fn agrees(r: Row) -> bool {
+pub(crate) fn agrees(r: Row) -> bool {
     let leaf = r.leaf;
     let a = int(r.a);
     let b = int(r.b);

@@ -22,7 +22,7 @@ fn words_agree(r: Row) -> bool {
     }
 }
 
-pub fn agrees(r: Row) -> bool {
+pub(crate) fn agrees(r: Row) -> bool {
     let leaf = r.leaf;
     let a = int(r.a);
     let b = int(r.b);

@@ -142,15 +142,15 @@ impl Ours {
         let (found, prices) = (&self.bytes, &self.price_bytes);
         let mut after = [[0; 2_736]; 2];
         let [first, second] = &mut after;
-        let done = match call {
+        let answers = match call {
             Call::Rebalance => {
                 direct_rebalance(found, &self.target_bytes[0], prices, HALF, first)
                     + direct_rebalance(first, &self.target_bytes[1], prices, HALF, second)
             }
             Call::Return => direct_return(found, prices, 2 * HALF, first),
-            Call::Snapshot => direct_snapshot(found, prices, 2 * HALF, &mut first[..40], &mut second[..1_024]),
+            Call::Snapshot => direct_snapshot(found, prices, 2 * HALF, &mut first[..32], &mut second[..1_024]),
         };
-        assert_eq!(done, CALLS as u64);
+        assert_eq!(answers, 0);
         after
     }
 

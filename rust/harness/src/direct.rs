@@ -1,5 +1,5 @@
 //! Calls by value, made over and over on one account within the proved code: account and lists are read once, and what the last call
-//! left is written. Each tells how many were done. No part of the C interface.
+//! left is written. Each returns the answer's number; a refusal writes nothing. No part of the C interface.
 
 threshcoil_sys::entries! {
     "Rebalances, each from the account as given; the account that the last one left."

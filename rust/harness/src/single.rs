@@ -116,7 +116,7 @@ pub fn run(seed: u64, count: u64) -> bool {
 const WORD: u64 = 0x5a5a_5a5a_5a5a_5a5a;
 const INT: i64 = -0x5a5a_5a5a_5a5a_5a5a;
 
-/// The port's answer, the account after it, and the record's places, with one place more that it must leave.
+/// What the port returns, the account after it, and the record's places, with one place more that it must leave.
 fn ours(ask: &Ask, before: Single) -> (u64, Single, [u64; 5], [i64; 9]) {
     let Costs { commission_bps, slippage_bps, min_commission } = ask.costs;
     let [quantity, average, realized, total] = before.position;
@@ -152,9 +152,14 @@ fn places(record: Option<Record>) -> ([u64; 5], [i64; 9]) {
     (words, [r.quantity, r.price, r.reference_price, notional, listed, cost, change, after, INT])
 }
 
+/// The number 0, and above its eight bits the count of records.
+fn done(recorded: bool) -> u64 {
+    u64::from(recorded) << 8
+}
+
 fn agrees(case: &Case) -> bool {
     let (answer, after, words, ints) = ours(&case.ask, case.before);
-    let same = answer == 0 && after == case.after && (words, ints) == places(case.record);
+    let same = answer == done(case.record.is_some()) && after == case.after && (words, ints) == places(case.record);
     if !same {
         let Case { ask, before, after: theirs, record, .. } = case;
         println!(
@@ -170,10 +175,11 @@ fn fills_by_the_rule(ask: &Ask, before: Single, paid: i64, need: i64) -> bool {
     let expected = if need <= before.cash { ask.quantity } else { largest() };
     let (answer, after, _, ints) = ours(ask, before);
     let filled = if after.cash == before.cash && ints[0] == INT { 0 } else { ints[0] };
-    if answer != 0 || filled != expected {
+    let same = answer == done(expected != 0) && filled == expected;
+    if !same {
         println!("DIFFERS: {ask:?} on {before:?}: port {answer}, filled {filled}, by the rule {expected}");
     }
-    answer == 0 && filled == expected
+    same
 }
 
 fn costs(random: &mut Random) -> Costs {

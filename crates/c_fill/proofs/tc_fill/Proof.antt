@@ -1,4 +1,5 @@
 -- By the lengths of the places, then by the answer: after 0 the fill is put into the places, else nothing is.
+use Prim.Native.Nat.{ℕ}
 use mathlib.Core.Path.{_≡_, sym, ap, _∙_}
 use mir.Syntax.{w64}
 use mir.Val.{SFits}
@@ -7,9 +8,10 @@ use borrow.Author.Needs.{needs}
 use lib.ListN.{length}
 use Rattle.answer.specs.Numbers.{numberOf}
 use Rattle.cost_model.specs.Costs.{model}
+use Rattle.fills.specs.Inner.Runs.{recordsOf}
 use Rattle.c_fill.specs.declared.Ask.{Ask}
-use Rattle.c_fill.specs.Single.{asked, Slots, slots, bookOf, positionIn, refusalOf, seenBy, seenAfter, Sight, told}
-use Rattle.c_fill.proofs.Alone.{short-money, short-tallies, refused-as-found, done-as-filled, done-has-room, placed, same-slots}
+use Rattle.c_fill.specs.Single.{asked, Slots, slots, bookOf, positionIn, refusalOf, seenBy, seenAfter, Sight, told, counting}
+use Rattle.c_fill.proofs.Alone.{short-money, short-tallies, refused-as-found, done-as-filled, done-has-room, toldOf, same-slots}
 use Rattle.c_fill.proofs.tc_fill.Statement.{statement}
 use Rattle.c_fill.proofs.tc_fill.Tie as tie
 
@@ -114,6 +116,9 @@ keep-requires c κs =
     let s = began (passed q) in
     done-has-room (ask s) _ _ _ _ (sym (number-is (answered q)) ∙ q .before .if3 .left)
 
+counting-requires : tie.Need-counting-requires
+counting-requires c κs = search needs
+
 same-length-3 : tie.Need-same-length-3
 same-length-3 c = search needs
 
@@ -128,14 +133,15 @@ same-length-6 c = search needs
 
 returns-4 : tie.Need-returns-4
 returns-4 c =
-    let k = c .before .before .before in
+    let k = c .before .before .before .before in
     let t = k .before .before .before .before .before in
     let m = t .before .before .before in
     let q = m .before .before in
     let e = passed q in
     let s = began e in
-    ap (told 0) (same-slots (m .put-money .ensures) (t .put-tallies .ensures) (k .keep .ensures .0) (k .keep .ensures .1))
-    ∙ ap (λ (v : Sight). told 0 (placed v (given s))) (seen-is q)
+    ap (λ (n : ℕ). told n (slots (m .put-money .last .0) (t .put-tallies .last .0) (k .keep .last .0) (k .keep .last .1 .0))) (c .counting .ensures)
+    ∙ ap (told (counting (recordsOf (q .fill-alone .result .filled)))) (same-slots (m .put-money .ensures) (t .put-tallies .ensures) (k .keep .ensures .0) (k .keep .ensures .1))
+    ∙ ap (λ (v : Sight). toldOf v (given s)) (seen-is q)
     ∙ done-as-filled (ask s) (given s) (e .before .if1 .left) (e .if2 .left) (answered q .number .result) (number-is (answered q)) (q .before .if3 .left)
 
 pub tc-fill-spec : {M : Type 1} → statement M
@@ -156,6 +162,7 @@ tc-fill-spec =
     put-money-requires
     put-tallies-requires
     keep-requires
+    counting-requires
     same-length-3
     same-length-4
     same-length-5

@@ -1,19 +1,38 @@
--- The account's bytes, and the count.
+-- The account's bytes, or nothing of a refusal.
+use Prim.Native.Nat.{ℕ}
+use mathlib.Core.Path.{sym, ap, _∙_}
 use borrow.Author.Needs.{needs}
+use borrow.Author.Tests.{not-true, not-false}
+use Rattle.c_timed.specs.Made.{leave, left}
 use Rattle.c_timed.proofs.made.leave.Statement.{statement}
 use Rattle.c_timed.proofs.made.leave.Tie as tie
+
+is-done-requires : tie.Need-is-done-requires
+is-done-requires c κs = search needs
+
+number-requires : tie.Need-number-requires
+number-requires c κs = search needs
+
+returns : tie.Need-returns
+unfolding left
+returns c =
+    let d = sym (c .before .before .is-done .ensures) ∙ not-true _ (c .before .if1 .taken) in
+    let s = c .before .before .before .before in
+    rw d (ap (λ (n : ℕ). leave n (s .args .after .now)) (c .number .ensures))
 
 write-account-requires : tie.Need-write-account-requires
 write-account-requires c κs = search needs
 
-done-of-requires : tie.Need-done-of-requires
-done-of-requires c κs = search needs
-
 same-length : tie.Need-same-length
 same-length c = search needs
 
-returns : tie.Need-returns
-returns c = simp (c .done-of .ensures, c .before .before .before .write-account .ensures)
+returns-2 : tie.Need-returns-2
+unfolding left
+returns-2 c =
+    let w = c .before .before in
+    let q = w .before .before .before in
+    let d = sym (q .before .is-done .ensures) ∙ not-false _ (q .if1 .left) in
+    simp (d, w .write-account .ensures)
 
 pub leave-spec : {M : Type 1} → statement M
-leave-spec = tie.close (tie.spec write-account-requires done-of-requires same-length returns)
+leave-spec = tie.close (tie.spec is-done-requires number-requires returns write-account-requires same-length returns-2)

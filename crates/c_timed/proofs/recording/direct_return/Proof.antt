@@ -1,8 +1,8 @@
--- Nothing of a price list that is not whole; else what the last call left.
+-- Nothing of a price list that is not whole or a place of another length; else what the last call left.
 use mathlib.Core.Path.{_≡_, sym, ap, _∙_}
 use mathlib.Core.Bool.{true}
 use borrow.Author.Needs.{needs}
-use borrow.Author.Tests.{not-true, not-false}
+use borrow.Author.Tests.{not-true, not-false, eq-eqb, ne-eqb}
 use lib.ListN.{length, take}
 use Rattle.list_bytes.specs.declared.price.Prices.{Prices}
 use Rattle.list_bytes.specs.Entries.{wholeList}
@@ -27,18 +27,23 @@ symbols-lent c = rw (c .read-prices .ensures) (price-symbols-long (begun c .args
 prices-lent : (c : tie.After-read-prices) → let p = c .read-prices .result in length (take (p .count) (p .price)) ≡ p .count
 prices-lent c = rw (c .read-prices .ensures) (price-prices-long (begun c .args .prices .now))
 
+-- ---- the tests
+abbrev read : tie.Else1 → tie.After-read-prices
+read c = c .before .before .before
+
+is-whole : (c : tie.Else1) → wholeList 128 (begun (read c) .args .prices .now) ≡ true
+is-whole c = sym (whole (read c)) ∙ not-false _ (c .if1 .left)
+
 -- ---- the call, of a list that is whole
-abbrev prices-read : tie.After-returns → tie.After-read-prices
-prices-read c = c .before .before .before .before .before .before .before .before
+abbrev tested : tie.After-returns → tie.Else2
+tested c = c .before .before .before .before .before
 
-is-whole : (c : tie.After-returns) → wholeList 128 (begun (prices-read c) .args .prices .now) ≡ true
-is-whole c = sym (whole (prices-read c)) ∙ not-false _ (c .before .before .before .before .before .before .if1 .left)
-
-made : (c : tie.After-returns) → let a = begun (prices-read c) .args in c .returns .result ≡ returnCall (accountIn (a .account .now)) (symbolsIn (a .prices .now)) (pricesIn (a .prices .now))
+made : (c : tie.After-returns) → let a = begun (read (tested c .before)) .args in c .returns .result ≡ returnCall (accountIn (a .account .now)) (symbolsIn (a .prices .now)) (pricesIn (a .prices .now))
 made c =
-    let q = prices-read c in
+    let t = tested c .before in
+    let q = read t in
     let ps = begun q .args .prices .now in
-    simp (q .before .read-account .ensures, q .read-prices .ensures, price-symbols ps (is-whole c), price-prices ps (is-whole c)) at (c .returns .ensures)
+    simp (q .before .read-account .ensures, q .read-prices .ensures, price-symbols ps (is-whole t), price-prices ps (is-whole t)) at (c .returns .ensures)
 
 read-account-requires : tie.Need-read-account-requires
 read-account-requires c κs = search needs
@@ -46,21 +51,37 @@ read-account-requires c κs = search needs
 read-prices-requires : tie.Need-read-prices-requires
 read-prices-requires c κs = search needs
 
+too-long-requires : tie.Need-too-long-requires
+too-long-requires c κs = search needs
+
 returns : tie.Need-returns
 unfolding returnsIn
-returns c = let d = sym (whole (c .before .before)) ∙ not-true _ (c .if1 .taken) in simp d
+returns c =
+    let q = c .before .before .before .before in
+    let d = sym (whole q) ∙ not-true _ (c .before .if1 .taken) in
+    simp (c .too-long .ensures, q .before .read-account .ensures, d)
+
+too-long-requires-2 : tie.Need-too-long-requires-2
+too-long-requires-2 c κs = search needs
+
+returns-2 : tie.Need-returns-2
+unfolding returnsIn
+returns-2 c =
+    let t = c .before .before in
+    let q = read t in
+    simp (c .too-long2 .ensures, q .before .read-account .ensures, is-whole t, ne-eqb _ _ (c .before .if2 .taken))
 
 array-share-prefix-ss : tie.Need-array-share-prefix-ss
-array-share-prefix-ss c = within _ _ (symbols-lent (c .before .before .before .before .before))
+array-share-prefix-ss c = within _ _ (symbols-lent (c .before .before .before .before .before .before))
 
 slice-aggregate-returns : tie.Need-slice-aggregate-returns
-slice-aggregate-returns c = sym (symbols-lent (c .before .before .before .before .before .before))
+slice-aggregate-returns c = sym (symbols-lent (c .before .before .before .before .before .before .before))
 
 array-share-prefix-ps : tie.Need-array-share-prefix-ps
-array-share-prefix-ps c = within _ _ (prices-lent (c .before .before .before .before .before .before))
+array-share-prefix-ps c = within _ _ (prices-lent (c .before .before .before .before .before .before .before))
 
 slice-aggregate-returns-2 : tie.Need-slice-aggregate-returns-2
-slice-aggregate-returns-2 c = sym (prices-lent (c .before .before .before .before .before .before .before))
+slice-aggregate-returns-2 c = sym (prices-lent (c .before .before .before .before .before .before .before .before))
 
 returns-requires : tie.Need-returns-requires
 returns-requires c κs = search needs
@@ -71,13 +92,14 @@ leave-requires c κs = search needs
 same-length : tie.Need-same-length
 same-length c = search needs
 
-returns-2 : tie.Need-returns-2
+returns-3 : tie.Need-returns-3
 unfolding returnsIn
-returns-2 c =
+returns-3 c =
     let k = c .before .before in
     let t = k .before .before in
-    let a = begun (prices-read t) .args in
-    simp (is-whole t) (k .leave .ensures ∙ ap (λ x. left x (a .times) (a .after .now)) (made t))
+    let e = tested t in
+    let a = begun (read (e .before)) .args in
+    simp (is-whole (e .before), eq-eqb _ _ (e .if2 .left)) (k .leave .ensures ∙ ap (λ x. left x (a .after .now)) (made t))
 
 pub direct-return-spec : {M : Type 1} → statement M
 direct-return-spec =
@@ -85,7 +107,10 @@ direct-return-spec =
     (tie.spec
     read-account-requires
     read-prices-requires
+    too-long-requires
     returns
+    too-long-requires-2
+    returns-2
     array-share-prefix-ss
     slice-aggregate-returns
     array-share-prefix-ps
@@ -93,4 +118,4 @@ direct-return-spec =
     returns-requires
     leave-requires
     same-length
-    returns-2)
+    returns-3)

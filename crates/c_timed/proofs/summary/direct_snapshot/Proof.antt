@@ -1,8 +1,8 @@
--- Nothing of a price list that is not whole; else the last snapshot.
+-- Nothing of a price list that is not whole or places of another length; else the last snapshot.
 use mathlib.Core.Path.{_≡_, sym, ap, _∙_}
 use mathlib.Core.Bool.{true}
 use borrow.Author.Needs.{needs}
-use borrow.Author.Tests.{not-true, not-false}
+use borrow.Author.Tests.{not-true, not-false, eq-eqb, ne-eqb}
 use lib.ListN.{length, take}
 use Rattle.list_bytes.specs.declared.price.Prices.{Prices}
 use Rattle.list_bytes.specs.Entries.{wholeList}
@@ -28,18 +28,23 @@ symbols-lent c = rw (c .read-prices .ensures) (price-symbols-long (begun c .args
 prices-lent : (c : tie.After-read-prices) → let p = c .read-prices .result in length (take (p .count) (p .price)) ≡ p .count
 prices-lent c = rw (c .read-prices .ensures) (price-prices-long (begun c .args .prices .now))
 
+-- ---- the tests
+abbrev read : tie.Else1 → tie.After-read-prices
+read c = c .before .before .before
+
+is-whole : (c : tie.Else1) → wholeList 128 (begun (read c) .args .prices .now) ≡ true
+is-whole c = sym (whole (read c)) ∙ not-false _ (c .if1 .left)
+
 -- ---- the call, of a list that is whole
-abbrev prices-read : tie.After-snapshots → tie.After-read-prices
-prices-read c = c .before .before .before .before .before .before .before .before
+abbrev tested : tie.After-snapshots → tie.Else3
+tested c = c .before .before .before .before .before
 
-is-whole : (c : tie.After-snapshots) → wholeList 128 (begun (prices-read c) .args .prices .now) ≡ true
-is-whole c = sym (whole (prices-read c)) ∙ not-false _ (c .before .before .before .before .before .before .if1 .left)
-
-made : (c : tie.After-snapshots) → let a = begun (prices-read c) .args in c .snapshots .result ≡ toldSnapshot (accountIn (a .account .now)) (symbolsIn (a .prices .now)) (pricesIn (a .prices .now))
+made : (c : tie.After-snapshots) → let a = begun (read (tested c .before .before)) .args in c .snapshots .result ≡ toldSnapshot (accountIn (a .account .now)) (symbolsIn (a .prices .now)) (pricesIn (a .prices .now))
 made c =
-    let q = prices-read c in
+    let t = tested c .before .before in
+    let q = read t in
     let ps = begun q .args .prices .now in
-    simp (q .before .read-account .ensures, q .read-prices .ensures, price-symbols ps (is-whole c), price-prices ps (is-whole c)) at (c .snapshots .ensures)
+    simp (q .before .read-account .ensures, q .read-prices .ensures, price-symbols ps (is-whole t), price-prices ps (is-whole t)) at (c .snapshots .ensures)
 
 read-account-requires : tie.Need-read-account-requires
 read-account-requires c κs = search needs
@@ -47,21 +52,48 @@ read-account-requires c κs = search needs
 read-prices-requires : tie.Need-read-prices-requires
 read-prices-requires c κs = search needs
 
+too-long-requires : tie.Need-too-long-requires
+too-long-requires c κs = search needs
+
 returns : tie.Need-returns
 unfolding snapshotsIn
-returns c = let d = sym (whole (c .before .before)) ∙ not-true _ (c .if1 .taken) in simp d
+returns c =
+    let q = c .before .before .before .before in
+    let d = sym (whole q) ∙ not-true _ (c .before .if1 .taken) in
+    simp (c .too-long .ensures, q .before .read-account .ensures, d)
+
+too-long-requires-2 : tie.Need-too-long-requires-2
+too-long-requires-2 c κs = search needs
+
+returns-2 : tie.Need-returns-2
+unfolding snapshotsIn
+returns-2 c =
+    let t = c .before .before in
+    let q = read t in
+    simp (c .too-long2 .ensures, q .before .read-account .ensures, is-whole t, ne-eqb _ _ (c .before .if2 .taken))
+
+too-long-requires-3 : tie.Need-too-long-requires-3
+too-long-requires-3 c κs = search needs
+
+returns-3 : tie.Need-returns-3
+unfolding snapshotsIn
+returns-3 c =
+    let f = c .before .before in
+    let t = f .before in
+    let q = read t in
+    simp (c .too-long3 .ensures, q .before .read-account .ensures, is-whole t, eq-eqb _ _ (f .if2 .left), ne-eqb _ _ (c .before .if3 .taken))
 
 array-share-prefix-ss : tie.Need-array-share-prefix-ss
-array-share-prefix-ss c = within _ _ (symbols-lent (c .before .before .before .before .before))
+array-share-prefix-ss c = within _ _ (symbols-lent (c .before .before .before .before .before .before .before))
 
 slice-aggregate-snapshots : tie.Need-slice-aggregate-snapshots
-slice-aggregate-snapshots c = sym (symbols-lent (c .before .before .before .before .before .before))
+slice-aggregate-snapshots c = sym (symbols-lent (c .before .before .before .before .before .before .before .before))
 
 array-share-prefix-ps : tie.Need-array-share-prefix-ps
-array-share-prefix-ps c = within _ _ (prices-lent (c .before .before .before .before .before .before))
+array-share-prefix-ps c = within _ _ (prices-lent (c .before .before .before .before .before .before .before .before))
 
 slice-aggregate-snapshots-2 : tie.Need-slice-aggregate-snapshots-2
-slice-aggregate-snapshots-2 c = sym (prices-lent (c .before .before .before .before .before .before .before))
+slice-aggregate-snapshots-2 c = sym (prices-lent (c .before .before .before .before .before .before .before .before .before))
 
 snapshots-requires : tie.Need-snapshots-requires
 snapshots-requires c κs = search needs
@@ -75,13 +107,14 @@ same-length c = search needs
 same-length-2 : tie.Need-same-length-2
 same-length-2 c = search needs
 
-returns-2 : tie.Need-returns-2
+returns-4 : tie.Need-returns-4
 unfolding snapshotsIn
-returns-2 c =
+returns-4 c =
     let k = c .before .before .before .before in
     let t = k .before .before .before in
-    let a = begun (prices-read t) .args in
-    simp (is-whole t) (k .leave-both .ensures ∙ ap (λ x. leftBoth x (a .times) (a .figures .now) (a .weights .now)) (made t))
+    let e = tested t in
+    let a = begun (read (e .before .before)) .args in
+    simp (is-whole (e .before .before), eq-eqb _ _ (e .before .if2 .left), eq-eqb _ _ (e .if3 .left)) (k .leave-both .ensures ∙ ap (λ x. leftBoth x (a .figures .now) (a .weights .now)) (made t))
 
 pub direct-snapshot-spec : {M : Type 1} → statement M
 direct-snapshot-spec =
@@ -89,7 +122,12 @@ direct-snapshot-spec =
     (tie.spec
     read-account-requires
     read-prices-requires
+    too-long-requires
     returns
+    too-long-requires-2
+    returns-2
+    too-long-requires-3
+    returns-3
     array-share-prefix-ss
     slice-aggregate-snapshots
     array-share-prefix-ps
@@ -98,4 +136,4 @@ direct-snapshot-spec =
     leave-both-requires
     same-length
     same-length-2
-    returns-2)
+    returns-4)

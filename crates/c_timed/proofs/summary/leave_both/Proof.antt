@@ -1,7 +1,24 @@
--- Figures, weights and the count.
+-- Figures and weights, or nothing of a refusal.
+use Prim.Native.Nat.{ℕ}
+use mathlib.Core.Path.{sym, ap, _∙_}
 use borrow.Author.Needs.{needs}
+use borrow.Author.Tests.{not-true, not-false}
+use Rattle.c_timed.specs.Made.{leaveBoth, leftBoth}
 use Rattle.c_timed.proofs.summary.leave_both.Statement.{statement}
 use Rattle.c_timed.proofs.summary.leave_both.Tie as tie
+
+is-done-requires : tie.Need-is-done-requires
+is-done-requires c κs = search needs
+
+number-requires : tie.Need-number-requires
+number-requires c κs = search needs
+
+returns : tie.Need-returns
+unfolding leftBoth
+returns c =
+    let d = sym (c .before .before .is-done .ensures) ∙ not-true _ (c .before .if1 .taken) in
+    let s = c .before .before .before .before .before in
+    rw d (ap (λ (n : ℕ). leaveBoth n (s .args .figures .now) (s .args .weights .now)) (c .number .ensures))
 
 put-figures-requires : tie.Need-put-figures-requires
 put-figures-requires c κs = search needs
@@ -9,28 +26,20 @@ put-figures-requires c κs = search needs
 write-weights-requires : tie.Need-write-weights-requires
 write-weights-requires c κs = search needs
 
-done-of-requires : tie.Need-done-of-requires
-done-of-requires c κs = search needs
-
 same-length : tie.Need-same-length
 same-length c = search needs
 
 same-length-2 : tie.Need-same-length-2
 same-length-2 c = search needs
 
-returns : tie.Need-returns
-returns c =
-    let w = c .before .before .before in
+returns-2 : tie.Need-returns-2
+unfolding leftBoth
+returns-2 c =
+    let w = c .before .before in
     let f = w .before .before .before .before .before .before .before in
-    simp (c .done-of .ensures, f .put-figures .ensures, w .write-weights .ensures)
+    let q = f .before .before in
+    let d = sym (q .before .is-done .ensures) ∙ not-false _ (q .if1 .left) in
+    simp (d, f .put-figures .ensures, w .write-weights .ensures)
 
 pub leave-both-spec : {M : Type 1} → statement M
-leave-both-spec =
-    tie.close
-    (tie.spec
-    put-figures-requires
-    write-weights-requires
-    done-of-requires
-    same-length
-    same-length-2
-    returns)
+leave-both-spec = tie.close (tie.spec is-done-requires number-requires returns put-figures-requires write-weights-requires same-length same-length-2 returns-2)
