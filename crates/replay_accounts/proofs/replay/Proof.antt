@@ -7,7 +7,7 @@ use Rattle.replay_accounts.proofs.replay.Statement.{statement}
 use Rattle.replay_accounts.proofs.replay.Tie as tie
 
 abbrev Inv-loop : tie.InvT-loop
-Inv-loop fd account₀ left₀ differences₀ account left differences = length account ≡ 2736
+Inv-loop fd account₀ left₀ differences₀ account left differences = length account ≡ 488
 
 abbrev μ-loop : tie.MeasureT-loop
 μ-loop fd account₀ left₀ differences₀ account left differences = left
