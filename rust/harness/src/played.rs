@@ -221,7 +221,7 @@ fn sample() -> Option<Vec<u8>> {
     let mut kept = Vec::new();
     let mut seed = SEED;
     while kept.len() < SCENARIOS {
-        let scenario = scenario::scenario(&mut Random::new(seed));
+        let scenario = scenario::ordinary(&mut Random::new(seed));
         let rows = rows(&scenario, &oracle::play(&scenario)?);
         seed += 1;
         // An opening alone, or with setters, tells little.

@@ -79,7 +79,7 @@ fn the_document_has_the_words_of_the_table() {
     for (title, size) in [("Settings", layout::SETTINGS_SIZE), ("Account", layout::ACCOUNT_SIZE)] {
         let (heading, _) = section(title).split_once('\n').expect("a heading");
         let told: String = heading.chars().filter(|c| *c != ',').collect();
-        assert!(told.ends_with(&format!("{} words, {size} bytes", size / 8)), "{heading}");
+        assert!(told.ends_with(&format!("{} words {size} bytes", size / layout::WORD_SIZE)), "{heading}");
     }
 }
 

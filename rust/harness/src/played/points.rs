@@ -171,11 +171,7 @@ fn caps(k: i64) -> Vec<Scenario> {
         capped(&[MaxRebalanceNotional(999 * k - 1)], &[(b'A', 0.0999)], &[(b'A', 1_000_003)]),
         capped(&[MaxRebalanceNotional(2_000 * k)], &[(b'A', 0.2), (b'B', 0.1)], &AT_100),
         // Nothing remains, and the next order is worth nothing: one micro-share at 700,000.
-        capped(
-            &[MaxRebalanceNotional(2_000 * k)],
-            &[(b'A', 0.2), (b'B', 0.0001)],
-            &[(b'A', 100), (b'B', 700_000 * k)],
-        ),
+        capped(&[MaxRebalanceNotional(2_000 * k)], &[(b'A', 0.2), (b'B', 0.0001)], &[(b'A', 100), (b'B', 700_000 * k)]),
         // Cut to nothing by the step; cut to the minimum, and to less.
         capped(&[MaxRebalanceNotional(50), QuantityStep(1_000_000)], &rising, &AT_100),
         capped(&[MaxRebalanceNotional(3_500 * k), MinOrderValue(500 * k)], &rising, &AT_100),

@@ -52,7 +52,8 @@ const AT: [(u8, i64); 3] = [(b'A', 100), (b'B', 100), (b'C', 100)];
 const NAN: f64 = f64::NAN;
 
 fn listed(k: i64) -> Vec<(u64, Step)> {
-    let bad = [b" \0\0\0\0\0\0\0", b"A\x7f\0\0\0\0\0\0", b"\0\0\0\0\0\0\0\0", b"A\0B\0\0\0\0\0"].map(|bytes| Symbol(*bytes));
+    let bad =
+        [b" \0\0\0\0\0\0\0", b"A\x7f\0\0\0\0\0\0", b"\0\0\0\0\0\0\0\0", b"A\0B\0\0\0\0\0"].map(|bytes| Symbol(*bytes));
     let places = |step: Step, room: u64| match step {
         Step::Rebalance { targets, prices, context, .. } => Step::Rebalance { targets, prices, context, places: room },
         Step::Close { symbol, price, context, .. } => Step::Close { symbol, price, context, places: room },
@@ -62,7 +63,11 @@ fn listed(k: i64) -> Vec<(u64, Step)> {
         let Step::Rebalance { mut targets, mut prices, context, places } = rebalance(&[(b'A', 0.1)], &AT) else {
             unreachable!("a rebalance")
         };
-        if in_targets { targets[0].0 = s } else { prices[0].0 = s }
+        if in_targets {
+            targets[0].0 = s
+        } else {
+            prices[0].0 = s
+        }
         Step::Rebalance { targets, prices, context, places }
     };
     let full = |equity_places, return_places| Step::RecordReturn { prices: prices(&AT), equity_places, return_places };
@@ -124,8 +129,7 @@ fn unsound(k: i64, view: &View) -> Vec<Row> {
         position(|p, k| p.total_cost -= k),
         position(|p, _| p.avg_entry_price = -1),
     ];
-    let mut all: Vec<Row> =
-        views.iter().flat_map(|v| [row(STATE, 0, 0, v), refused(&asked, 11, v)]).collect();
+    let mut all: Vec<Row> = views.iter().flat_map(|v| [row(STATE, 0, 0, v), refused(&asked, 11, v)]).collect();
     // A place past the last position that is not zero.
     let mut unused = [row(STATE, 0, 0, view), refused(&asked, 11, view)];
     for row in &mut unused {
