@@ -53,6 +53,9 @@ words! {
     MaxRebalanceNotional Amount(0);
     Recording Flag;
     CashFirst Flag;
+    Ceiling Reserved;
+    CoverRule Reserved;
+    LongOnly Reserved;
 }
 
 words! {
@@ -63,6 +66,8 @@ words! {
     TrimmedCount Count;
     TrimmedShortfall Amount(i64::MIN);
     RecordCount Count;
+    OpenCount Reserved;
+    ClosedTotal Reserved;
 }
 
 words! {

@@ -274,7 +274,9 @@ fn eleven_is_an_account_that_is_not_sound() {
     }
     // Nothing is asked of a counter.
     assert!(spoiled(layout::counter(Counter::LastNotional), 1 << 63).is_ok());
-    // It comes before all others.
+    // It comes before all others, in an opening too.
+    let mut short = [7; Account::SIZE - 1];
+    assert_eq!(port::tc_open(-1, &[], &mut short, &mut []), 11);
     let mut bytes = [0xff; Account::SIZE];
     assert_eq!(port::tc_rebalance_simple(&mut bytes, &[0; 15], &[0; 15], 0, 9, &mut []), 11);
     assert_eq!(bytes, [0xff; Account::SIZE]);

@@ -7,9 +7,8 @@ use threshcoil_sys::layout::{self, Column, Kind, Setting, Word};
 pub fn expected(entry: Entry, g: &Given) -> u64 {
     match entry {
         Open => first(&[
+            (11, g.account.len() != layout::ACCOUNT_SIZE),
             (1, g.settings.len() != layout::SETTINGS_SIZE || g.number < 0 || !good_settings(&words(&g.settings))),
-            // At opening the account is a place to write.
-            (6, g.account.len() != layout::ACCOUNT_SIZE),
             (10, g.equities.is_empty()),
         ]),
         Figures => first(&[
