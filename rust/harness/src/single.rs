@@ -154,8 +154,7 @@ fn places(record: Option<Record>) -> ([u64; 5], [i64; 9]) {
 
 fn agrees(case: &Case) -> bool {
     let (answer, after, words, ints) = ours(&case.ask, case.before);
-    let done = 256 * u64::from(case.record.is_some());
-    let same = answer == done && after == case.after && (words, ints) == places(case.record);
+    let same = answer == 0 && after == case.after && (words, ints) == places(case.record);
     if !same {
         let Case { ask, before, after: theirs, record, .. } = case;
         println!(
@@ -169,12 +168,12 @@ fn agrees(case: &Case) -> bool {
 fn fills_by_the_rule(ask: &Ask, before: Single, paid: i64, need: i64) -> bool {
     let largest = || largest(ask.quantity, before.cash, ask.quantity_step, paid, ask.costs);
     let expected = if need <= before.cash { ask.quantity } else { largest() };
-    let (answer, _, _, ints) = ours(ask, before);
-    let filled = if answer / 256 == 0 { 0 } else { ints[0] };
-    if answer % 256 != 0 || filled != expected {
+    let (answer, after, _, ints) = ours(ask, before);
+    let filled = if after.cash == before.cash && ints[0] == INT { 0 } else { ints[0] };
+    if answer != 0 || filled != expected {
         println!("DIFFERS: {ask:?} on {before:?}: port {answer}, filled {filled}, by the rule {expected}");
     }
-    answer % 256 == 0 && filled == expected
+    answer == 0 && filled == expected
 }
 
 fn costs(random: &mut Random) -> Costs {

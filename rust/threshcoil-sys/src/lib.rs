@@ -135,8 +135,7 @@ pub fn tc_figures(returns: &[f64], rates: &mut [f64], counts: &mut [u64]) -> u64
 
 /// One fill as an account of at most one position makes it. The money is cash, shortfall and the position's quantity,
 /// average, realized profit and total cost; the tallies are the counts of trimmed fills and of records, before and after;
-/// a record takes four words and eight numbers. The answer has document 01's number in its low eight bits and the count of records,
-/// 0 or 1, above them; a refusal leaves all as found.
+/// a record takes four words and eight numbers. The answer is document 01's number; a refusal leaves all as found.
 #[allow(clippy::too_many_arguments)]
 pub fn tc_fill(
     commission_bps: f64,

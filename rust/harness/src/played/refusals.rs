@@ -174,7 +174,7 @@ fn at_bounds(k: i64) -> Option<Vec<Row>> {
 fn openings(k: i64) -> Option<Vec<Row>> {
     let widest = Costs { commission_bps: 0.5, slippage_bps: 10_000.0, min_commission: 0 };
     let steps = vec![rebalance(&[(b'A', 0.25), (b'B', -0.25)], &AT), Step::Position(symbol(b'B'))];
-    let (mut all, view) = played(&opened(100_000 * k, widest, steps))?;
+    let (mut all, _) = played(&opened(100_000 * k, widest, steps))?;
     let settings = scenario::Settings {
         costs: FREE,
         quantity_step: 0,
@@ -199,7 +199,6 @@ fn openings(k: i64) -> Option<Vec<Row>> {
         previous_equity: 0,
         positions: Vec::new(),
     };
-    drop(view);
     let mut open = |answer: u64, cash: i64, costs: Costs, places: u64| {
         let mut row = row(0, answer, places, &zeros);
         row[2..6].copy_from_slice(&[
