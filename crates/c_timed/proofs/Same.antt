@@ -9,6 +9,7 @@ use native.Mathlib.Omega.{arith}
 use lib.ListN.{length, take, replicate, length-take}
 use Rattle.answer.specs.declared.Answer.{Answer}
 use Rattle.answer.specs.declared.Answer.the-variants.{Done}
+use Rattle.answer.specs.Numbers.{isDone}
 use Rattle.table.specs.Keyed.{pick}
 use Rattle.fills.specs.declared.record.ExecutionKind.the-variants.{Rebalance}
 use Rattle.call_lists.specs.Lists.{priceOf}
@@ -19,7 +20,7 @@ use Rattle.wanted.specs.Equity.{equityOf}
 use Rattle.list_bytes.specs.Entries.{wholeList}
 use Rattle.list_bytes.specs.Lists.{targetsOf, pricesOf}
 use Rattle.portfolio.specs.declared.trade.Traded.{Traded}
-use Rattle.portfolio.specs.Answers.{isDone, places, returnAnswer}
+use Rattle.portfolio.specs.Answers.{places, returnAnswer}
 use Rattle.portfolio.specs.Rebalance.{rebalanced}
 use Rattle.portfolio.specs.Returns.{Recorded, nextSeries, recorded, recordedBy}
 use Rattle.portfolio.specs.Trades.{Filed, filed, filedBy}

@@ -11,6 +11,7 @@ use Rattle.fills.specs.declared.record.ExecutionKind.the-variants.{Rebalance}
 use Rattle.account.specs.declared.account.Account.{Account}
 use Rattle.account.specs.declared.change.Changed.{Changed}
 use Rattle.account_bytes.specs.Account.{readAccount}
+use Rattle.account_bytes.specs.Sizes.{accountLength}
 use Rattle.list_bytes.specs.Entries.{wholeList}
 use Rattle.list_bytes.specs.Lists.{symbolsIn, weightsIn, pricesIn}
 use Rattle.portfolio.specs.Rebalance.{Outcome, rebalanced}
@@ -31,7 +32,7 @@ rebalanceCall a ts ws ps vs = ofOutcome (rebalanced a ts ws ps vs 0 Rebalance 64
 
 unfoldable pub rebalancesIn : List ℕ → List ℕ → List ℕ → List ℕ → Left
 rebalancesIn b ts ps l =
-    pick (both (wholeList 64 ts) (both (wholeList 128 ps) (eqb (length l) 2736)))
+    pick (both (wholeList 64 ts) (both (wholeList 128 ps) (eqb (length l) accountLength)))
     (left (rebalanceCall (accountIn b) (symbolsIn ts) (weightsIn ts) (symbolsIn ps) (pricesIn ps)) l)
     (refusing l (tooLong (accountIn b)))
 
@@ -44,7 +45,7 @@ returnCall a ps vs = ofRecorded (recorded a ps vs (replicate 64 (pos 0)) (replic
 
 unfoldable pub returnsIn : List ℕ → List ℕ → List ℕ → Left
 returnsIn b ps l =
-    pick (both (wholeList 128 ps) (eqb (length l) 2736))
+    pick (both (wholeList 128 ps) (eqb (length l) accountLength))
     (left (returnCall (accountIn b) (symbolsIn ps) (pricesIn ps)) l)
     (refusing l (tooLong (accountIn b)))
 

@@ -4,7 +4,7 @@ use Prim.Native.Nat.{ℕ}
 use mathlib.Core.List.{List, [], _∷_}
 use Rattle.answer.specs.declared.Answer.{Answer}
 use Rattle.answer.specs.declared.Answer.the-variants.{TooLong, Unsound}
-use Rattle.answer.specs.Numbers.{numberOf}
+use Rattle.answer.specs.Numbers.{numberOf, isDone}
 use Rattle.table.specs.Keyed.{pick}
 use Rattle.call_lists.specs.Checks.{unless}
 use Rattle.word_bytes.specs.Numbers.{unsignedOf}
@@ -14,7 +14,6 @@ use Rattle.account.specs.Account.{soundAccount}
 use Rattle.account_bytes.specs.Account.{writtenAccount}
 use Rattle.list_bytes.specs.Records.{putAll}
 use Rattle.list_bytes.specs.Weights.{writtenWeights}
-use Rattle.portfolio.specs.Answers.{isDone}
 use Rattle.queries.specs.declared.answered.Snapshot.{Snapshot}
 
 -- "Check order where several apply: 11, .. 6": of a list that is not whole, or a place of another length

@@ -6,6 +6,7 @@ use crate::made::leave;
 use crate::made::too_long;
 use account::Account;
 use account::Changed;
+use account_bytes::ACCOUNT_BYTES;
 use account_bytes::read_account;
 use fills::ExecutionKind;
 use list_bytes::read_prices;
@@ -68,7 +69,7 @@ pub extern "C" fn direct_rebalance(
     if !p.whole {
         return too_long(a);
     }
-    if after.len() != 2736 {
+    if after.len() != ACCOUNT_BYTES {
         return too_long(a);
     }
     let n = t.count;

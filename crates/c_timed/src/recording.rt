@@ -6,6 +6,7 @@ use crate::made::leave;
 use crate::made::too_long;
 use account::Account;
 use account::Changed;
+use account_bytes::ACCOUNT_BYTES;
 use account_bytes::read_account;
 use list_bytes::read_prices;
 use portfolio::record_return;
@@ -37,7 +38,7 @@ pub extern "C" fn direct_return(account: &[u8], prices: &[u8], times: u64, after
     if !p.whole {
         return too_long(a);
     }
-    if after.len() != 2736 {
+    if after.len() != ACCOUNT_BYTES {
         return too_long(a);
     }
     let m = p.count;

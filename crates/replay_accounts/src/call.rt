@@ -1,16 +1,14 @@
 // Calls that change the account.
 use crate::row::Row;
-use crate::row::count;
 use crate::row::head;
-use crate::row::same_account;
 use crate::row::same_made;
 use crate::row::same_told;
 use crate::row::within;
+use crate::state::cap;
+use crate::state::count;
+use crate::state::same_account;
 use account::Account;
 use account::Changed;
-use account::TradeCap;
-use account_bytes::read_account;
-use account_bytes::write_account;
 use cost_model::CostModel;
 use fills::ExecutionKind;
 use list_bytes::read_prices;
@@ -28,15 +26,12 @@ fn opened(r: Row) -> Changed {
         slippage_bps: float(head(r, 4)),
         min_commission: signed(head(r, 5)),
     };
+    if head(r, 13) == 0 {
+        let mut none = [0i64; 0];
+        return account::open(signed(head(r, 2)), costs, &mut none[..]);
+    }
     let mut equity = [0i64; 1];
     account::open(signed(head(r, 2)), costs, &mut equity[..])
-}
-
-fn cap(mark: u64, most: u64) -> TradeCap {
-    if mark == 0 {
-        return TradeCap::Absent;
-    }
-    TradeCap::AtMost(most)
 }
 
 fn set(a: Account, number: u64, word: u64, other: u64) -> Changed {
@@ -61,12 +56,10 @@ fn changed(r: Row, a: Account) -> Changed {
 }
 
 // Opening and the setters.
-pub(crate) fn change(r: Row, account: &mut [u8]) -> bool {
-    let a = read_account(account);
-    let c = changed(r, a.account);
-    write_account(c.account, account);
+pub(crate) fn change(r: Row, a: Account, told: &[u8]) -> bool {
+    let c = changed(r, a);
     let given = c.answer;
-    same_told(r, answer::number(given), 0, 0, 0, 0) && same_account(r, account)
+    same_told(r, answer::number(given), 0, 0, 0, 0) && same_account(told, c.account)
 }
 
 fn kind(number: u64) -> ExecutionKind {
@@ -119,9 +112,101 @@ fn rebalanced(r: Row, a: Account, words: &mut [u64], ints: &mut [i64]) -> Traded
     )
 }
 
+// The k-th of many symbols: three bytes that are good.
+fn nth(k: usize) -> u64 {
+    let n = k as u64 % 256;
+    0x5300_0000_0000_0000 + (33 + n / 64) * 0x1_0000_0000_0000 + (33 + n % 64) * 0x100_0000_0000
+}
+
+fn put_symbols(column: &mut [u64]) {
+    let mut k = 0usize;
+    while k < column.len() {
+        column[k] = nth(k);
+        k += 1;
+    }
+}
+
+// Targets of weight 0 and prices of 1, as many as lists may have.
+fn long_lists(r: Row, a: Account, words: &mut [u64], ints: &mut [i64]) -> Traded {
+    let mut targets = [0u64; 64];
+    let weights = [0.0f64; 64];
+    let mut symbols = [0u64; 128];
+    let prices = [1i64; 128];
+    put_symbols(&mut targets[..]);
+    put_symbols(&mut symbols[..]);
+    let period = head(r, 2);
+    let why = kind(head(r, 3));
+    portfolio::rebalance_simple(
+        a,
+        &targets[..],
+        &weights[..],
+        &symbols[..],
+        &prices[..],
+        period,
+        why,
+        words,
+        ints,
+    )
+}
+
+// One target more, and one price more.
+fn longer_targets(r: Row, a: Account, words: &mut [u64], ints: &mut [i64]) -> Traded {
+    let mut targets = [0u64; 65];
+    let weights = [0.0f64; 65];
+    let mut symbols = [0u64; 128];
+    let prices = [1i64; 128];
+    put_symbols(&mut targets[..]);
+    put_symbols(&mut symbols[..]);
+    let period = head(r, 2);
+    let why = kind(head(r, 3));
+    portfolio::rebalance_simple(
+        a,
+        &targets[..],
+        &weights[..],
+        &symbols[..],
+        &prices[..],
+        period,
+        why,
+        words,
+        ints,
+    )
+}
+
+fn longer_prices(r: Row, a: Account, words: &mut [u64], ints: &mut [i64]) -> Traded {
+    let mut targets = [0u64; 64];
+    let weights = [0.0f64; 64];
+    let mut symbols = [0u64; 129];
+    let prices = [1i64; 129];
+    put_symbols(&mut targets[..]);
+    put_symbols(&mut symbols[..]);
+    let period = head(r, 2);
+    let why = kind(head(r, 3));
+    portfolio::rebalance_simple(
+        a,
+        &targets[..],
+        &weights[..],
+        &symbols[..],
+        &prices[..],
+        period,
+        why,
+        words,
+        ints,
+    )
+}
+
 fn traded(r: Row, a: Account, words: &mut [u64], ints: &mut [i64]) -> Traded {
-    if head(r, 0) == 10 {
+    let number = head(r, 0);
+    if number == 10 {
         return rebalanced(r, a, words, ints);
+    }
+    if number == 13 {
+        return long_lists(r, a, words, ints);
+    }
+    if number == 14 {
+        return longer_targets(r, a, words, ints);
+    }
+    if number == 15 {
+        return longer_prices(r, a, words, ints);
     }
     let price = signed(head(r, 3));
     portfolio::close_position_at(
@@ -135,14 +220,34 @@ fn traded(r: Row, a: Account, words: &mut [u64], ints: &mut [i64]) -> Traded {
     )
 }
 
+// A call that is lent one place too few, or none. It makes no record.
+fn crowded(r: Row, a: Account) -> Traded {
+    if head(r, 13) == 0 {
+        let mut words = [0u64; 0];
+        let mut ints = [0i64; 0];
+        return traded(r, a, &mut words[..], &mut ints[..]);
+    }
+    let mut words = [0u64; 252];
+    let mut ints = [0i64; 504];
+    traded(r, a, &mut words[..], &mut ints[..])
+}
+
+fn trade_crowded(r: Row, a: Account, told: &[u8]) -> bool {
+    let made = [0u8; 768];
+    let t = crowded(r, a);
+    let given = t.answer;
+    same_made(r, answer::number(given), t.records, &made[..], 0) && same_account(told, t.account)
+}
+
 // A rebalance and a close, with their records.
-pub(crate) fn trade(r: Row, account: &mut [u8]) -> bool {
+pub(crate) fn trade(r: Row, a: Account, told: &[u8]) -> bool {
+    if head(r, 13) < 64 {
+        return trade_crowded(r, a, told);
+    }
     let mut words = [0u64; 256];
     let mut ints = [0i64; 512];
     let mut made = [0u8; 768];
-    let a = read_account(account);
-    let t = traded(r, a.account, &mut words[..], &mut ints[..]);
-    write_account(t.account, account);
+    let t = traded(r, a, &mut words[..], &mut ints[..]);
     write_records(&words[..], &ints[..], t.records, &mut made[..]);
     let given = t.answer;
     same_made(
@@ -152,7 +257,7 @@ pub(crate) fn trade(r: Row, account: &mut [u8]) -> bool {
         &made[..],
         12 * count(head(r, 8)),
     )
-        && same_account(r, account)
+        && same_account(told, t.account)
 }
 
 // The return at as many prices as the row has.
@@ -168,25 +273,45 @@ fn recorded<'a>(
     portfolio::record_return(a, &symbols[..m], &prices[..m], equities, returns)
 }
 
+// One equity place, or no place for a return.
+fn recorded_crowded<'a>(r: Row, a: Account, symbols: &'a [u64], prices: &'a [i64]) -> Changed {
+    if head(r, 14) == 0 {
+        let mut equities = [0i64; 128];
+        let mut returns = [0.0f64; 0];
+        return recorded(r, a, symbols, prices, &mut equities[..], &mut returns[..]);
+    }
+    let mut equities = [0i64; 1];
+    let mut returns = [0.0f64; 128];
+    recorded(r, a, symbols, prices, &mut equities[..], &mut returns[..])
+}
+
+fn period_crowded(r: Row, a: Account, told: &[u8]) -> bool {
+    let p = read_prices(&r.prices[..]);
+    let c = recorded_crowded(r, a, &p.symbol[..], &p.price[..]);
+    let given = c.answer;
+    same_told(r, answer::number(given), 0, 0, 0, 0) && same_account(told, c.account)
+}
+
 // The equity, whether a return is due, and the return.
-pub(crate) fn period(r: Row, account: &mut [u8]) -> bool {
+pub(crate) fn period(r: Row, a: Account, told: &[u8]) -> bool {
+    if head(r, 13) == 1 || head(r, 14) == 0 {
+        return period_crowded(r, a, told);
+    }
     let mut equities = [0i64; 128];
     let mut returns = [0.0f64; 128];
     let p = read_prices(&r.prices[..]);
-    let a = read_account(account);
-    let e = (a.account.series.equity_count % 128) as usize;
-    let g = (a.account.series.return_count % 128) as usize;
+    let e = (a.series.equity_count % 128) as usize;
+    let g = (a.series.return_count % 128) as usize;
     let c = recorded(
         r,
-        a.account,
+        a,
         &p.symbol[..],
         &p.price[..],
         &mut equities[..],
         &mut returns[..],
     );
-    write_account(c.account, account);
     let equity = unsigned(equities[e]);
     let gain = pattern(returns[g]);
     let given = c.answer;
-    same_told(r, answer::number(given), equity, gain, 0, 0) && same_account(r, account)
+    same_told(r, answer::number(given), equity, gain, 0, 0) && same_account(told, c.account)
 }

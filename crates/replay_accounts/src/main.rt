@@ -1,9 +1,10 @@
-// Replays a stored sample of the Rust's accounts: each row's call on the account that the rows before it left, beside the Rust's answer and account.
+// Replays a stored sample of the Rust's accounts: each row's call on the account that the row before it tells, beside the Rust's answer and account.
 mod call;
 mod row;
+mod state;
 mod told;
 
-use account_bytes::ACCOUNT_BYTES;
+use account::Account;
 use libc::STDOUT_FILENO;
 use row::Row;
 
@@ -13,45 +14,48 @@ enum Outcome {
     End,
 }
 
-fn agrees(r: Row, account: &mut [u8]) -> bool {
+// Whether a call on an account answers what the row has, and leaves the account that is told. A row of number 30 has no call: it tells the account that the
+// next one starts from.
+fn agrees(r: Row, a: Account, told: &[u8]) -> bool {
     let number = row::head(r, 0);
     if number < 10 {
-        return call::change(r, account);
-    }
-    if number < 12 {
-        return call::trade(r, account);
+        return call::change(r, a, told);
     }
     if number == 12 {
-        return call::period(r, account);
+        return call::period(r, a, told);
     }
-    told::tell(r, account)
+    if number < 20 {
+        return call::trade(r, a, told);
+    }
+    if number == 30 {
+        return true;
+    }
+    told::tell(r, a) && state::same_account(told, a)
 }
 
-// A row that is cut short differs too.
+// The account that the row before told is in the lent words, and then the one that this row tells. A row that is cut short differs too.
 fn replay_row(fd: i32, account: &mut [u8]) -> Outcome {
     let mut head = [0u8; 128];
     let mut targets = [0u8; 128];
     let mut prices = [0u8; 128];
     let mut made = [0u8; 768];
-    let mut after = [0u8; 496];
     if io::read_full(fd, &mut head) == 0 {
         return Outcome::End;
     }
     io::read_full(fd, &mut targets);
     io::read_full(fd, &mut prices);
     io::read_full(fd, &mut made);
-    let last = io::read_full(fd, &mut after);
     let r = Row {
         head,
         targets,
         prices,
         made,
-        account: after,
     };
-    if last != 496 {
+    let a = state::account_of(account);
+    if io::read_full(fd, account) != 488 {
         return Outcome::Differs;
     }
-    if agrees(r, account) {
+    if agrees(r, a, account) {
         return Outcome::Same;
     }
     Outcome::Differs
@@ -62,7 +66,7 @@ const MOST: u64 = 1_000_000;
 
 // Tells the first row that differs, counted from 0.
 fn replay(fd: i32) {
-    let mut account = [0u8; ACCOUNT_BYTES];
+    let mut account = [0u8; 488];
     let mut left = MOST;
     let mut differences = 0u64;
     while left > 0 {

@@ -1,8 +1,7 @@
-// A row in words of 64 bits. Head: the call, the Rust's answer number, four inputs, the counts of targets, of prices and of records or weights, seven
-// numbers told. Then eight targets and eight prices of two words, eight records of twelve or as many weights of two, and the account after the call: its
-// first 22 words and eight places of five columns.
+// A row in words of 64 bits. Head: the call, its answer number, four inputs, the counts of targets, of prices and of records or weights, four numbers
+// told, and how many places are lent. Then eight targets and eight prices of two words, eight records of twelve or as many weights of two, and the
+// account after the call (state.rt).
 ghost use Prim.Native.Nat.{_≤_};
-use account_bytes::ACCOUNT_WORDS;
 use word_bytes::word_at;
 
 pub(crate) struct Row {
@@ -10,40 +9,10 @@ pub(crate) struct Row {
     pub targets: [u8; 128],
     pub prices: [u8; 128],
     pub made: [u8; 768],
-    pub account: [u8; 496],
 }
 
 pub(crate) fn head(r: Row, i: usize) -> u64 {
     word_at(&r.head[..], i)
-}
-
-// The word at place k of the account that the row tells; the places past the eighth are zero.
-fn expected(account: &[u8], k: usize) -> u64 {
-    if k < 22 {
-        return word_at(account, k);
-    }
-    let column = (k - 22) / 64;
-    let place = (k - 22) % 64;
-    if place < 8 {
-        return word_at(account, 22 + 8 * column + place);
-    }
-    0
-}
-
-fn same_to(told: &[u8], account: &[u8], n: usize) -> bool {
-    let mut same = true;
-    let mut k = 0usize;
-    while k < n {
-        if word_at(account, k) != expected(told, k) {
-            same = false;
-        }
-        k += 1;
-    }
-    same
-}
-
-pub(crate) fn same_account(r: Row, account: &[u8]) -> bool {
-    same_to(&r.account[..], account, ACCOUNT_WORDS)
 }
 
 // Whether both have the same first n words.
@@ -74,13 +43,6 @@ pub(crate) fn same_told(r: Row, number: u64, a: u64, b: u64, c: u64, d: u64) -> 
         && head(r, 10) == b
         && head(r, 11) == c
         && head(r, 12) == d
-}
-
-// A count that is at most eight.
-pub(crate) fn count(word: u64) -> usize
-    ensures { λ r. ⌜ r ≤ 8 ⌝ }
-{
-    (word % 9) as usize
 }
 
 // A count of entries of two columns; none where a column is shorter.

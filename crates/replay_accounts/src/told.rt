@@ -1,12 +1,11 @@
 // Queries, which leave the account as it is.
 use crate::row::Row;
-use crate::row::count;
 use crate::row::head;
 use crate::row::same_made;
 use crate::row::same_told;
 use crate::row::within;
+use crate::state::count;
 use account::Account;
-use account_bytes::read_account;
 use list_bytes::read_prices;
 use list_bytes::write_weights;
 use position::Symbol;
@@ -92,11 +91,10 @@ fn at_first<'a>(r: Row, a: Account, symbols: &'a [u64], prices: &'a [i64]) -> bo
     at_prices(r, a, &symbols[..m], &prices[..m])
 }
 
-pub(crate) fn tell(r: Row, account: &[u8]) -> bool {
-    let a = read_account(account);
+pub(crate) fn tell(r: Row, a: Account) -> bool {
     if head(r, 0) == 20 {
-        return position(r, a.account);
+        return position(r, a);
     }
     let p = read_prices(&r.prices[..]);
-    at_first(r, a.account, &p.symbol[..], &p.price[..])
+    at_first(r, a, &p.symbol[..], &p.price[..])
 }

@@ -27,7 +27,11 @@ pub fn run(seed: u64, count: u64) -> bool {
         }
     }
     println!("accounts: seed {seed}; {covered}; {differences} scenarios differ");
-    differences == 0
+    let missed = covered.missed();
+    if !missed.is_empty() {
+        println!("accounts: met fewer than ten times in 10,000 scenarios: {}", missed.join(", "));
+    }
+    differences == 0 && missed.is_empty()
 }
 
 /// The first line in which two answers to a scenario differ, with the call that it answers.

@@ -8,6 +8,7 @@ use std::hint::black_box;
 use std::time::Instant;
 use threshcoil::{Account, Context, CostModel, ExecutionKind, ExecutionRecord, Price, Settings, Target};
 use threshcoil_sys as port;
+use threshcoil_sys::layout::{self, ENTRY_SIZE, SNAPSHOT_SIZE, WEIGHTS_SIZE};
 
 const CASH: i64 = 10_000_000_007;
 const COSTS: Costs = Costs { commission_bps: 5.0, slippage_bps: 2.0, min_commission: 100 };
@@ -101,7 +102,7 @@ impl Ours {
             target_bytes: targets.clone().map(|l| l.iter().flat_map(|(s, w)| entry(s, w.to_le_bytes())).collect()),
             price_bytes: prices.iter().flat_map(|(s, p)| entry(s, p.to_le_bytes())).collect(),
             records: vec![ExecutionRecord::EMPTY; 64],
-            record_bytes: vec![0; 64 * 96],
+            record_bytes: vec![0; layout::PLACES * layout::RECORD_SIZE],
             equity,
             returns: vec![0.0; CALLS + 8],
         }
@@ -128,8 +129,8 @@ impl Ours {
             }
             Call::Return => port::tc_record_return(account, prices, &mut self.equity, &mut self.returns),
             Call::Snapshot => {
-                let (figures, weights) = self.record_bytes.split_at_mut(40);
-                port::tc_snapshot(account, prices, figures, &mut weights[..1_024])
+                let (figures, weights) = self.record_bytes.split_at_mut(SNAPSHOT_SIZE);
+                port::tc_snapshot(account, prices, figures, &mut weights[..WEIGHTS_SIZE])
             }
         };
         assert_eq!(answer % 256, 0);
@@ -137,10 +138,10 @@ impl Ours {
 
     /// A batch of calls by value. Rebalances, which start from one account each, are half from the one that is found to the first
     /// list, and half from there to the second.
-    fn directly(&self, call: Call) -> [[u8; 2_736]; 2] {
+    fn directly(&self, call: Call) -> [[u8; layout::ACCOUNT_SIZE]; 2] {
         const HALF: u64 = CALLS as u64 / 2;
         let (found, prices) = (&self.bytes, &self.price_bytes);
-        let mut after = [[0; 2_736]; 2];
+        let mut after = [[0; layout::ACCOUNT_SIZE]; 2];
         let [first, second] = &mut after;
         let answers = match call {
             Call::Rebalance => {
@@ -148,7 +149,9 @@ impl Ours {
                     + direct_rebalance(first, &self.target_bytes[1], prices, HALF, second)
             }
             Call::Return => direct_return(found, prices, 2 * HALF, first),
-            Call::Snapshot => direct_snapshot(found, prices, 2 * HALF, &mut first[..32], &mut second[..1_024]),
+            Call::Snapshot => {
+                direct_snapshot(found, prices, 2 * HALF, &mut first[..32], &mut second[..WEIGHTS_SIZE])
+            }
         };
         assert_eq!(answers, 0);
         after
@@ -167,9 +170,9 @@ impl Ours {
             }
             Call::Return => assert_eq!(first[..], called.bytes),
             Call::Snapshot => {
-                let (figures, weights) = called.record_bytes.split_at(40);
+                let (figures, weights) = called.record_bytes.split_at(SNAPSHOT_SIZE);
                 assert_eq!(first[..32], figures[..32]);
-                assert_eq!(second[..16 * self.prices.len()], weights[..16 * self.prices.len()]);
+                assert_eq!(second[..ENTRY_SIZE * self.prices.len()], weights[..ENTRY_SIZE * self.prices.len()]);
             }
         }
     }

@@ -9,6 +9,7 @@ use expected::expected;
 use scenario::{Account, Random, Scenario, Step, scenario};
 use std::collections::BTreeMap;
 use threshcoil_sys as port;
+use threshcoil_sys::layout::{self, Column, Kind, Word};
 
 /// All that the entries are lent and given; each takes its part. The slices' bytes, words and doubles alike.
 #[derive(Clone, PartialEq)]
@@ -61,32 +62,47 @@ pub enum Entry {
 
 use Entry::*;
 
-/// Each with the length that its place for an answer has.
-const ENTRIES: [(Entry, usize); 23] = [
-    (Open, 0),
-    (QuantityStep, 0),
-    (MinOrderValue, 0),
-    (MaxOrderValue, 0),
-    (NoTradeBand, 0),
-    (MaxTrades, 0),
-    (MaxRebalanceNotional, 0),
-    (Recording, 0),
-    (CashFirst, 0),
-    (Cash, 8),
-    (Settings, 96),
-    (Counters, 40),
-    (Series, 24),
-    (Position, 48),
-    (PositionAt, 48),
-    (TotalEquity, 8),
-    (UnpricedHolding, 16),
-    (CurrentWeights, 0),
-    (Snapshot, 40),
-    (Rebalance, 0),
-    (Close, 0),
-    (RecordReturn, 0),
-    (Figures, 0),
+const ENTRIES: [Entry; 23] = [
+    Open,
+    QuantityStep,
+    MinOrderValue,
+    MaxOrderValue,
+    NoTradeBand,
+    MaxTrades,
+    MaxRebalanceNotional,
+    Recording,
+    CashFirst,
+    Cash,
+    Settings,
+    Counters,
+    Series,
+    Position,
+    PositionAt,
+    TotalEquity,
+    UnpricedHolding,
+    CurrentWeights,
+    Snapshot,
+    Rebalance,
+    Close,
+    RecordReturn,
+    Figures,
 ];
+
+impl Entry {
+    /// The length that its place for an answer has; 0 where it has none.
+    pub fn out_size(self) -> usize {
+        match self {
+            Cash | TotalEquity => layout::WORD_SIZE,
+            Settings => layout::SETTINGS_SIZE,
+            Counters => layout::COUNTERS_SIZE,
+            Series => layout::SERIES_SIZE,
+            Position | PositionAt => layout::POSITION_SIZE,
+            UnpricedHolding => layout::ENTRY_SIZE,
+            Snapshot => layout::SNAPSHOT_SIZE,
+            _ => 0,
+        }
+    }
+}
 
 fn call(entry: Entry, g: &mut Given) -> u64 {
     let (a, p) = (&mut g.account, &g.prices);
@@ -133,23 +149,31 @@ fn kept(entry: Entry, before: &Given, after: &Given, answer: u64) -> bool {
             return false;
         }
     }
-    let word = |i: usize| u64::from_le_bytes(before.account[8 * i..8 * i + 8].try_into().unwrap()) as usize;
+    let filled = |series| word(&before.account, layout::series(series)) as usize;
     match entry {
         Open => allowed.equities[0] = after.equities[0],
-        CurrentWeights => allowed.weights[..16 * count].copy_from_slice(&after.weights[..16 * count]),
+        CurrentWeights => written(&mut allowed.weights, &after.weights, layout::ENTRY_SIZE * count),
         Snapshot => {
-            allowed.weights[..16 * count].copy_from_slice(&after.weights[..16 * count]);
+            written(&mut allowed.weights, &after.weights, layout::ENTRY_SIZE * count);
             allowed.out.clone_from(&after.out);
         }
-        Rebalance | Close => allowed.records[..96 * count].copy_from_slice(&after.records[..96 * count]),
+        Rebalance | Close => written(&mut allowed.records, &after.records, layout::RECORD_SIZE * count),
         RecordReturn => {
-            allowed.equities[word(18)] = after.equities[word(18)];
-            allowed.returns[word(19)] = after.returns[word(19)];
+            let [e, r] = [layout::Series::EquityCount, layout::Series::ReturnCount].map(filled);
+            (allowed.equities[e], allowed.returns[r]) = (after.equities[e], after.returns[r]);
         }
         Figures => (allowed.rates, allowed.counts) = (after.rates.clone(), after.counts.clone()),
         _ => allowed.out.clone_from(&after.out),
     }
     same(&allowed, after)
+}
+
+fn word(bytes: &[u8], place: usize) -> u64 {
+    u64::from_le_bytes(bytes[layout::bytes_of(place, 1)].try_into().unwrap())
+}
+
+fn written(allowed: &mut [u8], after: &[u8], length: usize) {
+    allowed[..length].copy_from_slice(&after[..length]);
 }
 
 /// Bit for bit, NaNs too.
@@ -162,19 +186,23 @@ fn same(a: &Given, b: &Given) -> bool {
 pub fn run(seed: u64, count: u64) -> bool {
     let mut random = Random::new(seed);
     let mut met: BTreeMap<u64, u64> = BTreeMap::new();
-    let mut wrong = 0u64;
+    let (mut wrong, mut reserved_hit) = (0u64, 0u64);
     for _ in 0..count {
         let (mut good, rest) = played(&mut random);
         lists(&mut good, &rest);
         for _ in 0..8 {
             // Those that trade have the most to refuse.
-            let (entry, length) = if random.one_in(4) { (Rebalance, 0) } else { random.pick(&ENTRIES) };
+            let entry = if random.one_in(4) { Rebalance } else { random.pick(&ENTRIES) };
             let mut given = good.clone();
-            given.out = vec![0x5a; length];
+            given.out = vec![0x5a; entry.out_size()];
             spoil(&mut random, &mut given);
             let before = given.clone();
             let answer = call(entry, &mut given);
             *met.entry(answer % 256).or_default() += 1;
+            let (of, from) =
+                if entry == Open { (&before.settings, 0) } else { (&before.account, layout::SETTINGS_FROM) };
+            let hit = reserved(of, from).into_iter().any(|place| word(of, place) != 0);
+            reserved_hit += u64::from(hit && [1, 11].contains(&answer));
             if answer % 256 != expected(entry, &before) || !kept(entry, &before, &given, answer) {
                 wrong += 1;
                 if wrong <= 3 {
@@ -186,12 +214,13 @@ pub fn run(seed: u64, count: u64) -> bool {
     let told: Vec<String> = met.iter().map(|(number, times)| format!("{number} {times} times")).collect();
     let all = (0..=12).all(|number| met.contains_key(&number));
     println!(
-        "damage: seed {seed}, {} calls at {} entries, {wrong} wrong; answers {}",
+        "damage: seed {seed}, {} calls at {} entries, {wrong} wrong; answers {}; a reserved word refused {reserved_hit} times",
         count * 8,
         ENTRIES.len(),
         told.join(", ")
     );
-    wrong == 0 && all
+    let reserves = [layout::SETTINGS, layout::COUNTERS].concat().iter().any(|row| row.kind == Kind::Reserved);
+    wrong == 0 && all && (reserved_hit > 0 || !reserves)
 }
 
 /// The account of a scenario that was played for a while, and the call that comes next.
@@ -203,7 +232,7 @@ fn played(random: &mut Random) -> (Given, Step) {
         account.call(step);
     }
     let account = account.bytes();
-    let settings = account.get(8..104).unwrap_or(&[]).to_vec();
+    let settings = account.get(layout::bytes_of(layout::SETTINGS_FROM, layout::SETTINGS.len())).unwrap_or(&[]).to_vec();
     let returns = vec![0.25; random.below(30) as usize];
     let given = Given {
         account,
@@ -211,8 +240,8 @@ fn played(random: &mut Random) -> (Given, Step) {
         targets: Vec::new(),
         prices: Vec::new(),
         out: Vec::new(),
-        weights: vec![0x5a; 1_024],
-        records: vec![0x5a; 96 * (60 + random.below(8) as usize)],
+        weights: vec![0x5a; layout::WEIGHTS_SIZE],
+        records: vec![0x5a; layout::RECORD_SIZE * (60 + random.below(8) as usize)],
         equities: vec![7; random.below(30) as usize],
         returns,
         rates: vec![7.0; 6],
@@ -241,15 +270,15 @@ fn lists(given: &mut Given, step: &Step) {
         Step::Close { symbol, .. } | Step::Position(symbol) => given.symbol = u64::from_be_bytes(symbol.0),
         _ => {}
     }
-    if given.symbol == 0 && given.account.len() > 184 {
-        given.symbol = u64::from_be_bytes(given.account[176..184].try_into().unwrap());
+    if given.symbol == 0 && !given.account.is_empty() {
+        given.symbol = word(&given.account, layout::column(Column::Symbol)).swap_bytes();
     }
 }
 
 /// Nothing, or one to three things.
 fn spoil(random: &mut Random, g: &mut Given) {
     for _ in 0..random.below(4) {
-        match random.below(14) {
+        match random.below(15) {
             0 | 1 => damage(random, &mut g.account),
             2 => damage(random, &mut g.settings),
             3 => damage(random, &mut g.targets),
@@ -268,6 +297,8 @@ fn spoil(random: &mut Random, g: &mut Given) {
                 g.returns.truncate(random.below(4) as usize);
             }
             12 => g.returns.push(random.f64()),
+            13 if random.one_in(2) => reserve(random, &mut g.account, layout::SETTINGS_FROM),
+            13 => reserve(random, &mut g.settings, 0),
             _ => g.counts.truncate(random.below(8) as usize),
         }
     }
@@ -282,7 +313,7 @@ fn damage(random: &mut Random, bytes: &mut Vec<u8>) {
         return cut(random, bytes);
     }
     // Half of the time among the first words, where the scalars of an account are.
-    let span = if random.one_in(2) { words } else { words.min(24) };
+    let span = if random.one_in(2) { words } else { words.min(layout::column(Column::Symbol) + 2) };
     let at = 8 * random.below(span as u64) as usize;
     match random.below(8) {
         0 => bytes[at] ^= 1 << random.below(8),
@@ -299,12 +330,32 @@ fn damage(random: &mut Random, bytes: &mut Vec<u8>) {
     }
 }
 
+/// The reserved words of an account, or of settings by themselves, which begin there.
+fn reserved(bytes: &[u8], settings: usize) -> Vec<usize> {
+    let is = |row: &Word| row.kind == Kind::Reserved;
+    let of = |rows: &[Word], from: usize| {
+        rows.iter().enumerate().filter(|(_, r)| is(r)).map(move |(k, _)| from + k).collect::<Vec<_>>()
+    };
+    let counters = layout::COUNTERS_FROM - layout::SETTINGS_FROM + settings;
+    let all = [of(layout::SETTINGS, settings), of(layout::COUNTERS, counters)].concat();
+    all.into_iter().filter(|place| layout::WORD_SIZE * (place + 1) <= bytes.len()).collect()
+}
+
+/// A word that must be 0 is not.
+fn reserve(random: &mut Random, bytes: &mut [u8], settings: usize) {
+    let places = reserved(bytes, settings);
+    if !places.is_empty() {
+        let at = layout::bytes_of(random.pick(&places), 1);
+        bytes[at].copy_from_slice(&(1 + random.u64() % u64::MAX).to_le_bytes());
+    }
+}
+
 fn cut(random: &mut Random, bytes: &mut Vec<u8>) {
     let length = match random.below(4) {
         0 => random.below(bytes.len() as u64 + 1) as usize,
         1 => bytes.len().saturating_sub(1 + random.below(16) as usize),
         2 => bytes.len() + 1 + random.below(200) as usize,
-        _ => 96 * random.below(3) as usize,
+        _ => layout::RECORD_SIZE * random.below(3) as usize,
     };
     bytes.resize(length, 0x41);
 }

@@ -2,7 +2,10 @@
 //! call, each with the Rust's answer and the account after it. crates/replay_accounts/src/row.rt has the row.
 //!
 //! Random scenarios within eight symbols, kept while the file stays small; a call past the eighth symbol, or for which the
-//! Rust is no oracle, ends a scenario. After them a few by hand.
+//! Rust is no oracle, ends a scenario. After them accounts by hand, and what document 01 refuses.
+
+mod points;
+mod refusals;
 
 use scenario::{
     Held, Kind, Opening, Outcome, Played, Prices, Random, Record, Reply, Scenario, Setting, Step, Symbol, View,
@@ -12,7 +15,13 @@ const SEED: u64 = 7;
 const SCENARIOS: usize = 60;
 const MOST: usize = 8;
 
-type Row = [u64; 206];
+/// Where the account stands in a row, how many words it has but for positions, the last of them their count; and a row's words.
+const SCALARS_FROM: usize = 144;
+const SCALARS: usize = 21;
+const COUNT: usize = SCALARS - 1;
+const WORDS: usize = SCALARS_FROM + SCALARS + 5 * MOST;
+
+type Row = [u64; WORDS];
 
 fn number(s: &Symbol) -> u64 {
     u64::from_be_bytes(s.0)
@@ -68,18 +77,20 @@ fn asked(row: &mut Row, step: &Step) -> Option<()> {
             (row[0], row[2], row[3]) = (call, a, b);
             Some(())
         }
-        Step::Rebalance { targets, prices: at, context, .. } => {
+        Step::Rebalance { targets, prices: at, context, places } => {
             (row[0], row[2], row[3]) = (10, context.period, kind(context.kind));
+            row[13] = (*places).min(64);
             row[6] = pairs(row, 16, targets.iter().map(|(s, w)| (text(s), w.to_bits())))?;
             prices(row, at)
         }
-        Step::Close { symbol, price, context, .. } => {
-            row[0] = 11;
+        Step::Close { symbol, price, context, places } => {
+            // A close that has its place makes one record, and the program lends it as many as a rebalance.
+            (row[0], row[13]) = (11, if *places > 0 { 64 } else { 0 });
             put(row, 2, &[number(symbol), *price as u64, context.period, kind(context.kind)]);
             Some(())
         }
-        Step::RecordReturn { prices: at, .. } => {
-            row[0] = 12;
+        Step::RecordReturn { prices: at, equity_places, return_places } => {
+            (row[0], row[13], row[14]) = (12, *equity_places, *return_places);
             prices(row, at)
         }
         Step::Position(s) => {
@@ -139,39 +150,45 @@ fn told(row: &mut Row, outcome: &Outcome) -> Option<()> {
     Some(())
 }
 
-/// The account after the call.
+/// The account after the call: the Rust's fields.
 fn account(row: &mut Row, v: &View) -> Option<()> {
     let s = &v.settings;
-    put(
-        row,
-        144,
-        &[
-            v.cash as u64,
-            s.costs.commission_bps.to_bits(),
-            s.costs.slippage_bps.to_bits(),
-            s.costs.min_commission as u64,
-        ],
-    );
-    put(
-        row,
-        148,
-        &[s.quantity_step as u64, s.min_order_value as u64, s.max_order_value as u64, s.no_trade_band_bps.to_bits()],
-    );
-    put(row, 152, &[u64::from(s.max_trades.is_some()), s.max_trades.unwrap_or(0), s.max_rebalance_notional as u64]);
-    put(row, 155, &[u64::from(s.recording), u64::from(s.cash_first), v.last_order_count, v.last_notional as u64]);
-    put(row, 159, &[v.trimmed_count, v.trimmed_shortfall as u64, v.record_count, v.equity_count, v.return_count]);
-    put(row, 164, &[v.previous_equity as u64, v.positions.len() as u64]);
+    let scalars: [u64; SCALARS] = [
+        v.cash as u64,
+        s.costs.commission_bps.to_bits(),
+        s.costs.slippage_bps.to_bits(),
+        s.costs.min_commission as u64,
+        s.quantity_step as u64,
+        s.min_order_value as u64,
+        s.max_order_value as u64,
+        s.no_trade_band_bps.to_bits(),
+        u64::from(s.max_trades.is_some()),
+        s.max_trades.unwrap_or(0),
+        s.max_rebalance_notional as u64,
+        u64::from(s.recording),
+        v.last_order_count,
+        v.last_notional as u64,
+        v.trimmed_count,
+        v.trimmed_shortfall as u64,
+        v.record_count,
+        v.equity_count,
+        v.return_count,
+        v.previous_equity as u64,
+        v.positions.len() as u64,
+    ];
+    put(row, SCALARS_FROM, &scalars);
     (v.positions.len() <= MOST).then_some(())?;
     for (k, p) in v.positions.iter().enumerate() {
-        let numbers =
-            [text(&p.symbol), p.quantity as u64, p.avg_entry_price as u64, p.realized_pnl as u64, p.total_cost as u64];
-        numbers.iter().enumerate().for_each(|(column, n)| row[166 + 8 * column + k] = *n);
+        let numbers = [p.quantity, p.avg_entry_price, p.realized_pnl, p.total_cost].map(|n| n as u64);
+        put(row, SCALARS_FROM + SCALARS + 5 * k, &[text(&p.symbol)]);
+        put(row, SCALARS_FROM + SCALARS + 5 * k + 1, &numbers);
     }
     Some(())
 }
 
 fn opening(o: &Opening, opened: &View) -> Option<Row> {
-    let mut row = [0; 206];
+    let mut row = [0; WORDS];
+    row[13] = o.equity_places;
     put(
         &mut row,
         2,
@@ -187,7 +204,7 @@ fn opening(o: &Opening, opened: &View) -> Option<Row> {
 }
 
 fn call(step: &Step, (outcome, after): &(Outcome, View)) -> Option<Row> {
-    let mut row = [0; 206];
+    let mut row = [0; WORDS];
     asked(&mut row, step)?;
     told(&mut row, outcome)?;
     account(&mut row, after)?;
@@ -200,78 +217,11 @@ fn rows(scenario: &Scenario, played: &Played) -> Vec<Row> {
     std::iter::once(opening(&scenario.opening, &played.opened)).chain(calls).map_while(|row| row).collect()
 }
 
-fn symbol(letter: u8) -> Symbol {
-    Symbol([letter, 0, 0, 0, 0, 0, 0, 0])
-}
-
-/// A rebalance of accounts by hand: symbols with their weights, and with their prices.
-fn rebalance(targets: &[(u8, f64)], prices: &[(u8, i64)]) -> Step {
-    Step::Rebalance {
-        targets: targets.iter().map(|(s, weight)| (symbol(*s), *weight)).collect(),
-        prices: prices.iter().map(|(s, price)| (symbol(*s), *price)).collect(),
-        context: scenario::Context { period: 1, kind: Kind::Rebalance },
-        places: 64,
-    }
-}
-
-/// An account with no cost but a floor, whose step is one micro-share.
-fn by_hand(cash: i64, min_commission: i64, steps: Vec<Step>) -> Scenario {
-    let costs = scenario::Costs { commission_bps: 0.0, slippage_bps: 0.0, min_commission };
-    let step = Step::Set(Setting::QuantityStep(1));
-    Scenario { opening: Opening { cash, costs, equity_places: 1 }, steps: std::iter::once(step).chain(steps).collect() }
-}
-
-/// Points that random accounts miss.
-fn points() -> Vec<Scenario> {
-    let set = Step::Set;
-    vec![
-        // A drift at the band, and just over it.
-        by_hand(
-            20_000,
-            0,
-            vec![
-                set(Setting::NoTradeBandBps(2_500.0)),
-                rebalance(&[(b'A', 0.25)], &[(b'A', 100)]),
-                rebalance(&[(b'A', 0.25005)], &[(b'A', 100)]),
-            ],
-        ),
-        // A holding worth nothing, closed where the band is off.
-        by_hand(10, 0, vec![rebalance(&[(b'A', 0.1)], &[(b'A', 1_000_000)]), rebalance(&[], &[(b'A', 999_999)])]),
-        // Over the order maximum, and cut to less than the minimum.
-        by_hand(
-            20_000,
-            0,
-            vec![
-                set(Setting::MaxOrderValue(1_000)),
-                set(Setting::MinOrderValue(2_000)),
-                rebalance(&[(b'A', 0.25)], &[(b'A', 100)]),
-            ],
-        ),
-        // A buy at cash 0 of which 999,999 micro-shares would need nothing.
-        by_hand(
-            1_000,
-            0,
-            vec![
-                rebalance(&[(b'A', 1.0)], &[(b'A', 1_000)]),
-                rebalance(&[(b'A', 1.0), (b'B', 0.002)], &[(b'A', 1_000), (b'B', 1)]),
-            ],
-        ),
-        // A buy of which the floor leaves nothing.
-        by_hand(50, 100, vec![rebalance(&[(b'A', 0.2)], &[(b'A', 10)])]),
-        // A holding, and nothing that it or the account is worth.
-        by_hand(
-            1,
-            0,
-            vec![rebalance(&[(b'A', 1.0)], &[(b'A', 1_000_000)]), Step::Snapshot(vec![(symbol(b'A'), 999_999)])],
-        ),
-    ]
-}
-
 fn sample() -> Option<Vec<u8>> {
     let mut kept = Vec::new();
     let mut seed = SEED;
     while kept.len() < SCENARIOS {
-        let scenario = scenario::scenario(&mut Random::new(seed));
+        let scenario = scenario::ordinary(&mut Random::new(seed));
         let rows = rows(&scenario, &oracle::play(&scenario)?);
         seed += 1;
         // An opening alone, or with setters, tells little.
@@ -279,9 +229,10 @@ fn sample() -> Option<Vec<u8>> {
             kept.push(rows);
         }
     }
-    for scenario in points() {
+    for scenario in points::points() {
         kept.push(rows(&scenario, &oracle::play(&scenario)?));
     }
+    kept.push(refusals::refusals()?);
     Some(kept.iter().flatten().flatten().flat_map(|word| word.to_le_bytes()).collect())
 }
 

@@ -10,6 +10,26 @@ const SEED: u64 = 1;
 const ROWS: usize = 40;
 const WORDS: usize = 9;
 
+/// Inputs by hand, at which a plain program slips: the double just below 0.5 and its negative, halves up to 2^52, NaNs.
+const POINTS: [(&str, u64); 16] = [
+    ("tc_round", 0x3fdf_ffff_ffff_ffff),
+    ("tc_round", 0xbfdf_ffff_ffff_ffff),
+    ("tc_round_to_i64", 0x3fdf_ffff_ffff_ffff),
+    ("tc_round_to_i64", 0xbfdf_ffff_ffff_ffff),
+    ("tc_round", 0x4320_0000_0000_0001),
+    ("tc_round", 0xc320_0000_0000_0003),
+    ("tc_round", 0x432f_ffff_ffff_ffff),
+    ("tc_round_to_i64", 0x4320_0000_0000_0001),
+    ("tc_round_to_i64", 0x4330_0000_0000_0001),
+    ("tc_round_to_i64", 0xc330_0000_0000_0001),
+    ("tc_to_i64", 0x7ff8_0000_0000_0000),
+    ("tc_to_i64", 0xfff8_0000_0000_0000),
+    ("tc_to_i64", 0x7ff0_0000_0000_0001),
+    ("tc_round_to_i64", 0x7ff8_0000_0000_0000),
+    ("tc_round_to_i64", 0xfff8_0000_0000_0000),
+    ("tc_round_to_i64", 0xfff0_0000_0000_0001),
+];
+
 /// The Rust's answer. All NaNs are stored as one.
 fn answer(leaf: &Leaf, nanobook: &oracle::Leaves, inputs: &Inputs) -> Option<u64> {
     let bits = leaf.expected(Some(nanobook), inputs)?;
@@ -19,17 +39,23 @@ fn answer(leaf: &Leaf, nanobook: &oracle::Leaves, inputs: &Inputs) -> Option<u64
 
 fn rows(nanobook: &oracle::Leaves) -> Vec<u8> {
     let mut bytes = Vec::new();
+    let mut row = |leaf: &Leaf, given: &Inputs| {
+        // Where the Rust is no oracle there is no row.
+        let Some(answer) = answer(leaf, nanobook, given) else { return false };
+        let words = [&[leaf.number], &given[..], &[answer]].concat();
+        bytes.extend(words.iter().flat_map(|word| word.to_le_bytes()));
+        true
+    };
     for leaf in leaf::all() {
         let mut random = Random::new(SEED + leaf.number);
         let mut left = ROWS;
         while left > 0 {
-            let given = leaf.inputs(&mut random);
-            // Where the Rust is no oracle there is no row.
-            let Some(answer) = answer(leaf, nanobook, &given) else { continue };
-            let words = [&[leaf.number], &given[..], &[answer]].concat();
-            bytes.extend(words.iter().flat_map(|word| word.to_le_bytes()));
-            left -= 1;
+            left -= usize::from(row(leaf, &leaf.inputs(&mut random)));
         }
+    }
+    for (name, word) in POINTS {
+        let leaf = leaf::all().find(|leaf| leaf.name == name).expect("a leaf of that name");
+        row(leaf, &[word, 0, 0, 0, 0, 0, 0]);
     }
     bytes
 }

@@ -4,6 +4,7 @@
 use std::hint::black_box;
 use std::ptr::{read_volatile, write_volatile};
 use threshcoil_sys as port;
+use threshcoil_sys::layout::{self, Setting};
 
 const SYMBOLS: usize = 64;
 /// Painted and looked at below the caller's frame.
@@ -31,20 +32,29 @@ fn entries<T>(count: usize, value: impl Fn(usize) -> T, bytes: impl Fn(T) -> [u8
 
 /// An account with 64 positions under a cap and cash-first mode, and what the calls on it are lent.
 fn lent() -> Lent {
-    let settings: Vec<u8> = [10f64.to_bits(), 2f64.to_bits(), 1, 1_000, 0, 0, 0, 1, 60, 0, 1, 1]
-        .iter()
-        .flat_map(|w| w.to_le_bytes())
-        .collect();
+    let mut settings = [[0; layout::WORD_SIZE]; layout::SETTINGS.len()];
+    for (setting, word) in [
+        (Setting::CommissionBps, 10f64.to_bits()),
+        (Setting::SlippageBps, 2f64.to_bits()),
+        (Setting::MinCommission, 1),
+        (Setting::QuantityStep, 1_000),
+        (Setting::CapMark, 1),
+        (Setting::CapCount, 60),
+        (Setting::Recording, 1),
+        (Setting::CashFirst, 1),
+    ] {
+        settings[setting as usize] = word.to_le_bytes();
+    }
     let mut lent = Lent {
-        account: vec![0; 2_736],
+        account: vec![0; layout::ACCOUNT_SIZE],
         targets: entries(SYMBOLS, |k| 1.0 / (k + 40) as f64, f64::to_le_bytes),
         prices: entries(2 * SYMBOLS, |k| 1_000 + k as i64, i64::to_le_bytes),
-        records: vec![0; 64 * 96],
+        records: vec![0; SYMBOLS * layout::RECORD_SIZE],
         equities: vec![0; 8],
         returns: vec![0.0; 4_096],
     };
     let Lent { account, targets, prices, records, equities, .. } = &mut lent;
-    assert_eq!(port::tc_open(100_000_000, &settings, account, equities), 0);
+    assert_eq!(port::tc_open(100_000_000, settings.as_flattened(), account, equities), 0);
     assert_eq!(port::tc_set_max_trades_per_rebalance(account, 0, 0), 0);
     assert_eq!(port::tc_rebalance_simple(account, targets, prices, 0, 0, records), 64 << 8);
     assert_eq!(port::tc_set_max_trades_per_rebalance(account, 1, 60), 0);
@@ -74,7 +84,7 @@ fn depth(call: fn(&mut Lent) -> u64) -> (u64, usize) {
 pub fn run() -> bool {
     let calls: [(&str, fn(&mut Lent) -> u64); 7] = [
         ("tc_open", |l| {
-            let settings = l.account[8..104].to_vec();
+            let settings = l.account[layout::bytes_of(layout::SETTINGS_FROM, layout::SETTINGS.len())].to_vec();
             port::tc_open(1, &settings, &mut l.account, &mut l.equities)
         }),
         ("tc_set_quantity_step", |l| port::tc_set_quantity_step(&mut l.account, 1)),
@@ -85,7 +95,14 @@ pub fn run() -> bool {
             port::tc_close_position_at(&mut l.account, u64::from_be_bytes(*b"S0000007"), 900, 1, 1, &mut l.records)
         }),
         ("tc_record_return", |l| port::tc_record_return(&mut l.account, &l.prices, &mut l.equities, &mut l.returns)),
-        ("tc_snapshot", |l| port::tc_snapshot(&l.account, &l.prices, &mut [0; 40], &mut l.records[..1_024])),
+        ("tc_snapshot", |l| {
+            port::tc_snapshot(
+                &l.account,
+                &l.prices,
+                &mut [0; layout::SNAPSHOT_SIZE],
+                &mut l.records[..layout::WEIGHTS_SIZE],
+            )
+        }),
         ("tc_figures", |l| port::tc_figures(&l.returns, &mut [0.0; 6], &mut [0; 3])),
     ];
     calls.iter().fold(true, |small, (name, call)| {

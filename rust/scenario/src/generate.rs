@@ -1,6 +1,7 @@
 //! Random accounts inside document 01's domain: everyday ones, poor ones whose buys are trimmed, and ones at the ends of
 //! the numbers.
 
+use crate::aimed::aimed;
 use crate::{Context, Costs, Kind, Opening, Prices, Random, Scenario, Setting, Step, Symbol};
 
 #[derive(Clone, Copy, PartialEq, Eq)]
@@ -19,7 +20,12 @@ struct World {
     listed: Prices,
 }
 
+/// One in eight aims at a clause that the others seldom meet.
 pub fn scenario(random: &mut Random) -> Scenario {
+    if random.one_in(8) { aimed(random) } else { ordinary(random) }
+}
+
+pub fn ordinary(random: &mut Random) -> Scenario {
     let temper = random.pick(&[Temper::Everyday, Temper::Everyday, Temper::Poor, Temper::Extreme]);
     let world = World { temper, listed: listed(random, temper) };
     let opening = Opening { cash: money(random, temper), costs: costs(random, temper), equity_places: SERIES };

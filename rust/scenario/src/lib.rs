@@ -1,14 +1,16 @@
 //! What an account is asked and what it answers, said apart from any implementation: the oracle is one, the port another,
 //! and the model in tools/model reads both as text.
 
+mod aimed;
 mod covered;
 mod generate;
+mod plan;
 mod random;
 mod spoil;
 mod text;
 
 pub use covered::Covered;
-pub use generate::scenario;
+pub use generate::{ordinary, scenario};
 pub use random::Random;
 pub use spoil::spoiled;
 pub use text::{asked, written};

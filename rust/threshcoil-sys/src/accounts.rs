@@ -1,7 +1,8 @@
 //! Accounts in lent bytes. Each line stands as in the Rattle source: a slice goes over as its pointer and its count.
 //!
-//! Every value is eight bytes, little-endian; a symbol stands as its text. An answer has document 01's number in its low
-//! eight bits and a count of records or weights above them. After a refusal every lent byte is as found.
+//! Every value is eight bytes, little-endian; a symbol stands as its text; `layout` has the words of settings and accounts. An
+//! answer has document 01's number in its low eight bits and a count of records or weights above them. After a refusal every
+//! lent byte is as found.
 
 /// Declares an entry and wraps it for slices, one parameter after the other.
 #[doc(hidden)]
@@ -38,7 +39,7 @@ macro_rules! entries {
 }
 
 entries! {
-    "Opens an account under 96 bytes of settings; the cash is written as the first equity."
+    "Opens an account under the bytes of settings; the cash is written as the first equity."
     tc_open(cash: i64, settings: &[u8], account: &mut [u8], equities: &mut [i64]);
 
     "Sets the order sizing granularity, in micro-shares."
@@ -60,11 +61,11 @@ entries! {
 
     "The cash: 8 bytes."
     tc_cash(account: &[u8], out: &mut [u8]);
-    "The settings: 96 bytes."
+    "The settings, as they were given."
     tc_settings(account: &[u8], out: &mut [u8]);
-    "Last order count and notional, trimmed count and shortfall, record count: 40 bytes."
+    "The counters: `layout::COUNTERS` has their words."
     tc_counters(account: &[u8], out: &mut [u8]);
-    "Equity count, return count, previous equity: 24 bytes."
+    "The series: `layout::SERIES` has their words."
     tc_series(account: &[u8], out: &mut [u8]);
     "The position of a symbol, given as its number: present mark, symbol, quantity, average, realized profit, total cost, 48 bytes."
     tc_position(account: &[u8], symbol: u64, out: &mut [u8]);

@@ -3,6 +3,7 @@
 //! here against its Rattle source but the differential runs.
 
 mod accounts;
+pub mod layout;
 pub use accounts::*;
 
 unsafe extern "C" {

@@ -8,6 +8,7 @@ use crate::settings;
 use crate::{Context, CostModel, ExecutionRecord, Price, Refusal, Settings, Shares, Symbol, Target, Weights};
 use std::fmt;
 use threshcoil_sys as port;
+use threshcoil_sys::layout::{self, Counter, Series};
 
 /// One position, open or flat.
 #[derive(Clone, Copy, Debug, PartialEq, Eq)]
@@ -48,7 +49,7 @@ pub struct Account([u8; Account::SIZE]);
 
 impl Account {
     /// Bytes of an account.
-    pub const SIZE: usize = 2_736;
+    pub const SIZE: usize = layout::ACCOUNT_SIZE;
 
     /// An account with cash alone, which is also written as the first equity.
     ///
@@ -151,55 +152,55 @@ impl Account {
 
     /// How many orders the last rebalance admitted.
     pub fn last_rebalance_order_count(&self) -> u64 {
-        u64::from_le_bytes(self.counters()[0])
+        u64::from_le_bytes(self.counter(Counter::LastOrderCount))
     }
 
     /// What those orders came to at listed prices.
     pub fn last_rebalance_notional(&self) -> i64 {
-        i64::from_le_bytes(self.counters()[1])
+        i64::from_le_bytes(self.counter(Counter::LastNotional))
     }
 
     /// How many buys were cut to what cash allows, also to nothing.
     pub fn trimmed_fill_count(&self) -> u64 {
-        u64::from_le_bytes(self.counters()[2])
+        u64::from_le_bytes(self.counter(Counter::TrimmedCount))
     }
 
     /// The notional that those buys lost.
     pub fn trimmed_shortfall_cents(&self) -> i64 {
-        i64::from_le_bytes(self.counters()[3])
+        i64::from_le_bytes(self.counter(Counter::TrimmedShortfall))
     }
 
     /// How many fills were recorded so far.
     pub fn record_count(&self) -> u64 {
-        u64::from_le_bytes(self.counters()[4])
+        u64::from_le_bytes(self.counter(Counter::RecordCount))
     }
 
     /// How many places of the caller's equity buffer are filled.
     pub fn equity_count(&self) -> u64 {
-        u64::from_le_bytes(self.series()[0])
+        u64::from_le_bytes(self.series(Series::EquityCount))
     }
 
     /// How many places of the caller's return buffer are filled.
     pub fn return_count(&self) -> u64 {
-        u64::from_le_bytes(self.series()[1])
+        u64::from_le_bytes(self.series(Series::ReturnCount))
     }
 
     /// The equity that the next return is measured from.
     pub fn previous_equity(&self) -> i64 {
-        i64::from_le_bytes(self.series()[2])
+        i64::from_le_bytes(self.series(Series::PreviousEquity))
     }
 
     /// The position of a symbol, flat ones too.
     pub fn position(&self, symbol: Symbol) -> Result<Option<Position>, Refusal> {
-        let mut out = [0; 48];
+        let mut out = [0; layout::POSITION_SIZE];
         told(port::tc_position(&self.0, symbol.number(), &mut out))?;
         Ok(position_of(&out))
     }
 
     /// All positions in symbol order, flat ones too.
     pub fn positions(&self) -> impl Iterator<Item = Position> {
-        (0..64).map_while(|index| {
-            let mut out = [0; 48];
+        (0..layout::PLACES as u64).map_while(|index| {
+            let mut out = [0; layout::POSITION_SIZE];
             port::tc_position_at(&self.0, index, &mut out);
             position_of(&out)
         })
@@ -214,14 +215,14 @@ impl Account {
 
     /// The weights of open positions, in symbol order; none at equity 0.
     pub fn current_weights(&self, prices: &[Price]) -> Result<Weights, Refusal> {
-        let mut out = [0; 1_024];
+        let mut out = [0; layout::WEIGHTS_SIZE];
         let count = told(port::tc_current_weights(&self.0, Prices::new(prices).as_bytes(), &mut out))?;
         Ok(Weights::of_bytes(&out, count))
     }
 
     /// The first open position, in symbol order, that has no price.
     pub fn unpriced_holding(&self, prices: &[Price]) -> Result<Option<Symbol>, Refusal> {
-        let mut out = [0; 16];
+        let mut out = [0; layout::ENTRY_SIZE];
         told(port::tc_unpriced_holding(&self.0, Prices::new(prices).as_bytes(), &mut out))?;
         let [mark, symbol] = bytes::take(&out);
         Ok((u64::from_le_bytes(mark) == 1).then_some(Symbol::from_padded(symbol)))
@@ -229,7 +230,7 @@ impl Account {
 
     /// The account at these prices.
     pub fn snapshot(&self, prices: &[Price]) -> Result<Snapshot, Refusal> {
-        let (mut out, mut weights) = ([0; 40], [0; 1_024]);
+        let (mut out, mut weights) = ([0; layout::SNAPSHOT_SIZE], [0; layout::WEIGHTS_SIZE]);
         let count = told(port::tc_snapshot(&self.0, Prices::new(prices).as_bytes(), &mut out, &mut weights))?;
         let [cash, equity, open, realized, _] = bytes::take(&out);
         let [cash, equity, total_realized_pnl] = [cash, equity, realized].map(i64::from_le_bytes);
@@ -246,8 +247,8 @@ impl Account {
         context: Context,
         records: &mut [ExecutionRecord],
     ) -> Result<usize, Refusal> {
-        let mut out = [0; 64 * record::SIZE];
-        let room = &mut out[..records.len().min(64) * record::SIZE];
+        let mut out = [0; layout::PLACES * layout::RECORD_SIZE];
+        let room = &mut out[..records.len().min(layout::PLACES) * layout::RECORD_SIZE];
         let (targets, prices) = (Targets::new(targets), Prices::new(prices));
         let (period, kind) = (context.period_index, context.kind.number());
         let answer = port::tc_rebalance_simple(&mut self.0, targets.as_bytes(), prices.as_bytes(), period, kind, room);
@@ -264,8 +265,8 @@ impl Account {
         context: Context,
         records: &mut [ExecutionRecord],
     ) -> Result<usize, Refusal> {
-        let mut out = [0; record::SIZE];
-        let room = &mut out[..records.len().min(1) * record::SIZE];
+        let mut out = [0; layout::RECORD_SIZE];
+        let room = &mut out[..records.len().min(1) * layout::RECORD_SIZE];
         let (period, kind) = (context.period_index, context.kind.number());
         let answer = port::tc_close_position_at(&mut self.0, symbol.number(), price, period, kind, room);
         let count = told(answer)?;
@@ -279,12 +280,12 @@ impl Account {
         told(port::tc_record_return(&mut self.0, prices.as_bytes(), equity, returns)).map(drop)
     }
 
-    fn counters(&self) -> [bytes::Word; 5] {
-        self.asked(port::tc_counters)
+    fn counter(&self, word: Counter) -> bytes::Word {
+        self.asked::<{ layout::COUNTERS.len() }>(port::tc_counters)[word as usize]
     }
 
-    fn series(&self) -> [bytes::Word; 3] {
-        self.asked(port::tc_series)
+    fn series(&self, word: Series) -> bytes::Word {
+        self.asked::<{ layout::SERIES.len() }>(port::tc_series)[word as usize]
     }
 
     /// The words that a query of the account alone gives. None refuses a sound account.

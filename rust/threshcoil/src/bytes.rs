@@ -2,12 +2,17 @@
 
 pub(crate) type Word = [u8; 8];
 
-/// Fills bytes from their beginning; words that find no room are left out.
-pub(crate) fn put(bytes: &mut [u8], words: impl IntoIterator<Item = Word>) {
-    bytes.chunks_exact_mut(8).zip(words).for_each(|(chunk, word)| chunk.copy_from_slice(&word));
+/// A word at its place; left out where the bytes end before it.
+pub(crate) fn put(bytes: &mut [u8], place: usize, word: Word) {
+    bytes.chunks_exact_mut(8).skip(place).take(1).for_each(|chunk| chunk.copy_from_slice(&word));
 }
 
-/// N words of bytes, zeros where the bytes end before them.
+/// The word at a place, zeros where the bytes end before it.
+pub(crate) fn word(bytes: &[u8], place: usize) -> Word {
+    bytes.get(8 * place..8 * place + 8).and_then(|word| word.try_into().ok()).unwrap_or_default()
+}
+
+/// The first N words.
 pub(crate) fn take<const N: usize>(bytes: &[u8]) -> [Word; N] {
-    std::array::from_fn(|i| bytes.get(8 * i..8 * i + 8).and_then(|word| word.try_into().ok()).unwrap_or_default())
+    std::array::from_fn(|place| word(bytes, place))
 }

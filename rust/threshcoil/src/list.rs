@@ -3,6 +3,7 @@
 use crate::Refusal;
 use crate::bytes::{self, Word};
 use std::fmt::{self, Write};
+use threshcoil_sys::layout;
 
 /// One to eight bytes from 33 to 126, padded with zeros; ordered by bytes.
 #[derive(Clone, Copy, PartialEq, Eq, PartialOrd, Ord, Hash)]
@@ -108,18 +109,18 @@ pub struct Weight {
 #[derive(Clone, Copy)]
 pub struct Weights {
     count: usize,
-    all: [Weight; 64],
+    all: [Weight; layout::PLACES],
 }
 
 impl Weights {
     pub(crate) fn of_bytes(bytes: &[u8], count: usize) -> Weights {
         let none = Weight { symbol: Symbol([0; 8]), weight: 0.0 };
-        let mut all = [none; 64];
-        for (place, entry) in all.iter_mut().take(count).zip(bytes.chunks_exact(16)) {
+        let mut all = [none; layout::PLACES];
+        for (place, entry) in all.iter_mut().take(count).zip(bytes.chunks_exact(layout::ENTRY_SIZE)) {
             let [symbol, weight] = bytes::take(entry);
             *place = Weight { symbol: Symbol(symbol), weight: f64::from_le_bytes(weight) };
         }
-        Weights { count: count.min(64), all }
+        Weights { count: count.min(layout::PLACES), all }
     }
 }
 

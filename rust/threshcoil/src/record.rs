@@ -2,6 +2,7 @@
 
 use crate::bytes;
 use crate::{Shares, Symbol};
+use threshcoil_sys::layout;
 
 /// Why a fill was made.
 #[derive(Clone, Copy, Debug, PartialEq, Eq, Hash)]
@@ -49,9 +50,6 @@ pub struct ExecutionRecord {
     /// The cash after the fill.
     pub cash_after: i64,
 }
-
-/// Bytes of a record.
-pub(crate) const SIZE: usize = 96;
 
 impl ExecutionRecord {
     /// What a buffer of records is made of before calls fill it.
@@ -102,7 +100,7 @@ impl ExecutionKind {
 
 /// The first `count` records of bytes into the caller's places.
 pub(crate) fn read(records: &mut [ExecutionRecord], count: usize, bytes: &[u8]) {
-    for (place, record) in records.iter_mut().take(count).zip(bytes.chunks_exact(SIZE)) {
+    for (place, record) in records.iter_mut().take(count).zip(bytes.chunks_exact(layout::RECORD_SIZE)) {
         *place = ExecutionRecord::of_bytes(record);
     }
 }

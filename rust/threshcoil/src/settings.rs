@@ -1,7 +1,8 @@
 //! Costs and settings of an account.
 
 use crate::Shares;
-use crate::bytes::{self, Word};
+use crate::bytes;
+use threshcoil_sys::layout::{self, Setting};
 
 /// What a trade costs.
 #[derive(Clone, Copy, Debug, Default, PartialEq)]
@@ -38,7 +39,7 @@ pub struct Settings {
 }
 
 /// Bytes of settings.
-pub(crate) const SIZE: usize = 96;
+pub(crate) const SIZE: usize = layout::SETTINGS_SIZE;
 
 impl Settings {
     /// Whole shares, no limits, no recording, orders as planned.
@@ -57,42 +58,44 @@ impl Settings {
     }
 
     pub(crate) fn to_bytes(self) -> [u8; SIZE] {
-        let words: [Word; 12] = [
-            self.cost_model.commission_bps.to_le_bytes(),
-            self.cost_model.slippage_bps.to_le_bytes(),
-            self.cost_model.min_commission.to_le_bytes(),
-            self.quantity_step.to_le_bytes(),
-            self.min_order_value.to_le_bytes(),
-            self.max_order_value.to_le_bytes(),
-            self.no_trade_band_bps.to_le_bytes(),
-            u64::from(self.max_trades_per_rebalance.is_some()).to_le_bytes(),
-            self.max_trades_per_rebalance.unwrap_or(0).to_le_bytes(),
-            self.max_rebalance_notional.to_le_bytes(),
-            u64::from(self.recording).to_le_bytes(),
-            u64::from(self.cash_first).to_le_bytes(),
-        ];
+        let costs = self.cost_model;
+        let cap = self.max_trades_per_rebalance;
         let mut bytes = [0; SIZE];
-        bytes::put(&mut bytes, words);
+        for (setting, word) in [
+            (Setting::CommissionBps, costs.commission_bps.to_le_bytes()),
+            (Setting::SlippageBps, costs.slippage_bps.to_le_bytes()),
+            (Setting::MinCommission, costs.min_commission.to_le_bytes()),
+            (Setting::QuantityStep, self.quantity_step.to_le_bytes()),
+            (Setting::MinOrderValue, self.min_order_value.to_le_bytes()),
+            (Setting::MaxOrderValue, self.max_order_value.to_le_bytes()),
+            (Setting::NoTradeBandBps, self.no_trade_band_bps.to_le_bytes()),
+            (Setting::CapMark, u64::from(cap.is_some()).to_le_bytes()),
+            (Setting::CapCount, cap.unwrap_or(0).to_le_bytes()),
+            (Setting::MaxRebalanceNotional, self.max_rebalance_notional.to_le_bytes()),
+            (Setting::Recording, u64::from(self.recording).to_le_bytes()),
+            (Setting::CashFirst, u64::from(self.cash_first).to_le_bytes()),
+        ] {
+            bytes::put(&mut bytes, setting as usize, word);
+        }
         bytes
     }
 
-    pub(crate) fn of_bytes(bytes: &[u8]) -> Settings {
-        let [commission, slippage, floor, step, min, max, band, mark, cap, notional, recording, cash_first] =
-            bytes::take(bytes);
-        let [commission_bps, slippage_bps, no_trade_band_bps] = [commission, slippage, band].map(f64::from_le_bytes);
-        let [min_commission, quantity_step, min_order_value] = [floor, step, min].map(i64::from_le_bytes);
-        let [max_order_value, max_rebalance_notional] = [max, notional].map(i64::from_le_bytes);
-        let [marked, recording, cash_first] = [mark, recording, cash_first].map(|flag| u64::from_le_bytes(flag) == 1);
+    pub(crate) fn of_bytes(bytes: &[u8; SIZE]) -> Settings {
+        let word = |setting: Setting| bytes::word(bytes, setting as usize);
+        let rate = |setting| f64::from_le_bytes(word(setting));
+        let amount = |setting| i64::from_le_bytes(word(setting));
+        let count = |setting| u64::from_le_bytes(word(setting));
+        let [commission_bps, slippage_bps] = [Setting::CommissionBps, Setting::SlippageBps].map(rate);
         Settings {
-            cost_model: CostModel { commission_bps, slippage_bps, min_commission },
-            quantity_step,
-            min_order_value,
-            max_order_value,
-            no_trade_band_bps,
-            max_trades_per_rebalance: marked.then_some(u64::from_le_bytes(cap)),
-            max_rebalance_notional,
-            recording,
-            cash_first,
+            cost_model: CostModel { commission_bps, slippage_bps, min_commission: amount(Setting::MinCommission) },
+            quantity_step: amount(Setting::QuantityStep),
+            min_order_value: amount(Setting::MinOrderValue),
+            max_order_value: amount(Setting::MaxOrderValue),
+            no_trade_band_bps: rate(Setting::NoTradeBandBps),
+            max_trades_per_rebalance: (count(Setting::CapMark) == 1).then_some(count(Setting::CapCount)),
+            max_rebalance_notional: amount(Setting::MaxRebalanceNotional),
+            recording: count(Setting::Recording) == 1,
+            cash_first: count(Setting::CashFirst) == 1,
         }
     }
 }

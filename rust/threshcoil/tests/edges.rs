@@ -5,6 +5,7 @@ use threshcoil::{
     figures,
 };
 use threshcoil_sys as port;
+use threshcoil_sys::layout::{self, Column, Counter, Kind, Setting};
 
 const FREE: CostModel = CostModel { commission_bps: 0.0, slippage_bps: 0.0, min_commission: 0 };
 const NOW: Context = Context { period_index: 0, kind: ExecutionKind::Rebalance };
@@ -31,6 +32,11 @@ fn targets(count: usize, weight: f64) -> Vec<Target> {
 
 fn prices(count: usize, price: i64) -> Vec<Price> {
     (0..count).map(|k| Price { symbol: nth(k), price }).collect()
+}
+
+/// A word of an account or of settings.
+fn put(bytes: &mut [u8], word: usize, value: u64) {
+    bytes[layout::bytes_of(word, 1)].copy_from_slice(&value.to_le_bytes());
 }
 
 /// A rebalance that must be refused, and must leave the account and every record place as found.
@@ -81,9 +87,9 @@ fn the_greatest_short_is_covered_but_for_one_micro_share() {
         s.recording = true;
     });
     let mut bytes = *account.as_bytes();
-    bytes[8 * 21] = 1;
-    bytes[8 * 22..][..8].copy_from_slice(&symbol("S").padded());
-    bytes[8 * 86..][..8].copy_from_slice(&i64::MIN.to_le_bytes());
+    put(&mut bytes, layout::POSITIONS, 1);
+    put(&mut bytes, layout::column(Column::Symbol), u64::from_le_bytes(symbol("S").padded()));
+    put(&mut bytes, layout::column(Column::Quantity), i64::MIN as u64);
     account = Account::from_bytes(&bytes).expect("a short of 2^63 micro-shares at average 0 is sound");
     let mut records = [EMPTY; 1];
     assert_eq!(account.close_position_at(symbol("S"), 1, NOW, &mut records), Ok(1));
@@ -244,21 +250,57 @@ fn eleven_is_an_account_that_is_not_sound() {
     assert_eq!(Account::from_bytes(&account.as_bytes()[1..]), Err(Refusal::Unsound));
     let spoiled = |word: usize, value: u64| {
         let mut bytes = *account.as_bytes();
-        bytes[8 * word..][..8].copy_from_slice(&value.to_le_bytes());
+        put(&mut bytes, word, value);
         Account::from_bytes(&bytes)
     };
     let nan = f64::NAN.to_bits();
+    let [symbols, totals] = [Column::Symbol, Column::TotalCost].map(layout::column);
     // Cash below 0, a rate that is none, marks and flags above 1, a cap without its mark, a count without its position,
     // an unused place that is not zero.
-    for (word, value) in
-        [(0, 1 << 63), (1, nan), (7, nan), (8, 2), (9, 1), (11, 2), (12, 1 << 8), (21, 1), (21, 65), (85, 1), (341, 1)]
-    {
+    for (word, value) in [
+        (layout::CASH, 1 << 63),
+        (layout::setting(Setting::CommissionBps), nan),
+        (layout::setting(Setting::NoTradeBandBps), nan),
+        (layout::setting(Setting::CapMark), 2),
+        (layout::setting(Setting::CapCount), 1),
+        (layout::setting(Setting::Recording), 2),
+        (layout::setting(Setting::CashFirst), 1 << 8),
+        (layout::POSITIONS, 1),
+        (layout::POSITIONS, 65),
+        (symbols + 63, 1),
+        (totals + 63, 1),
+    ] {
         assert_eq!(spoiled(word, value), Err(Refusal::Unsound), "word {word}");
     }
-    // It comes before all others.
+    // Nothing is asked of a counter.
+    assert!(spoiled(layout::counter(Counter::LastNotional), 1 << 63).is_ok());
+    // It comes before all others, in an opening too.
+    let mut short = [7; Account::SIZE - 1];
+    assert_eq!(port::tc_open(-1, &[], &mut short, &mut []), 11);
     let mut bytes = [0xff; Account::SIZE];
     assert_eq!(port::tc_rebalance_simple(&mut bytes, &[0; 15], &[0; 15], 0, 9, &mut []), 11);
     assert_eq!(bytes, [0xff; Account::SIZE]);
+}
+
+/// A word that must be 0: 1 in settings, 11 in an account.
+#[test]
+fn reserved_words_are_refused() {
+    let account = opened(1_000, |_| ());
+    let settings = account.as_bytes()[layout::bytes_of(layout::SETTINGS_FROM, layout::SETTINGS.len())].to_vec();
+    let rows = layout::SETTINGS.iter().chain(layout::COUNTERS).enumerate();
+    for (k, row) in rows.filter(|(_, row)| row.kind == Kind::Reserved) {
+        for value in [1, 2, 1 << 63, u64::MAX] {
+            let mut bytes = *account.as_bytes();
+            put(&mut bytes, layout::SETTINGS_FROM + k, value);
+            assert_eq!(Account::from_bytes(&bytes), Err(Refusal::Unsound), "{}", row.name);
+            if k < layout::SETTINGS.len() {
+                let (mut settings, mut place, mut equity) = (settings.clone(), [7; Account::SIZE], [7]);
+                put(&mut settings, k, value);
+                assert_eq!(port::tc_open(1_000, &settings, &mut place, &mut equity), 1, "{}", row.name);
+                assert!(place == [7; Account::SIZE] && equity == [7], "as found");
+            }
+        }
+    }
 }
 
 #[test]

@@ -1,6 +1,7 @@
 //! docs/LAYOUT.md's worked examples, held to what the library writes in the run that the document describes.
 
 use threshcoil_sys as port;
+use threshcoil_sys::layout;
 
 const LAYOUT: &str = include_str!("../../../docs/LAYOUT.md");
 
@@ -31,23 +32,63 @@ fn settings() -> Vec<u8> {
     words(section("Settings")).concat()
 }
 
+/// The rows of a section's table: the first word that each speaks of, the last, and the example, if it has one.
+fn rows(title: &str) -> Vec<(usize, usize, Option<[u8; 8]>)> {
+    let places = |line: &str| {
+        let cell = line.strip_prefix("| ")?.split(" |").next()?;
+        let (first, last) = cell.split_once(" to ").unwrap_or((cell, cell));
+        Some((first.parse().ok()?, last.parse().ok()?, words(line).first().copied()))
+    };
+    section(title).lines().filter_map(places).collect()
+}
+
+/// Whether rows speak of that many words, one after the other.
+fn tile(rows: &[(usize, usize, Option<[u8; 8]>)], count: usize) -> bool {
+    let mut next = 0;
+    rows.iter().all(|(first, last, _)| *first == std::mem::replace(&mut next, last + 1)) && next == count
+}
+
 /// The account opened, and after the rebalance, with its record.
 fn run() -> (Vec<u8>, Vec<u8>) {
-    let mut account = vec![0xaa; 2_736];
+    let mut account = vec![0xaa; layout::ACCOUNT_SIZE];
     assert_eq!(port::tc_open(100_000, &settings(), &mut account, &mut [0]), 0);
-    let mut records = vec![0xaa; 64 * 96];
+    let mut records = vec![0xaa; layout::PLACES * layout::RECORD_SIZE];
     let (target, price) = (row("Lists", "target"), row("Lists", "price"));
     assert_eq!(port::tc_rebalance_simple(&mut account, &target, &price, 0, 0, &mut records), 0x100);
-    assert!(records[96..].iter().all(|b| *b == 0xaa), "the rest of the records is as found");
-    (account, records[..96].to_vec())
+    let (record, rest) = records.split_at(layout::RECORD_SIZE);
+    assert!(rest.iter().all(|b| *b == 0xaa), "the rest of the records is as found");
+    (account, record.to_vec())
 }
 
 #[test]
-fn settings_are_twelve_words_and_stand_in_the_account() {
+fn the_document_has_the_words_of_the_table() {
+    assert!(tile(&rows("Settings"), layout::SETTINGS.len()), "a row for each word of settings");
+    assert!(tile(&rows("Account"), layout::ACCOUNT_WORDS), "rows for all words of an account");
+    let snake = |name: &str| {
+        name.chars().fold(String::new(), |text, c| {
+            let parted = c.is_uppercase() && !text.is_empty();
+            text + if parted { "_" } else { "" } + &c.to_lowercase().to_string()
+        })
+    };
+    let cells: Vec<&str> =
+        section("Settings").lines().filter_map(|l| l.strip_prefix("| ")?.split(" | ").nth(1)).skip(1).collect();
+    for (row, cell) in layout::SETTINGS.iter().zip(cells) {
+        let named = cell.starts_with(&snake(row.name)) || row.name.starts_with("Cap") && cell.starts_with("trade cap");
+        assert!(named || row.kind == layout::Kind::Reserved, "{cell} is {}", row.name);
+    }
+    for (title, size) in [("Settings", layout::SETTINGS_SIZE), ("Account", layout::ACCOUNT_SIZE)] {
+        let (heading, _) = section(title).split_once('\n').expect("a heading");
+        let told: String = heading.chars().filter(|c| *c != ',').collect();
+        assert!(told.ends_with(&format!("{} words {size} bytes", size / layout::WORD_SIZE)), "{heading}");
+    }
+}
+
+#[test]
+fn settings_stand_in_the_account_as_they_were_given() {
     let (account, _) = run();
-    assert_eq!(settings().len(), 96);
-    assert_eq!(account[8..104], settings());
-    let mut told = [0; 96];
+    assert_eq!(settings().len(), layout::SETTINGS_SIZE);
+    assert_eq!(account[layout::bytes_of(layout::SETTINGS_FROM, layout::SETTINGS.len())], settings());
+    let mut told = [0; layout::SETTINGS_SIZE];
     assert_eq!(port::tc_settings(&account, &mut told), 0);
     assert_eq!(told[..], settings());
 }
@@ -55,23 +96,12 @@ fn settings_are_twelve_words_and_stand_in_the_account() {
 #[test]
 fn the_account_is_as_the_document_has_it() {
     let (account, _) = run();
-    let mut expected = vec![0; 2_736];
-    expected[8..104].copy_from_slice(&settings());
-    for (begins, word) in [
-        ("0 ", 0),
-        ("13 ", 13),
-        ("14 ", 14),
-        ("15 ", 15),
-        ("16 ", 16),
-        ("17 ", 17),
-        ("18 ", 18),
-        ("19 ", 19),
-        ("20 ", 20),
-    ]
-    .into_iter()
-    .chain([("21 ", 21), ("22 to 85", 22), ("86 to 149", 86), ("150 to 213", 150), ("278 to 341", 278)])
-    {
-        expected[8 * word..][..8].copy_from_slice(&row("Account", begins));
+    let mut expected = vec![0; layout::ACCOUNT_SIZE];
+    expected[layout::bytes_of(layout::SETTINGS_FROM, layout::SETTINGS.len())].copy_from_slice(&settings());
+    for (first, _, example) in rows("Account") {
+        if let Some(word) = example {
+            expected[layout::bytes_of(first, 1)].copy_from_slice(&word);
+        }
     }
     assert_eq!(account, expected);
 }
@@ -88,16 +118,17 @@ fn queries_tell_what_the_document_has() {
     let mut equity = [0; 8];
     assert_eq!(port::tc_total_equity(&account, &price, &mut equity), 0);
     assert_eq!(equity[..], row("What queries tell", "`tc_cash`"));
-    let mut position = [0; 48];
+    let mut position = [0; layout::POSITION_SIZE];
     let symbol = u64::from_be_bytes(*b"AAPL\0\0\0\0");
     assert_eq!(port::tc_position(&account, symbol, &mut position), 0);
     assert_eq!(position[..], row("What queries tell", "`tc_position`"));
-    let mut unpriced = [0; 16];
+    let mut unpriced = [0; layout::ENTRY_SIZE];
     assert_eq!(port::tc_unpriced_holding(&account, &[], &mut unpriced), 0);
     assert_eq!(unpriced[..], row("What queries tell", "`tc_unpriced_holding`"));
-    let (mut figures, mut weights) = ([0; 40], [0xaa; 1_024]);
+    let (mut figures, mut weights) = ([0; layout::SNAPSHOT_SIZE], [0xaa; layout::WEIGHTS_SIZE]);
     assert_eq!(port::tc_snapshot(&account, &price, &mut figures, &mut weights), 0x100);
     assert_eq!(figures[..], row("What queries tell", "`tc_snapshot`"));
-    assert_eq!(weights[..16], row("Lists", "weight"));
-    assert!(weights[16..].iter().all(|b| *b == 0xaa));
+    let (weight, rest) = weights.split_at(layout::ENTRY_SIZE);
+    assert_eq!(*weight, row("Lists", "weight"));
+    assert!(rest.iter().all(|b| *b == 0xaa));
 }

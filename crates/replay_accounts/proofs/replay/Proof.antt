@@ -3,12 +3,11 @@ use mathlib.Core.Path.{_≡_}
 use native.Mathlib.Omega.{arith}
 use lib.ListN.{length}
 use borrow.Author.Needs.{needs}
-use Rattle.account_bytes.specs.Sizes.{accountLength}
 use Rattle.replay_accounts.proofs.replay.Statement.{statement}
 use Rattle.replay_accounts.proofs.replay.Tie as tie
 
 abbrev Inv-loop : tie.InvT-loop
-Inv-loop fd account₀ left₀ differences₀ account left differences = length account ≡ accountLength
+Inv-loop fd account₀ left₀ differences₀ account left differences = length account ≡ 488
 
 abbrev μ-loop : tie.MeasureT-loop
 μ-loop fd account₀ left₀ differences₀ account left differences = left

@@ -1,14 +1,14 @@
 //! The answer that document 01's table gives, read from the bytes as they are lent: nothing here calls the port.
 
 use super::{Entry, Entry::*, Given};
+use threshcoil_sys::layout::{self, Column, Kind, Setting, Word};
 
 /// The first that holds of 11, 1, 6, 2, 3, 5, 4, 8, 7, 9, 10, 12.
 pub fn expected(entry: Entry, g: &Given) -> u64 {
     match entry {
         Open => first(&[
-            (1, g.settings.len() != 96 || g.number < 0 || !good_settings(&words(&g.settings))),
-            // At opening the account is a place to write.
-            (6, g.account.len() != 2_736),
+            (11, g.account.len() != layout::ACCOUNT_SIZE),
+            (1, g.settings.len() != layout::SETTINGS_SIZE || g.number < 0 || !good_settings(&words(&g.settings))),
             (10, g.equities.is_empty()),
         ]),
         Figures => first(&[
@@ -33,29 +33,32 @@ fn of_account(entry: Entry, g: &Given, book: &Book) -> u64 {
             (4, list.iter().any(|(_, p)| (*p as i64) < 1)),
         ]
     };
+    let set = |setting: Setting, words: &[u64]| {
+        let rows = &layout::SETTINGS[setting as usize..][..words.len()];
+        first(&[(1, !are_good(words, rows))])
+    };
+    let another = g.out.len() != entry.out_size();
     match entry {
-        QuantityStep => first(&[(1, g.number < 1)]),
-        MinOrderValue | MaxOrderValue | MaxRebalanceNotional => first(&[(1, g.number < 0)]),
-        NoTradeBand => first(&[(1, !good_rate(g.rate))]),
-        MaxTrades => first(&[(1, g.mark > 1 || (g.mark == 0 && g.count != 0))]),
-        Recording | CashFirst => first(&[(1, g.mark > 1)]),
-        Cash => first(&[(6, g.out.len() != 8)]),
-        Settings => first(&[(6, g.out.len() != 96)]),
-        Counters => first(&[(6, g.out.len() != 40)]),
-        Series => first(&[(6, g.out.len() != 24)]),
-        Position => first(&[(6, g.out.len() != 48), (2, !good_symbol(g.symbol))]),
-        PositionAt => first(&[(6, g.out.len() != 48)]),
-        TotalEquity => first(&priced(g.out.len() != 8)),
-        UnpricedHolding => first(&priced(g.out.len() != 16)),
-        CurrentWeights => first(&priced(g.weights.len() != 1_024)),
-        Snapshot => first(&priced(g.out.len() != 40 || g.weights.len() != 1_024)),
+        QuantityStep => set(Setting::QuantityStep, &[g.number as u64]),
+        MinOrderValue => set(Setting::MinOrderValue, &[g.number as u64]),
+        MaxOrderValue => set(Setting::MaxOrderValue, &[g.number as u64]),
+        MaxRebalanceNotional => set(Setting::MaxRebalanceNotional, &[g.number as u64]),
+        NoTradeBand => set(Setting::NoTradeBandBps, &[g.rate.to_bits()]),
+        MaxTrades => set(Setting::CapMark, &[g.mark, g.count]),
+        Recording => set(Setting::Recording, &[g.mark]),
+        CashFirst => set(Setting::CashFirst, &[g.mark]),
+        Cash | Settings | Counters | Series | PositionAt => first(&[(6, another)]),
+        Position => first(&[(6, another), (2, !good_symbol(g.symbol))]),
+        TotalEquity | UnpricedHolding => first(&priced(another)),
+        CurrentWeights => first(&priced(g.weights.len() != layout::WEIGHTS_SIZE)),
+        Snapshot => first(&priced(another || g.weights.len() != layout::WEIGHTS_SIZE)),
         Rebalance => rebalance(g, book),
         Close => first(&[
             (1, g.kind > 1),
-            (6, g.records.len() % 96 != 0),
+            (6, g.records.len() % layout::RECORD_SIZE != 0),
             (2, !good_symbol(g.symbol)),
             (4, g.number < 1),
-            (8, book.recording && g.records.len() < 96),
+            (8, book.recording && g.records.len() < layout::RECORD_SIZE),
             (9, !book.held.iter().any(|(s, quantity)| *s == g.symbol && *quantity != 0)),
         ]),
         RecordReturn => {
@@ -72,12 +75,12 @@ fn rebalance(g: &Given, book: &Book) -> u64 {
     let new = targets.iter().filter(|(s, _)| !book.held.iter().any(|(held, _)| held == s)).count();
     first(&[
         (1, g.kind > 1),
-        (6, !whole(&g.targets, 64) || !whole(&g.prices, 128) || g.records.len() % 96 != 0),
+        (6, !whole(&g.targets, 64) || !whole(&g.prices, 128) || g.records.len() % layout::RECORD_SIZE != 0),
         (2, bad(&targets) || bad(&prices)),
         (3, twice(&targets) || twice(&prices)),
         (5, targets.iter().any(|(_, w)| !f64::from_bits(*w).is_finite())),
         (4, prices.iter().any(|(_, p)| (*p as i64) < 1)),
-        (8, book.recording && g.records.len() < 64 * 96),
+        (8, book.recording && g.records.len() < 64 * layout::RECORD_SIZE),
         (7, book.held.len() + new > 64),
     ])
 }
@@ -94,19 +97,30 @@ impl Book {
     /// None where the bytes are no sound account.
     fn of(bytes: &[u8]) -> Option<Book> {
         let words = words(bytes);
-        if bytes.len() != 2_736 || (words[0] as i64) < 0 || !good_settings(&words[1..13]) || words[21] > 64 {
+        if bytes.len() != layout::ACCOUNT_SIZE
+            || (words[layout::CASH] as i64) < 0
+            || !good_settings(&words[layout::SETTINGS_FROM..])
+            || !are_good(&words[layout::COUNTERS_FROM..], layout::COUNTERS)
+            || words[layout::POSITIONS] > layout::PLACES as u64
+        {
             return None;
         }
-        let count = words[21] as usize;
-        let column = |k: usize| &words[22 + 64 * k..22 + 64 * (k + 1)];
-        let symbols: Vec<u64> = column(0).iter().map(|w| w.swap_bytes()).collect();
-        let signed = |k: usize| column(k).iter().map(|w| *w as i64).collect::<Vec<i64>>();
-        let (quantity, average, total) = (signed(1), signed(2), signed(4));
+        let count = words[layout::POSITIONS] as usize;
+        let column = |which: Column| &words[layout::column(which)..][..layout::PLACES];
+        let symbols: Vec<u64> = column(Column::Symbol).iter().map(|w| w.swap_bytes()).collect();
+        let signed = |which| column(which).iter().map(|w| *w as i64).collect::<Vec<i64>>();
+        let [quantity, average, total] = [Column::Quantity, Column::Average, Column::TotalCost].map(signed);
         let ascend = symbols[..count].windows(2).all(|pair| pair[0] < pair[1]);
-        let unused = (0..5).all(|k| column(k)[count..].iter().all(|w| *w == 0));
+        let columns = words[layout::POSITIONS + 1..].chunks_exact(layout::PLACES);
+        let unused = columns.into_iter().all(|column| column[count..].iter().all(|w| *w == 0));
         let each = (0..count).all(|i| good_symbol(symbols[i]) && sound(quantity[i], average[i], total[i]));
         let held = symbols.iter().zip(&quantity).take(count).map(|(s, q)| (*s, *q)).collect();
-        let book = Book { recording: words[11] == 1, equities: words[18], returns: words[19], held };
+        let book = Book {
+            recording: words[layout::setting(Setting::Recording)] == 1,
+            equities: words[layout::series(layout::Series::EquityCount)],
+            returns: words[layout::series(layout::Series::ReturnCount)],
+            held,
+        };
         (ascend && unused && each).then_some(book)
     }
 }
@@ -121,21 +135,20 @@ fn sound(quantity: i64, average: i64, total: i64) -> bool {
     }
 }
 
-/// Twelve words: rates, limits, marks.
-fn good_settings(s: &[u64]) -> bool {
-    let [commission, slippage, band] = [s[0], s[1], s[6]].map(f64::from_bits);
-    good_rate(commission)
-        && good_rate(band)
-        && (0.0..=10_000.0).contains(&slippage)
-        && [s[2], s[4], s[5], s[9]].iter().all(|n| (*n as i64) >= 0)
-        && (s[3] as i64) >= 1
-        && (s[7] == 1 || (s[7] == 0 && s[8] == 0))
-        && s[10] < 2
-        && s[11] < 2
+fn good_settings(words: &[u64]) -> bool {
+    are_good(words, layout::SETTINGS)
 }
 
-fn good_rate(x: f64) -> bool {
-    x.is_finite() && x >= 0.0
+/// Whether each word is what its row of the table lets it be.
+fn are_good(words: &[u64], rows: &[Word]) -> bool {
+    rows.iter().enumerate().all(|(i, row)| match row.kind {
+        Kind::Rate(most) => (0.0..=most).contains(&f64::from_bits(words[i])),
+        Kind::Amount(least) => words[i] as i64 >= least,
+        Kind::Count => true,
+        Kind::Flag => words[i] < 2,
+        Kind::Mark => words[i] == 1 || words[i..i + 2] == [0, 0],
+        Kind::Reserved => words[i] == 0,
+    })
 }
 
 fn good_symbol(symbol: u64) -> bool {

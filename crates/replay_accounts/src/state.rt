@@ -1,0 +1,228 @@
+// The account that a row tells, in 61 words: the Rust's fields in its own order, and eight places of a position's five. No word of it is a word of the C
+// interface's bytes, so that those may change and the sample stays. What the Rust lacks is as an opening leaves it.
+ghost use Prim.Native.Nat.{_≤_};
+use account::Account;
+use account::Counters;
+use account::Series;
+use account::Settings;
+use account::TradeCap;
+use cost_model::CostModel;
+use table::Table;
+use word_bytes::float;
+use word_bytes::pattern;
+use word_bytes::signed;
+use word_bytes::symbol_at;
+use word_bytes::unsigned;
+use word_bytes::word_at;
+
+// A count that is at most eight.
+pub(crate) fn count(word: u64) -> usize
+    ensures { λ r. ⌜ r ≤ 8 ⌝ }
+{
+    (word % 9) as usize
+}
+
+fn number(told: &[u8], i: usize) -> i64 {
+    signed(word_at(told, i))
+}
+
+fn rate(told: &[u8], i: usize) -> f64 {
+    float(word_at(told, i))
+}
+
+pub(crate) fn cap(mark: u64, most: u64) -> TradeCap {
+    if mark == 0 {
+        return TradeCap::Absent;
+    }
+    TradeCap::AtMost(most)
+}
+
+fn costs_of(told: &[u8]) -> CostModel {
+    CostModel {
+        commission_bps: rate(told, 1),
+        slippage_bps: rate(told, 2),
+        min_commission: number(told, 3),
+    }
+}
+
+// Words 1 to 11, and the rest as it was opened.
+fn settings_of(told: &[u8], opened: Settings) -> Settings {
+    let cost_model = costs_of(told);
+    let max_trades_per_rebalance = cap(word_at(told, 8), word_at(told, 9));
+    Settings {
+        cost_model,
+        quantity_step: number(told, 4),
+        min_order_value: number(told, 5),
+        max_order_value: number(told, 6),
+        no_trade_band_bps: rate(told, 7),
+        max_trades_per_rebalance,
+        max_rebalance_notional: number(told, 10),
+        recording: word_at(told, 11) == 1,
+        ..opened
+    }
+}
+
+fn counters_of(told: &[u8], opened: Counters) -> Counters {
+    Counters {
+        last_rebalance_order_count: word_at(told, 12),
+        last_rebalance_notional: number(told, 13),
+        trimmed_fill_count: word_at(told, 14),
+        trimmed_shortfall_cents: number(told, 15),
+        record_count: word_at(told, 16),
+        ..opened
+    }
+}
+
+fn series_of(told: &[u8]) -> Series {
+    Series {
+        equity_count: word_at(told, 17),
+        return_count: word_at(told, 18),
+        prev_equity: number(told, 19),
+    }
+}
+
+// The symbols of the eight places; those past them are zero, here and below.
+fn symbols_of(told: &[u8]) -> [u64; 64] {
+    let mut column = [0u64; 64];
+    column[0] = symbol_at(told, 21);
+    column[1] = symbol_at(told, 26);
+    column[2] = symbol_at(told, 31);
+    column[3] = symbol_at(told, 36);
+    column[4] = symbol_at(told, 41);
+    column[5] = symbol_at(told, 46);
+    column[6] = symbol_at(told, 51);
+    column[7] = symbol_at(told, 56);
+    column
+}
+
+// A field of each position, by the place of the first one's.
+fn numbers_of(told: &[u8], first: usize) -> [i64; 64] {
+    let i = first % 64;
+    let mut column = [0i64; 64];
+    column[0] = number(told, i);
+    column[1] = number(told, i + 5);
+    column[2] = number(told, i + 10);
+    column[3] = number(told, i + 15);
+    column[4] = number(told, i + 20);
+    column[5] = number(told, i + 25);
+    column[6] = number(told, i + 30);
+    column[7] = number(told, i + 35);
+    column
+}
+
+fn positions_of(told: &[u8]) -> Table {
+    let symbol = symbols_of(told);
+    let quantity = numbers_of(told, 22);
+    let avg_entry_price = numbers_of(told, 23);
+    let realized_pnl = numbers_of(told, 24);
+    let total_cost = numbers_of(told, 25);
+    Table {
+        count: count(word_at(told, 20)),
+        symbol,
+        quantity,
+        avg_entry_price,
+        realized_pnl,
+        total_cost,
+    }
+}
+
+pub(crate) fn account_of(told: &[u8]) -> Account {
+    let mut equity = [0i64; 1];
+    let c = account::open(0, CostModel::zero(), &mut equity[..]);
+    let opened = c.account;
+    let settings = settings_of(told, opened.settings);
+    let counters = counters_of(told, opened.counters);
+    let series = series_of(told);
+    let positions = positions_of(told);
+    Account {
+        cash: number(told, 0),
+        settings,
+        counters,
+        series,
+        positions,
+    }
+}
+
+fn flag(on: bool) -> u64 {
+    if on { 1 } else { 0 }
+}
+
+fn same_cap(told: &[u8], cap: TradeCap) -> bool {
+    match cap {
+        TradeCap::Absent => word_at(told, 8) == 0,
+        TradeCap::AtMost(most) => word_at(told, 8) == 1 && word_at(told, 9) == most,
+    }
+}
+
+fn same_settings(told: &[u8], s: Settings) -> bool {
+    let cap = s.max_trades_per_rebalance;
+    word_at(told, 1) == pattern(s.cost_model.commission_bps)
+        && word_at(told, 2) == pattern(s.cost_model.slippage_bps)
+        && word_at(told, 3) == unsigned(s.cost_model.min_commission)
+        && word_at(told, 4) == unsigned(s.quantity_step)
+        && word_at(told, 5) == unsigned(s.min_order_value)
+        && word_at(told, 6) == unsigned(s.max_order_value)
+        && word_at(told, 7) == pattern(s.no_trade_band_bps)
+        && same_cap(told, cap)
+        && word_at(told, 10) == unsigned(s.max_rebalance_notional)
+        && word_at(told, 11) == flag(s.recording)
+        && !s.cash_first
+}
+
+fn same_counts(told: &[u8], k: Counters, s: Series) -> bool {
+    word_at(told, 12) == k.last_rebalance_order_count
+        && word_at(told, 13) == unsigned(k.last_rebalance_notional)
+        && word_at(told, 14) == k.trimmed_fill_count
+        && word_at(told, 15) == unsigned(k.trimmed_shortfall_cents)
+        && word_at(told, 16) == k.record_count
+        && word_at(told, 17) == s.equity_count
+        && word_at(told, 18) == s.return_count
+        && word_at(told, 19) == unsigned(s.prev_equity)
+}
+
+// Whether both columns are the same in all places.
+fn same_symbols(a: [u64; 64], b: [u64; 64]) -> bool {
+    let mut same = true;
+    let mut k = 0usize;
+    while k < 64 {
+        if a[k] != b[k] {
+            same = false;
+        }
+        k += 1;
+    }
+    same
+}
+
+fn same_numbers(a: [i64; 64], b: [i64; 64]) -> bool {
+    let mut same = true;
+    let mut k = 0usize;
+    while k < 64 {
+        if a[k] != b[k] {
+            same = false;
+        }
+        k += 1;
+    }
+    same
+}
+
+fn same_positions(told: &[u8], t: Table) -> bool {
+    let symbol = t.symbol;
+    let quantity = t.quantity;
+    let average = t.avg_entry_price;
+    let realized = t.realized_pnl;
+    let total = t.total_cost;
+    word_at(told, 20) == t.count as u64
+        && same_symbols(symbols_of(told), symbol)
+        && same_numbers(numbers_of(told, 22), quantity)
+        && same_numbers(numbers_of(told, 23), average)
+        && same_numbers(numbers_of(told, 24), realized)
+        && same_numbers(numbers_of(told, 25), total)
+}
+
+// Whether an account is the one that is told, in all that the Rust has and in what it lacks.
+pub(crate) fn same_account(told: &[u8], a: Account) -> bool {
+    word_at(told, 0) == unsigned(a.cash)
+        && same_settings(told, a.settings)
+        && same_counts(told, a.counters, a.series)
+        && same_positions(told, a.positions)
+}
