@@ -2,14 +2,14 @@
 use Prim.Native.Nat.{ℕ, _+_, _-_, _≤_, _<_}
 use mathlib.Core.Path.{_≡_, refl, sym, ap, _∙_}
 use mathlib.Core.Bool.{Bool, true, false}
-use mathlib.Core.List.{List, [], _∷_, _++_, append-assoc, append-nil}
+use mathlib.Core.List.{List, [], _∷_, _++_, map, append-assoc, append-nil}
 use native.Mathlib.Omega.{arith}
 use native.Mathlib.Numerals.{add-one}
 use lib.IntN.{ℤ, pos, _-ℤ_}
 use lib.Signed.{ltZ, leZ}
 use lib.Ieee.{Float}
-use lib.ListN.{length, getD, set}
-use lib.Seq.{getD-set-same, getD-set-other}
+use lib.ListN.{length, getD, set, take, drop, length-append, take-append-drop}
+use lib.Seq.{take-take}
 use mir.Syntax.{w64}
 use mir.Val.{SFits}
 use Rattle.sums.specs.Sums.{notional}
@@ -28,9 +28,10 @@ use Rattle.wanted.specs.Plan.{planned}
 use Rattle.admission.specs.declared.cap.Offered.{Offered}
 use Rattle.admission.specs.declared.cap.Offered.the-variants.{Whole, Part, Ends}
 use Rattle.admission.specs.Admission.{hasCap, capped, reached, notionalOf, lastAdmitted, admittedFrom, admitted}
-use Rattle.admission.specs.Columns.{Cols, cols, orderAt, from, plans}
-use Rattle.admission.specs.Offers.{partOffered, offered}
-use Rattle.admission.proofs.Plans.{from-on, from-end, from-last, from-same, plans-start, plans-few}
+use Rattle.admission.specs.Columns.{Cols, cols, orderAt, from, plans, Counted, counted}
+use Rattle.admission.specs.Offers.{partOffered, offered, cutPlan}
+use Rattle.admission.proofs.Plans.{from-on, from-end, from-last, from-length, plans-start}
+use Rattle.admission.proofs.Laying.{taken, front-is, front-set}
 
 -- ---- what follows an offer
 module _ (s : Settings) (n : ℕ) (left : ℤ) (o : PlannedOrder) (os : List PlannedOrder) where
@@ -157,17 +158,57 @@ pub admit-all : (s : Settings) (m i : ℕ) (left : ℤ) (f : ℕ → PlannedOrde
 unfolding admittedFrom
 admit-all s m i left f all h inv = sym (append-nil _) ∙ rw (from-end f i m h) at inv
 
--- ---- the last quantity rewritten
-module _ (k : List ℕ) (q p : List ℤ) (d : List Float) (i : ℕ) (cut : ℤ) where
-  abbrev before : ℕ → PlannedOrder
-  before = orderAt (cols k q p d)
+-- ---- the columns as admission leaves them
+module _ (s : Settings) (n : ℕ) (k : List ℕ) (q p : List ℤ) (d : List Float) (i : ℕ) (long : length q ≡ 64) where
+  abbrev at : ℕ → PlannedOrder
+  at = orderAt (cols k q p d)
 
-  abbrev after : ℕ → PlannedOrder
-  after = orderAt (cols k (set q i cut) p d)
+  abbrev plan : List PlannedOrder
+  plan = plans n (cols k q p d)
 
-  pub plans-cut : i < 64 → length q ≡ 64 → plans (i + 1) (cols k (set q i cut) p d) ≡ from before 0 i ++ (planned (before i .symbol .0) cut (before i .price) (before i .«drift_bps») ∷ [])
-  plans-cut h l =
-      let e : from after 0 i ≡ from before 0 i = from-same after before 0 i (λ j b. rw (getD-set-other q i j cut (pos 0) (λ x. omega arith))) in
-      let g : getD (set q i cut) i (pos 0) ≡ cut = getD-set-same q i cut (pos 0) (omega arith) in
-      let z : 0 + i ≡ i = omega arith in
-      plans-few (i + 1) _ (omega arith) ∙ rw add-one (from-last after 0 i ∙ rw (z, e, g))
+  abbrev cutTo-list : List PlannedOrder → Counted
+  cutTo-list l = counted (length l) (cols k (map (λ o. o .quantity .0) l ++ drop (length l) q) p d)
+
+  -- the first i admitted whole
+  pub cut-whole : i ≤ 64 → from at 0 i ≡ admitted s plan → counted i (cols k q p d) ≡ cutPlan s (counted n (cols k q p d))
+  unfolding cutPlan
+  cut-whole h e =
+      ap (λ x. counted i (cols k x p d)) (front-is (λ o. o .quantity .0) q (pos 0) at (λ j. refl) q i (omega arith) refl)
+      ∙ ap (λ m. counted m (cols k (map (λ o. o .quantity .0) (from at 0 i) ++ drop (length (from at 0 i)) q) p d)) (sym (from-length at 0 i))
+      ∙ ap cutTo-list e
+
+  -- and the next one cut
+  pub cut-part : (cut : ℤ) → i < 64 → from at 0 i ++ (planned (at i .symbol .0) cut (at i .price) (at i .«drift_bps») ∷ []) ≡ admitted s plan
+      → counted (i + 1) (cols k (set q i cut) p d) ≡ cutPlan s (counted n (cols k q p d))
+  unfolding cutPlan
+  cut-part cut h e =
+      let x = planned (at i .symbol .0) cut (at i .price) (at i .«drift_bps») in
+      let l = from at 0 i ++ (x ∷ []) in
+      let m : length l ≡ i + 1 = length-append (from at 0 i) (x ∷ []) ∙ omega (arith, from-length at 0 i) in
+      ap (λ y. counted (i + 1) (cols k y p d)) (front-set (λ o. o .quantity .0) q (pos 0) at (λ j. refl) i x (omega arith))
+      ∙ ap (λ y. counted y (cols k (map (λ o. o .quantity .0) l ++ drop (length l) q) p d)) (sym m)
+      ∙ ap cutTo-list e
+
+-- symbols, prices and drifts of the admitted orders are those of the first of the plan
+module _ (s : Settings) {A : Type 0} (f : PlannedOrder → A) (kept : (o : PlannedOrder) (cut : ℤ) → f (planned (o .symbol .0) cut (o .price) (o .«drift_bps»)) ≡ f o) where
+  kept-from : (n : ℕ) (left : ℤ) (l : List PlannedOrder) → map f (admittedFrom s n left l) ≡ take (length (admittedFrom s n left l)) (map f l)
+  unfolding admittedFrom
+  kept-from n left [] = refl
+  kept-from n left (o ∷ l) = rw (admitted-follows s n left o l) (go (offered s n left (o .quantity .0) (o .price)) (λ rest. kept-from (n + 1) rest l))
+    where
+      go : (r : Offered) → ((rest : ℤ) → map f (admittedFrom s (n + 1) rest l) ≡ take (length (admittedFrom s (n + 1) rest l)) (map f l)) → map f (follows s n left o l r) ≡ take (length (follows s n left o l r)) (map f (o ∷ l))
+      go (Whole rest) h = ap (λ t. f o ∷ t) (h rest)
+      go (Part cut) h = ap (λ y. y ∷ []) (kept o cut)
+      go Ends h = refl
+
+  kept-admitted : (l : List PlannedOrder) → map f (admitted s l) ≡ take (length (admitted s l)) (map f l)
+  unfolding admitted
+  kept-admitted l = kept-from 0 (s .«max_rebalance_notional») l
+
+  -- so a column that holds them holds them after admission
+  pub kept-front : (a : List A) (d : A) (g : ℕ → PlannedOrder) → ((j : ℕ) → f (g j) ≡ getD a j d) → (n : ℕ) → n ≤ length a → length (admitted s (from g 0 n)) ≤ n
+      → a ≡ map f (admitted s (from g 0 n)) ++ drop (length (admitted s (from g 0 n))) a
+  kept-front a d g holds n h few =
+      let k = length (admitted s (from g 0 n)) in
+      let e : map f (admitted s (from g 0 n)) ≡ take k a = kept-admitted (from g 0 n) ∙ ap (take k) (taken f a d g holds 0 n (omega arith)) ∙ take-take k n a few in
+      rw e (sym (take-append-drop k a))

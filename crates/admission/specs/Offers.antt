@@ -1,11 +1,9 @@
 -- Caps, one order at a time: what becomes of an order that is offered, and what admission makes of the columns.
-use Prim.Native.Nat.{ℕ, _≤_}
-use mathlib.Core.Path.{_≡_}
-use mathlib.Core.List.{List}
-use lib.ListN.{length}
+use Prim.Native.Nat.{ℕ}
+use mathlib.Core.List.{_++_, map}
+use lib.ListN.{length, drop}
 use lib.IntN.{ℤ, pos, _-ℤ_}
 use lib.Signed.{ltZ, leZ}
-use lib.Ieee.{Float}
 use Rattle.sums.specs.Sums.{notional}
 use Rattle.table.specs.Keyed.{pick}
 use Rattle.table.specs.Rows.{isZero}
@@ -14,7 +12,7 @@ use Rattle.account.specs.declared.settings.Settings.{Settings}
 use Rattle.admission.specs.declared.cap.Offered.{Offered}
 use Rattle.admission.specs.declared.cap.Offered.the-variants.{Whole, Part, Ends}
 use Rattle.admission.specs.Admission.{reached, admitted}
-use Rattle.admission.specs.Columns.{cols, plans}
+use Rattle.admission.specs.Columns.{cols, plans, Counted, counted}
 
 -- "truncated to it by the same formula, kept if not zero and not under the minimum, and ends admission"
 unfoldable pub partOffered : Settings → ℤ → ℤ → ℤ → Offered
@@ -31,8 +29,9 @@ offered s n left quantity price =
     (pick (ltZ left (notional quantity price)) (partOffered s left quantity price)
     (Whole (left -ℤ notional quantity price)))))
 
--- the columns and count of a plan to those of its admitted orders, whatever symbols and drifts stand beside them
-pub record Admits (s : Settings) (n : ℕ) (quantity price : List ℤ) (r : ℕ) (cut : List ℤ) : Type 0 where
-  pub no-more : r ≤ n
-  pub kept : length cut ≡ length quantity
-  pub same : length quantity ≡ 64 → (symbol : List ℕ) (drift : List Float) → plans r (cols symbol cut price drift) ≡ admitted s (plans n (cols symbol quantity price drift))
+-- the plan cut to its admitted orders: their count, and their quantities in the first places; the other columns stay
+unfoldable pub cutPlan : Settings → Counted → Counted
+cutPlan s t =
+    let c = t .columns in
+    let l = admitted s (plans (t .count) c) in
+    counted (length l) (cols (c .symbol) (map (λ o. o .quantity .0) l ++ drop (length l) (c .quantity)) (c .price) (c .drift))

@@ -1,7 +1,12 @@
 // Which orders of a plan the caps admit.
 ghost use mathlib.Core.Path.{_≡_};
+ghost use mathlib.Core.List.{List};
+ghost use Prim.Native.Nat.{ℕ};
+ghost use lib.Ieee.{Float};
 ghost use Rattle.admission.specs.Admission.{capped, reached, mostOf};
-ghost use Rattle.admission.specs.Offers.{partOffered, offered, Admits};
+ghost use Rattle.admission.specs.Columns.{cols, counted};
+ghost use Rattle.admission.specs.Offers.{partOffered, offered, cutPlan};
+use crate::column::whole_numbers;
 use crate::place::used;
 use account::Settings;
 use account::TradeCap;
@@ -84,10 +89,13 @@ fn offer(s: Settings, n: usize, left: i64, quantity: Shares, price: i64) -> Offe
     Offered::Whole(left - notional)
 }
 
-// Cuts the plan of n orders to what the caps admit: returns the count, and writes the quantity of the last where it is cut.
+// Cuts the plan of n orders to what the caps admit: returns the count, and writes the quantity of the last where it is cut. Symbols and
+// drifts, whatever stands beside, take no part.
 pub fn admit(quantity: &mut [i64; 64], price: &[i64; 64], n: usize, s: Settings) -> usize
-    ensures { λ r. ⌜ Admits s n (now (quantity .entry)) (now (price .entry)) r (now (quantity .exit)) ⌝ }
+    ensures { λ r. ⌜ ((k : List ℕ) (d : List Float) → counted r (cols k (now (quantity .exit)) (now (price .entry)) d)
+        ≡ cutPlan s (counted n (cols k (now (quantity .entry)) (now (price .entry)) d))) ⌝ }
 {
+    whole_numbers(*quantity);
     let m = used(n);
     let mut left = s.max_rebalance_notional;
     let mut i = 0usize;

@@ -1,7 +1,21 @@
-// A place opened in one column of a plan.
+// One column of a plan: its 64 places, and a place opened in it.
 ghost use mathlib.Core.Path.{_≡_};
 ghost use Prim.Native.Nat.{_-_, _≤_, _<_};
+ghost use lib.ListN.{length};
 ghost use Rattle.table.specs.Rows.{opened};
+
+// An array of 64 has 64 places. A lent column is known to have them by its copy, passed here; copy and call compile to nothing.
+pub(crate) fn whole_symbols(column: [u64; 64])
+    ensures { λ _. ⌜ length column ≡ 64 ⌝ }
+{}
+
+pub(crate) fn whole_numbers(column: [i64; 64])
+    ensures { λ _. ⌜ length column ≡ 64 ⌝ }
+{}
+
+pub(crate) fn whole_drifts(column: [f64; 64])
+    ensures { λ _. ⌜ length column ≡ 64 ⌝ }
+{}
 
 // Puts v at i, and moves what stood from i to n one up.
 pub(crate) fn open_symbol(a: &mut [u64; 64], i: usize, n: usize, v: u64)

@@ -98,7 +98,7 @@ all-lists s (o ∷ os) n c l f h e =
     (plans-take (t .count) (mostOf s) (t .columns) (a .full) (omega (arith, b, h)) ∙ ap (take (mostOf s)) (a .same ∙ ap (added s o) e) ∙ sym (added-take s o (mostOf s) l)) in
     record { full = r .full; most = omega (arith, r .most, b, d); same = r .same }
 
-pub added-append : (s : Settings) (os rs l : List PlannedOrder) → addedAll s (os ++ rs) l ≡ addedAll s rs (addedAll s os l)
-unfolding addedAll
-added-append s [] rs l = refl
-added-append s (o ∷ os) rs l = added-append s os rs (added s o l)
+pub added-append : (s : Settings) (os rs : List PlannedOrder) (t : Counted) → addedAllTo s (os ++ rs) t ≡ addedAllTo s rs (addedAllTo s os t)
+unfolding addedAllTo
+added-append s [] rs t = refl
+added-append s (o ∷ os) rs t = added-append s os rs (keptWith s o t)

@@ -1,56 +1,76 @@
--- A plan made of closes and then of targets, and cut to its caps.
-use Prim.Native.Nat.{ℕ, _+_, _≤_}
-use mathlib.Core.Path.{_≡_, sym, ap, _∙_}
-use mathlib.Core.List.{List, [], _++_}
+-- A plan that is made stands in its columns: the admitted orders, in running order.
+use Prim.Native.Nat.{ℕ, _≤_}
+use mathlib.Core.Path.{_≡_, sym, ap, subst, _∙_}
+use mathlib.Core.Bool.{Bool, true, false}
+use mathlib.Core.List.{List, []}
 use native.Mathlib.Omega.{arith}
-use mathlib.Core.Bool.{true, false}
 use lib.IntN.{ℤ, pos}
-use lib.ListN.{take}
+use lib.Ieee.{Float}
 use lib.Seq.{take-nil}
+use Rattle.table.specs.Keyed.{pick}
 use Rattle.account.specs.declared.settings.Settings.{Settings}
 use Rattle.wanted.specs.declared.plan.PlannedOrder.{PlannedOrder}
 use Rattle.wanted.specs.Plan.{orderCount}
-use Rattle.wanted.proofs.Room.{count-append}
 use Rattle.admission.specs.Admission.{mostOf, addedAll, admitted}
-use Rattle.admission.specs.Columns.{Cols, cols, Full, plans, Counted, counted}
-use Rattle.admission.specs.Offers.{Admits}
+use Rattle.admission.specs.Columns.{Cols, Full, plans, Counted, counted}
+use Rattle.admission.specs.Offers.{cutPlan}
 use Rattle.admission.specs.Running.{cashFirst, inRunningOrder, notionalFrom}
-use Rattle.admission.specs.Runs.{Runs}
+use Rattle.admission.specs.Runs.{runPlan}
 use Rattle.admission.proofs.Limited.{admitted-take}
-use Rattle.admission.proofs.Plans.{plans-few, shorter-le}
-use Rattle.plan.specs.Adding.{addedAllTo, Admitted}
-use Rattle.plan.specs.Planning.{Stands}
-use Rattle.plan.proofs.Adding.{Added, all-lists, added-few, added-append}
+use Rattle.admission.proofs.Plans.{plans-few}
+use Rattle.admission.proofs.Standing.{Stood, cut-stands, run-stands}
+use Rattle.plan.specs.declared.plan.Planned.{Planned}
+use Rattle.plan.specs.Adding.{addedAllTo, wantedAt}
+use Rattle.plan.specs.Planning.{Standing, standing, summed, planMade}
+use Rattle.plan.proofs.Adding.{Added, all-lists, added-few}
 
-module _ (s : Settings) (closes targets : List PlannedOrder) (c : Cols) (f : Full c) (h : orderCount (closes ++ targets) ≤ 64) where
-  module _ (u v : Counted) (eu : u ≡ addedAllTo s closes (counted 0 c)) (ev : v ≡ addedAllTo s targets u) where
-    closed : Added s closes 0 [] u
-    closed = rw eu (all-lists s closes 0 c [] f (omega (arith, h, count-append closes targets)) (plans-few 0 c (omega arith) ∙ sym (take-nil (mostOf s))))
+-- ---- an admitted plan, run as it stands or by cash
+module _ (s : Settings) (n : ℕ) (c : Cols) (v : ℤ) (sum : v ≡ notionalFrom (pos 0) (plans n c)) where
+  pub as-planned : s .«cash_first» ≡ false → standing c (record { count = n; notional = v }) ≡ summed s (counted n c)
+  as-planned e = rw (e, sum)
 
-    targeted : Added s targets (u .count) (addedAll s closes []) v
-    targeted = rw ev (all-lists s targets (u .count) (u .columns) (addedAll s closes []) (closed .full) (omega (arith, h, closed .most, count-append closes targets)) (closed .same))
+  pub by-cash : (t : Counted) → s .«cash_first» ≡ true → t ≡ runPlan (counted n c) → standing (t .columns) (record { count = t .count; notional = v }) ≡ summed s (counted n c)
+  by-cash t e h = rw (e, sum, h)
 
-    pub made : (r : ℕ) (cut : List ℤ) → Admits s (v .count) (v .columns .quantity) (v .columns .price) r cut
-        → Admitted s (closes ++ targets) (counted r (cols (v .columns .symbol) cut (v .columns .price) (v .columns .drift)))
-    made r cut g =
-        let full = targeted .full in
-        record {
-          full = record { symbol = full .symbol; quantity = g .kept ∙ full .quantity; price = full .price; drift = full .drift };
-          few = omega (arith, g .no-more, targeted .most, closed .most, h, count-append closes targets);
-          same = g .same (full .quantity) (v .columns .symbol) (v .columns .drift)
-              ∙ ap (admitted s) (targeted .same ∙ ap (take (mostOf s)) (sym (added-append s closes targets [])))
-              ∙ admitted-take s (addedAll s (closes ++ targets) []) (omega (arith, added-few s (closes ++ targets) [], h));
-        }
+-- ---- what callers cite: full columns hold the plan
+pub record Stands (s : Settings) (plan : List PlannedOrder) (c : Cols) (r : Planned) : Type 0 where
+  pub full : Full c
+  pub few : r .count ≤ 64
+  pub same : plans (r .count) c ≡ inRunningOrder s plan
+  pub notional : r .notional ≡ notionalFrom (pos 0) plan
 
--- ---- the admitted plan, run as it stands or by cash
-module _ (s : Settings) (wanted : List PlannedOrder) (n : ℕ) (c : Cols) (g : Admitted s wanted (counted n c)) (v : ℤ) (sum : v ≡ notionalFrom (pos 0) (plans n c)) where
-  total : v ≡ notionalFrom (pos 0) (admitted s (addedAll s wanted []))
-  total = sum ∙ ap (notionalFrom (pos 0)) (g .same)
+module _ (s : Settings) (wanted : List PlannedOrder) (c : Cols) (f : Full c) (h : orderCount wanted ≤ 64) where
+  abbrev listed : Counted
+  listed = addedAllTo s wanted (counted 0 c)
 
-  pub plan-stands : (d : Cols) → s .«cash_first» ≡ false → Stands s (admitted s (addedAll s wanted [])) c d (record { count = n; notional = v })
+  abbrev plan : List PlannedOrder
+  plan = admitted s (addedAll s wanted [])
+
+  all : Added s wanted 0 [] listed
+  all = all-lists s wanted 0 c [] f (omega arith) (plans-few 0 c (omega arith) ∙ sym (take-nil (mostOf s)))
+
+  stood : Stood plan (cutPlan s listed)
+  stood =
+      subst (λ l. Stood l (cutPlan s listed))
+      (ap (admitted s) (all .same) ∙ admitted-take s (addedAll s wanted []) (omega (arith, added-few s wanted [], h)))
+      (cut-stands s (listed .count) (listed .columns) (all .full))
+
+  running : Stood (inRunningOrder s plan) (pick (s .«cash_first») (runPlan (cutPlan s listed)) (cutPlan s listed))
   unfolding inRunningOrder
-  plan-stands d e = record { full = simp e (g .full); few = g .few; same = simp e (g .same); notional = total }
+  running = go (s .«cash_first»)
+    where
+      go : (b : Bool) → Stood (pick b (cashFirst plan []) plan) (pick b (runPlan (cutPlan s listed)) (cutPlan s listed))
+      go true = subst (λ l. Stood (cashFirst l []) (runPlan (cutPlan s listed))) (stood .same) (run-stands (cutPlan s listed .count) (cutPlan s listed .columns) (stood .full))
+      go false = stood
 
-  pub plan-runs : (b d : Cols) (r : ℕ) → s .«cash_first» ≡ true → Full b → Runs n c b r d → Stands s (admitted s (addedAll s wanted [])) c d (record { count = r; notional = v })
-  unfolding inRunningOrder
-  plan-runs b d r e f w = record { full = simp e (w .full f); few = omega (arith, w .count, shorter-le n 64); same = simp e (w .same f ∙ ap (λ l. cashFirst l []) (g .same)); notional = total }
+  stands : (d : Cols) (r : Planned) → standing d r ≡ summed s (cutPlan s listed) → Stands s plan d r
+  stands d r e =
+      let k : d ≡ summed s (cutPlan s listed) .columns = ap (λ x. x .columns) e in
+      let n : r .count ≡ summed s (cutPlan s listed) .planned .count = ap (λ x. x .planned .count) e in
+      record { full = rw k (running .full); few = rw n (running .few); same = rw (k, n) (running .same); notional = ap (λ x. x .planned .notional) e ∙ ap (notionalFrom (pos 0)) (stood .same) }
+
+pub made-stands : (s : Settings) (equity : ℤ) (price : ℕ → ℤ) (n : ℕ) (ks : List ℕ) (qs : List ℤ) (targets : List ℕ) (weights : List Float) (c : Cols) → Full c
+    → orderCount (wantedAt s equity price n ks qs targets weights) ≤ 64 → (d : Cols) (r : Planned) → standing d r ≡ planMade s equity price n ks qs targets weights c
+    → Stands s (admitted s (addedAll s (wantedAt s equity price n ks qs targets weights) [])) d r
+unfolding planMade
+made-stands s equity price n ks qs targets weights c f h d r e = stands s (wantedAt s equity price n ks qs targets weights) c f h d r e

@@ -1,5 +1,5 @@
 -- Orders added to the columns of a plan one after another, and the orders that the places of a table and of the targets ask for.
-use Prim.Native.Nat.{ℕ, _≤_}
+use Prim.Native.Nat.{ℕ}
 use mathlib.Core.Path.{_≡_}
 use mathlib.Core.List.{List, [], _∷_, _++_}
 use lib.IntN.{ℤ, pos}
@@ -13,9 +13,10 @@ use Rattle.table.specs.declared.found.Found.the-variants.{At, Absent}
 use Rattle.call_lists.specs.Lists.{among, priceOf}
 use Rattle.account.specs.declared.settings.Settings.{Settings}
 use Rattle.wanted.specs.declared.plan.PlannedOrder.{PlannedOrder}
-use Rattle.wanted.specs.Plan.{plannedClose, plannedTarget, orderCount}
-use Rattle.admission.specs.Admission.{capped, mostOf, addedAll, admitted}
-use Rattle.admission.specs.Columns.{Full, from, plans, Counted, counted, addedTo}
+use Rattle.wanted.specs.Plan.{plannedClose, plannedTarget}
+use Rattle.admission.specs.Admission.{capped, mostOf}
+use Rattle.admission.specs.Columns.{from, Counted, counted, addedTo}
+use Rattle.admission.specs.Offers.{cutPlan}
 
 -- one order more, in a plan that is kept to the most that its trade cap admits
 abbrev pub keptWith : Settings → PlannedOrder → Counted → Counted
@@ -64,19 +65,6 @@ pub record Targets (s : Settings) (equity : ℤ) (ks : List ℕ) (qs : List ℤ)
 unfoldable pub wantedAt : Settings → ℤ → (ℕ → ℤ) → ℕ → List ℕ → List ℤ → List ℕ → List Float → List PlannedOrder
 wantedAt s equity price n ks qs targets weights = closesAt s equity price targets n ks qs ++ targetsAt s equity price (take n ks) qs targets weights
 
--- what a plan of these orders is made under: symbols that ascend, full columns, and room
-pub record Room (n : ℕ) (ks symbols : List ℕ) (wanted : List PlannedOrder) (t : Counted) : Type 0 where
-  pub prices : Rising symbols
-  pub holdings : Rising (take n ks)
-  pub full : Full (t .columns)
-  pub most : orderCount wanted ≤ 64
-
--- the plan u holds the orders that are wanted, as the caps admit them
-pub record Admitted (s : Settings) (wanted : List PlannedOrder) (u : Counted) : Type 0 where
-  pub full : Full (u .columns)
-  pub few : u .count ≤ 64
-  pub same : plans (u .count) (u .columns) ≡ admitted s (addedAll s wanted [])
-
--- the columns of t to the plan u
+-- the plan t to u: these orders are added and cut to what the caps admit, where the symbols of the prices and those of the holdings ascend
 pub record Makes (s : Settings) (equity : ℤ) (ks : List ℕ) (qs : List ℤ) (n : ℕ) (targets : List ℕ) (weights : List Float) (symbols : List ℕ) (prices : List ℤ) (t u : Counted) : Type 0 where
-  pub settled : let wanted = wantedAt s equity (priceOf symbols prices) n ks qs targets weights in Room n ks symbols wanted t → Admitted s wanted u
+  pub settled : Rising symbols → Rising (take n ks) → u ≡ cutPlan s (addedAllTo s (wantedAt s equity (priceOf symbols prices) n ks qs targets weights) t)

@@ -1,26 +1,38 @@
 -- What a rebalance's plan comes to: its orders in running order, their count and their notional.
-use Prim.Native.Nat.{ℕ, _≤_}
+use Prim.Native.Nat.{ℕ}
 use mathlib.Core.Path.{_≡_}
-use mathlib.Core.List.{List, []}
+use mathlib.Core.List.{List}
 use lib.IntN.{ℤ, pos}
+use lib.ListN.{take}
 use lib.Ieee.{Float}
-use Rattle.table.specs.Keyed.{pick}
+use Rattle.table.specs.Keyed.{pick, Rising}
 use Rattle.call_lists.specs.Lists.{priceOf}
 use Rattle.account.specs.declared.settings.Settings.{Settings}
-use Rattle.wanted.specs.declared.plan.PlannedOrder.{PlannedOrder}
-use Rattle.admission.specs.Admission.{addedAll, admitted}
-use Rattle.admission.specs.Running.{inRunningOrder, notionalFrom}
-use Rattle.admission.specs.Columns.{Cols, Full, plans, counted}
+use Rattle.admission.specs.Running.{notionalFrom}
+use Rattle.admission.specs.Columns.{Cols, plans, Counted, counted}
+use Rattle.admission.specs.Offers.{cutPlan}
+use Rattle.admission.specs.Runs.{runPlan}
 use Rattle.plan.specs.declared.plan.Planned.{Planned}
-use Rattle.plan.specs.Adding.{wantedAt, Room}
+use Rattle.plan.specs.Adding.{addedAllTo, wantedAt}
 
--- the plan stands in the columns d of the run in cash-first mode, else in the columns c
-pub record Stands (s : Settings) (plan : List PlannedOrder) (c d : Cols) (r : Planned) : Type 0 where
-  pub full : Full (pick (s .«cash_first») d c)
-  pub few : r .count ≤ 64
-  pub same : plans (r .count) (pick (s .«cash_first») d c) ≡ inRunningOrder s plan
-  pub notional : r .notional ≡ notionalFrom (pos 0) plan
+-- a plan where it stands: the columns, and the count and notional of its orders
+pub record Standing : Type 0 where
+  pub columns : Cols
+  pub planned : Planned
 
--- from the columns a and b
-pub record Plans (s : Settings) (equity : ℤ) (ks : List ℕ) (qs : List ℤ) (n : ℕ) (targets : List ℕ) (weights : List Float) (symbols : List ℕ) (prices : List ℤ) (a b c d : Cols) (r : Planned) : Type 0 where
-  pub settled : let wanted = wantedAt s equity (priceOf symbols prices) n ks qs targets weights in Room n ks symbols wanted (counted 0 a) → Full b → Stands s (admitted s (addedAll s wanted [])) c d r
+abbrev pub standing : Cols → Planned → Standing
+standing c r = record { columns = c; planned = r }
+
+-- an admitted plan with what it comes to, put into running order in cash-first mode
+abbrev pub summed : Settings → Counted → Standing
+summed s t =
+    let u = pick (s .«cash_first») (runPlan t) t in
+    standing (u .columns) (record { count = u .count; notional = notionalFrom (pos 0) (plans (t .count) (t .columns)) })
+
+-- the plan of what is wanted, made in the columns c
+unfoldable pub planMade : Settings → ℤ → (ℕ → ℤ) → ℕ → List ℕ → List ℤ → List ℕ → List Float → Cols → Standing
+planMade s equity price n ks qs targets weights c = summed s (cutPlan s (addedAllTo s (wantedAt s equity price n ks qs targets weights) (counted 0 c)))
+
+-- the columns c to d, where the symbols of the prices and those of the holdings ascend
+pub record Plans (s : Settings) (equity : ℤ) (ks : List ℕ) (qs : List ℤ) (n : ℕ) (targets : List ℕ) (weights : List Float) (symbols : List ℕ) (prices : List ℤ) (c d : Cols) (r : Planned) : Type 0 where
+  pub settled : Rising symbols → Rising (take n ks) → standing d r ≡ planMade s equity (priceOf symbols prices) n ks qs targets weights c

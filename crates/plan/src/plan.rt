@@ -70,7 +70,7 @@ pub fn admit_plan<'a>(
     admit(quantity, price, wanted, s)
 }
 
-// The same, and "admitted sells run before admitted buys" in cash-first mode, in columns of their own.
+// The same, in cash-first mode put into running order: "admitted sells run before admitted buys". What the orders come to is summed as admitted.
 pub fn make_plan<'a>(
     key: &'a [u64; 64],
     held: &'a [i64; 64],
@@ -85,16 +85,10 @@ pub fn make_plan<'a>(
     quantity: &mut [i64; 64],
     price: &mut [i64; 64],
     drift: &mut [f64; 64],
-    run_symbol: &mut [u64; 64],
-    run_quantity: &mut [i64; 64],
-    run_price: &mut [i64; 64],
-    run_drift: &mut [f64; 64],
 ) -> Planned
     ensures { λ r. ⌜ Plans s equity (now (key .entry)) (now (held .entry)) n (now (targets .entry)) (now (weights .entry)) (now (symbols .entry)) (now (prices .entry))
         (cols (now (symbol .entry)) (now (quantity .entry)) (now (price .entry)) (now (drift .entry)))
-        (cols (now («run_symbol» .entry)) (now («run_quantity» .entry)) (now («run_price» .entry)) (now («run_drift» .entry)))
-        (cols (now (symbol .exit)) (now (quantity .exit)) (now (price .exit)) (now (drift .exit)))
-        (cols (now («run_symbol» .exit)) (now («run_quantity» .exit)) (now («run_price» .exit)) (now («run_drift» .exit))) r ⌝ }
+        (cols (now (symbol .exit)) (now (quantity .exit)) (now (price .exit)) (now (drift .exit))) r ⌝ }
 {
     let count = admit_plan(
         key,
@@ -113,17 +107,7 @@ pub fn make_plan<'a>(
     );
     let notional = notional_sum(quantity, price, count);
     if s.cash_first {
-        let ran = run_order(
-            symbol,
-            quantity,
-            price,
-            drift,
-            count,
-            run_symbol,
-            run_quantity,
-            run_price,
-            run_drift,
-        );
+        let ran = run_order(symbol, quantity, price, drift, count);
         return Planned {
             count: ran,
             notional,

@@ -36,8 +36,9 @@ use Rattle.admission.proofs.Plans.{plans-few, plans-length, shorter-same}
 use Rattle.admission.proofs.Kept.{running-length}
 use Rattle.plan.specs.declared.plan.Planned.{Planned}
 use Rattle.plan.specs.Adding.{wantedAt}
-use Rattle.plan.specs.Planning.{Stands}
+use Rattle.plan.specs.Planning.{standing, planMade}
 use Rattle.plan.proofs.Held.{wanted-of-rows, plan-of-rows}
+use Rattle.plan.proofs.Made.{Stands, made-stands}
 use Rattle.portfolio.specs.Answers.{hasRoom, notHeld}
 use Rattle.portfolio.specs.Rebalance.{orderOf, admittedPlan, afterPlan, afterRebalance}
 use Rattle.portfolio.specs.Trades.{afterOrders}
@@ -72,27 +73,9 @@ no-run s = go (s .«cash_first»)
     go true = refl
     go false = refl
 
-module _ (s : Settings) (cash : ℤ) (price : ℕ → ℤ) (n : ℕ) (ks : List ℕ) (qs : List ℤ) (targets : List ℕ) (weights : List Float) where
-  -- "At equity 0 or below the call is done with no orders and both last-rebalance figures 0"
-  pub plan-none : (c d : Cols) → Full c → Full d → leZ (equityAt price cash n ks qs) (pos 0) ≡ true → Stands s (planAt s cash price n ks qs targets weights) c d (record { count = 0; notional = pos 0 })
-  unfolding planAt notionalFrom
-  plan-none c d f g e =
-      rw e
-      (record {
-        full = go (s .«cash_first»);
-        few = omega arith;
-        same = plans-few 0 (pick (s .«cash_first») d c) (omega arith) ∙ sym (no-run s);
-        notional = refl;
-      })
-    where
-      go : (b : Bool) → Full (pick b d c)
-      go true = g
-      go false = f
-
-  pub plan-some : (c d : Cols) (r : Planned) → leZ (equityAt price cash n ks qs) (pos 0) ≡ false
-      → Stands s (admitted s (addedAll s (wantedAt s (equityAt price cash n ks qs) price n ks qs targets weights) [])) c d r → Stands s (planAt s cash price n ks qs targets weights) c d r
-  unfolding planAt
-  plan-some c d r e p = rw e p
+no-plan : (s : Settings) (c : Cols) → Full c → Stands s [] c (record { count = 0; notional = pos 0 })
+unfolding notionalFrom
+no-plan s c f = record { full = f; few = omega arith; same = plans-few 0 c (omega arith) ∙ sym (no-run s); notional = refl }
 
 -- ---- of an account
 module _ (a : Account) (ts : List ℕ) (ws : List Float) (ps : List ℕ) (room : ℕ) (y : Ready a ts ws ps room) (price : ℕ → ℤ) where
@@ -105,8 +88,11 @@ module _ (a : Account) (ts : List ℕ) (ws : List Float) (ps : List ℕ) (room :
   own-equity : at-places ≡ own
   own-equity = equity-of-places price a (y .sound) (y .full)
 
-  plan-of-account : planAt (a .settings) (a .cash) price (a .positions .count) (a .positions .symbol) (a .positions .quantity) ts ws ≡ admittedPlan a ts ws price
-  unfolding planAt admittedPlan
+  abbrev wanted-at : List PlannedOrder
+  wanted-at = wantedAt (a .settings) at-places price (a .positions .count) (a .positions .symbol) (a .positions .quantity) ts ws
+
+  plan-of-account : pick (leZ at-places (pos 0)) [] (admitted (a .settings) (addedAll (a .settings) wanted-at [])) ≡ admittedPlan a ts ws price
+  unfolding admittedPlan
   plan-of-account =
       rw own-equity
       (ap (pick (leZ own (pos 0)) []) (plan-of-rows (a .settings) own price ts (columnsOf (a .positions)) ws (a .positions .count) (account-ordered a (y .sound) (y .full)) (y .paired)))
@@ -126,17 +112,25 @@ module _ (a : Account) (ts : List ℕ) (ws : List Float) (ps : List ℕ) (room :
         y .few,
       )
 
-  few-orders : orderCount (wantedAt (a .settings) at-places price (a .positions .count) (a .positions .symbol) (a .positions .quantity) ts ws) ≤ 64
+  few-orders : orderCount wanted-at ≤ 64
   few-orders =
       rw (wanted-of-rows (a .settings) at-places price ts (columnsOf (a .positions)) ws (a .positions .count) (account-ordered a (y .sound) (y .full)) (y .paired)) (few-wanted at-places)
 
+  -- at equity 0 or below, or else
+  stands-by : (b : Bool) (k c : Cols) (r : Planned) → Full k
+      → standing c r ≡ pick b (standing k (record { count = 0; notional = pos 0 })) (planMade (a .settings) at-places price (a .positions .count) (a .positions .symbol) (a .positions .quantity) ts ws k)
+      → Stands (a .settings) (pick b [] (admitted (a .settings) (addedAll (a .settings) wanted-at []))) c r
+  stands-by true k c r f e = rw (ap (λ x. x .columns) e, ap (λ x. x .planned) e) (no-plan (a .settings) k f)
+  stands-by false k c r f e = made-stands (a .settings) at-places price (a .positions .count) (a .positions .symbol) (a .positions .quantity) ts ws k f few-orders c r e
+
 -- what the function that plans it answers
-pub account-stands : (a : Account) (ts : List ℕ) (ws : List Float) (ps : List ℕ) (vs : List ℤ) (room : ℕ) → Ready a ts ws ps room → (k l c d : Cols) (r : Planned)
-    → Full k → Full l → Plans (a .settings) (a .cash) (a .positions .symbol) (a .positions .quantity) (a .positions .count) ts ws ps vs k l c d r → Stands (a .settings) (admittedPlan a ts ws (priceOf ps vs)) c d r
-account-stands a ts ws ps vs room y k l c d r fk fl p =
+pub account-stands : (a : Account) (ts : List ℕ) (ws : List Float) (ps : List ℕ) (vs : List ℤ) (room : ℕ) → Ready a ts ws ps room → (k c : Cols) (r : Planned)
+    → Full k → Plans (a .settings) (a .cash) (a .positions .symbol) (a .positions .quantity) (a .positions .count) ts ws ps vs k c r → Stands (a .settings) (admittedPlan a ts ws (priceOf ps vs)) c r
+unfolding planAt
+account-stands a ts ws ps vs room y k c r f p =
     let price = priceOf ps vs in
-    subst (λ plan. Stands (a .settings) plan c d r) (plan-of-account a ts ws ps room y price)
-    (p .settled (record { priced = y .priced; held = account-ordered a (y .sound) (y .full) .rising; plan = fk; run = fl; most = few-orders a ts ws ps room y price }))
+    subst (λ plan. Stands (a .settings) plan c r) (plan-of-account a ts ws ps room y price)
+    (stands-by a ts ws ps room y price (leZ (at-places a ts ws ps room y price) (pos 0)) k c r f (p .settled (y .priced) (account-ordered a (y .sound) (y .full) .rising)))
 
 -- ---- the columns of a plan as orders
 orders-from : (c : Cols) → Full c → (n i k : ℕ) → n ≤ 64 → i + k ≡ n → drop i (orders n (c .symbol) (c .quantity) (c .price)) ≡ map orderOf (from (orderAt c) i k)
@@ -157,16 +151,14 @@ room-for a m room h e = go (a .settings .recording) e
     go true q = le-leb m room (omega (arith, leb-true 64 room q, h))
     go false q = refl
 
-module _ (a : Account) (plan : List PlannedOrder) (c d : Cols) (r : Planned) (h : Stands (a .settings) plan c d r) where
+module _ (a : Account) (plan : List PlannedOrder) (c : Cols) (r : Planned) (h : Stands (a .settings) plan c r) where
   counted : r .count ≡ length plan
-  counted = omega (arith, ap length (h .same), running-length (a .settings) plan, plans-length (r .count) (pick (a .settings .«cash_first») d c), shorter-same (r .count) 64 (h .few))
+  counted = omega (arith, ap length (h .same), running-length (a .settings) plan, plans-length (r .count) c, shorter-same (r .count) 64 (h .few))
 
-  pub run-rebalances : (x : Cols) → x ≡ pick (a .settings .«cash_first») d c → (period : ℕ) (kind : ExecutionKind)
-      → afterOrders a (orders (r .count) (x .symbol) (x .quantity) (x .price)) period kind (r .count) (r .notional) ≡ afterRebalance a plan period kind
+  pub run-rebalances : (period : ℕ) (kind : ExecutionKind) → afterOrders a (orders (r .count) (c .symbol) (c .quantity) (c .price)) period kind (r .count) (r .notional) ≡ afterRebalance a plan period kind
   unfolding afterRebalance afterPlan
-  run-rebalances x e period kind =
-      let f : Full x = rw e (h .full) in
-      let run : orders (r .count) (x .symbol) (x .quantity) (x .price) ≡ map orderOf (inRunningOrder (a .settings) plan) = orders-of-plan (r .count) x f (h .few) ∙ ap (map orderOf) (ap (plans (r .count)) e ∙ h .same) in
+  run-rebalances period kind =
+      let run : orders (r .count) (c .symbol) (c .quantity) (c .price) ≡ map orderOf (inRunningOrder (a .settings) plan) = orders-of-plan (r .count) c (h .full) (h .few) ∙ ap (map orderOf) (h .same) in
       ap (λ os. afterOrders a os period kind (r .count) (r .notional)) run
       ∙ ap (λ n. afterOrders a (map orderOf (inRunningOrder (a .settings) plan)) period kind n (r .notional)) counted
       ∙ ap (afterOrders a (map orderOf (inRunningOrder (a .settings) plan)) period kind (length plan)) (h .notional)

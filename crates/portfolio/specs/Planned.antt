@@ -18,14 +18,10 @@ use Rattle.call_lists.specs.Lists.{distinct, priceOf}
 use Rattle.account.specs.declared.account.Account.{Account}
 use Rattle.account.specs.declared.settings.Settings.{Settings}
 use Rattle.account.specs.Account.{soundAccount, heldIn}
-use Rattle.wanted.specs.declared.plan.PlannedOrder.{PlannedOrder}
-use Rattle.wanted.specs.Plan.{orderCount}
 use Rattle.wanted.specs.Equity.{worthPlaces}
-use Rattle.admission.specs.Admission.{addedAll, admitted}
-use Rattle.admission.specs.Columns.{Cols, Full}
+use Rattle.admission.specs.Columns.{Cols}
 use Rattle.plan.specs.declared.plan.Planned.{Planned}
-use Rattle.plan.specs.Adding.{wantedAt}
-use Rattle.plan.specs.Planning.{Stands}
+use Rattle.plan.specs.Planning.{Standing, standing, planMade}
 use Rattle.portfolio.specs.Answers.{hasRoom, notHeld}
 
 -- ---- targets that are not held
@@ -47,23 +43,15 @@ pub record Lacking (ks : List ℕ) (n : ℕ) (targets : List ℕ) (r : ℕ) : Ty
 abbrev pub equityAt : (ℕ → ℤ) → ℤ → ℕ → List ℕ → List ℤ → ℤ
 equityAt price cash n ks qs = satAdd cash (worthPlaces price (shorter n 64) ks qs)
 
--- "At equity 0 or below the call is done with no orders"
-unfoldable pub planAt : Settings → ℤ → (ℕ → ℤ) → ℕ → List ℕ → List ℤ → List ℕ → List Float → List PlannedOrder
-planAt s cash price n ks qs targets weights =
+-- "At equity 0 or below the call is done with no orders and both last-rebalance figures 0"
+unfoldable pub planAt : Settings → ℤ → (ℕ → ℤ) → ℕ → List ℕ → List ℤ → List ℕ → List Float → Cols → Standing
+planAt s cash price n ks qs targets weights c =
     let equity = equityAt price cash n ks qs in
-    pick (leZ equity (pos 0)) [] (admitted s (addedAll s (wantedAt s equity price n ks qs targets weights) []))
+    pick (leZ equity (pos 0)) (standing c (record { count = 0; notional = pos 0 })) (planMade s equity price n ks qs targets weights c)
 
--- what a plan is made under: symbols that ascend, full columns, and room for its orders
-pub record Room (s : Settings) (cash : ℤ) (ks : List ℕ) (qs : List ℤ) (n : ℕ) (targets : List ℕ) (weights : List Float) (symbols : List ℕ) (prices : List ℤ) (a b : Cols) : Type 0 where
-  pub priced : Rising symbols
-  pub held : Rising (take n ks)
-  pub plan : Full a
-  pub run : Full b
-  pub most : let price = priceOf symbols prices in orderCount (wantedAt s (equityAt price cash n ks qs) price n ks qs targets weights) ≤ 64
-
--- from the columns a and b
-pub record Plans (s : Settings) (cash : ℤ) (ks : List ℕ) (qs : List ℤ) (n : ℕ) (targets : List ℕ) (weights : List Float) (symbols : List ℕ) (prices : List ℤ) (a b c d : Cols) (r : Planned) : Type 0 where
-  pub settled : Room s cash ks qs n targets weights symbols prices a b → Stands s (planAt s cash (priceOf symbols prices) n ks qs targets weights) c d r
+-- the columns c to d, where the symbols of the prices and those of the holdings ascend
+pub record Plans (s : Settings) (cash : ℤ) (ks : List ℕ) (qs : List ℤ) (n : ℕ) (targets : List ℕ) (weights : List Float) (symbols : List ℕ) (prices : List ℤ) (c d : Cols) (r : Planned) : Type 0 where
+  pub settled : Rising symbols → Rising (take n ks) → standing d r ≡ planAt s cash (priceOf symbols prices) n ks qs targets weights c
 
 -- ---- a rebalance that is not refused, at prices whose symbols ascend
 pub record Ready (a : Account) (targets : List ℕ) (weights : List Float) (symbols : List ℕ) (room : ℕ) : Type 0 where

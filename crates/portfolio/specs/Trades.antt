@@ -16,7 +16,7 @@ use Rattle.fills.specs.Records.{allWords, allInts, fronted}
 use Rattle.fills.specs.Fill.{fillAll}
 use Rattle.account.specs.declared.account.Account.{Account}
 use Rattle.account.specs.declared.account.Ledger.{Ledger}
-use Rattle.account.specs.Account.{accountWith, ledgerOf, soundAccount}
+use Rattle.account.specs.Account.{accountWith, soundAccount}
 use Rattle.portfolio.specs.declared.trade.Ran.{Ran}
 use Rattle.portfolio.specs.declared.trade.Traded.{Traded}
 use Rattle.portfolio.specs.Answers.{hasRoom}
@@ -50,11 +50,6 @@ afterOrders a os period kind orders traded = record {
 }
 
 -- ---- the same on lent columns
--- the ledger of an account, whose columns have 64 places
-pub record Begins (a : Account) (h : Ledger) : Type 0 where
-  pub same : h ≡ ledgerOf a
-  pub full : Full (columnsOf (a .positions))
-
 -- what a call on a ledger answers, with the columns as it leaves them
 abbrev pub tradedOn : Ran → Cols → Traded
 tradedOn r c = record { answer = r .answer; records = r .records; account = accountWith (r .ledger) c }

@@ -1,7 +1,7 @@
 // Closing one position at a price.
 ghost use mathlib.Core.Path.{_≡_};
 ghost use lib.ListN.{length};
-ghost use Rattle.table.specs.Rows.{cols, Full};
+ghost use Rattle.table.specs.Rows.{cols};
 ghost use Rattle.account.specs.Account.{accountWith};
 ghost use Rattle.portfolio.specs.Answers.{places};
 ghost use Rattle.portfolio.specs.Close.{closed};
@@ -14,6 +14,7 @@ use crate::trade::Traded;
 use crate::trade::ledger_of;
 use crate::trade::run;
 use crate::trade::traded_on;
+use crate::trade::whole_columns;
 use account::Account;
 use account::Ledger;
 use answer::is_done;
@@ -34,12 +35,12 @@ pub fn close_on(
     words: &mut [u64],
     ints: &mut [i64],
 ) -> Ran
-    ensures { λ r. ⌜ (Full (cols (now (symbol .entry)) (now (quantity .entry)) (now (average .entry)) (now (realized .entry)) (now (total .entry)))
-        → filedBy (tradedOn r (cols (now (symbol .exit)) (now (quantity .exit)) (now (average .exit)) (now (realized .exit)) (now (total .exit))))
-        (now (words .exit)) (now (ints .exit))
-        ≡ filed (closed (accountWith h (cols (now (symbol .entry)) (now (quantity .entry)) (now (average .entry)) (now (realized .entry)) (now (total .entry))))
-        s price period kind (places (length (now (words .entry))) (length (now (ints .entry))))) (now (words .entry)) (now (ints .entry))) ⌝ }
+    ensures { λ r. ⌜ (let c = cols (now (symbol .entry)) (now (quantity .entry)) (now (average .entry)) (now (realized .entry)) (now (total .entry)) in
+        let d = cols (now (symbol .exit)) (now (quantity .exit)) (now (average .exit)) (now (realized .exit)) (now (total .exit)) in
+        filedBy (tradedOn r d) (now (words .exit)) (now (ints .exit))
+        ≡ filed (closed (accountWith h c) s price period kind (places (length (now (words .entry))) (length (now (ints .entry))))) (now (words .entry)) (now (ints .entry))) ⌝ }
 {
+    whole_columns(*symbol, *quantity, *average, *realized, *total);
     let room = places(words.len(), ints.len());
     let answer = close_answer(
         h,

@@ -18,7 +18,7 @@ use call_lists::sort_prices;
 use wanted::total_worth;
 
 // Cash and what the first n places are worth. Prices whose symbols ascend are used in place; others are sorted first.
-pub(crate) fn equity_in<'a>(
+pub(crate) fn equity_on<'a>(
     symbol: &'a [u64; 64],
     quantity: &'a [i64; 64],
     n: usize,
@@ -47,7 +47,7 @@ pub(crate) fn equity_of(a: Account, symbols: &[u64], prices: &[i64]) -> i64
     ensures { λ r. ⌜ r ≡ equityOf (priceOf (now (symbols .entry)) (now (prices .entry))) (a .cash) (heldIn (a .positions)) ⌝ }
 {
     let t = a.positions;
-    equity_in(&t.symbol, &t.quantity, t.count, a.cash, symbols, prices)
+    equity_on(&t.symbol, &t.quantity, t.count, a.cash, symbols, prices)
 }
 
 pub fn total_equity(a: Account, symbols: &[u64], prices: &[i64]) -> Cents

@@ -2,7 +2,7 @@
 ghost use mathlib.Core.Path.{_≡_};
 ghost use lib.ListN.{length};
 ghost use Rattle.call_lists.specs.Lists.{priceOf};
-ghost use Rattle.table.specs.Rows.{cols, Full};
+ghost use Rattle.table.specs.Rows.{cols};
 ghost use Rattle.account.specs.Account.{accountWith};
 ghost use Rattle.admission.specs.Columns as admission;
 ghost use Rattle.portfolio.specs.Answers.{places};
@@ -16,6 +16,7 @@ use crate::trade::Traded;
 use crate::trade::ledger_of;
 use crate::trade::run;
 use crate::trade::traded_on;
+use crate::trade::whole_columns;
 use account::Account;
 use account::Ledger;
 use account::Settings;
@@ -29,7 +30,7 @@ use wanted::total_worth;
 
 // "At equity 0 or below the call is done with no orders and both last-rebalance figures 0": else the plan of what is held, in columns that the
 // caller lends.
-fn plan_at<'a>(
+fn plan_on<'a>(
     key: &'a [u64; 64],
     held: &'a [i64; 64],
     n: usize,
@@ -43,16 +44,10 @@ fn plan_at<'a>(
     quantity: &mut [i64; 64],
     price: &mut [i64; 64],
     drift: &mut [f64; 64],
-    run_symbol: &mut [u64; 64],
-    run_quantity: &mut [i64; 64],
-    run_price: &mut [i64; 64],
-    run_drift: &mut [f64; 64],
 ) -> Planned
     ensures { λ r. ⌜ Plans s cash (now (key .entry)) (now (held .entry)) n (now (targets .entry)) (now (weights .entry)) (now (symbols .entry)) (now (prices .entry))
         (admission.cols (now (symbol .entry)) (now (quantity .entry)) (now (price .entry)) (now (drift .entry)))
-        (admission.cols (now («run_symbol» .entry)) (now («run_quantity» .entry)) (now («run_price» .entry)) (now («run_drift» .entry)))
-        (admission.cols (now (symbol .exit)) (now (quantity .exit)) (now (price .exit)) (now (drift .exit)))
-        (admission.cols (now («run_symbol» .exit)) (now («run_quantity» .exit)) (now («run_price» .exit)) (now («run_drift» .exit))) r ⌝ }
+        (admission.cols (now (symbol .exit)) (now (quantity .exit)) (now (price .exit)) (now (drift .exit))) r ⌝ }
 {
     let equity = sums::saturating_add(cash, total_worth(key, held, n, symbols, prices));
     if equity <= 0 {
@@ -75,15 +70,11 @@ fn plan_at<'a>(
         quantity,
         price,
         drift,
-        run_symbol,
-        run_quantity,
-        run_price,
-        run_drift,
     )
 }
 
-// Plans at prices whose symbols ascend, and fills: in cash-first mode the columns of the run, else those of the plan.
-fn rebalance_at(
+// Plans at prices whose symbols ascend, and fills the plan as it stands then.
+fn plan_and_fill(
     h: Ledger,
     symbol: &mut [u64; 64],
     quantity: &mut [i64; 64],
@@ -99,24 +90,18 @@ fn rebalance_at(
     words: &mut [u64],
     ints: &mut [i64],
 ) -> Ran
-    ensures { λ r. ⌜ (Ready (accountWith h (cols (now (symbol .entry)) (now (quantity .entry)) (now (average .entry)) (now (realized .entry)) (now (total .entry))))
-        (now (targets .entry)) (now (weights .entry)) (now (symbols .entry)) (places (length (now (words .entry))) (length (now (ints .entry))))
-        → filedBy (tradedOn r (cols (now (symbol .exit)) (now (quantity .exit)) (now (average .exit)) (now (realized .exit)) (now (total .exit))))
-        (now (words .exit)) (now (ints .exit))
-        ≡ filed (afterRebalance (accountWith h (cols (now (symbol .entry)) (now (quantity .entry)) (now (average .entry)) (now (realized .entry)) (now (total .entry))))
-        (admittedPlan (accountWith h (cols (now (symbol .entry)) (now (quantity .entry)) (now (average .entry)) (now (realized .entry)) (now (total .entry))))
-        (now (targets .entry)) (now (weights .entry)) (priceOf (now (symbols .entry)) (now (prices .entry)))) period kind) (now (words .entry)) (now (ints .entry))) ⌝ }
+    ensures { λ r. ⌜ (let c = cols (now (symbol .entry)) (now (quantity .entry)) (now (average .entry)) (now (realized .entry)) (now (total .entry)) in
+        let d = cols (now (symbol .exit)) (now (quantity .exit)) (now (average .exit)) (now (realized .exit)) (now (total .exit)) in
+        Ready (accountWith h c) (now (targets .entry)) (now (weights .entry)) (now (symbols .entry)) (places (length (now (words .entry))) (length (now (ints .entry))))
+        → filedBy (tradedOn r d) (now (words .exit)) (now (ints .exit))
+        ≡ filed (afterRebalance (accountWith h c) (admittedPlan (accountWith h c) (now (targets .entry)) (now (weights .entry)) (priceOf (now (symbols .entry)) (now (prices .entry)))) period kind)
+        (now (words .entry)) (now (ints .entry))) ⌝ }
 {
-    let s = h.settings;
     let mut os = [0u64; 64];
     let mut oq = [0i64; 64];
     let mut op = [0i64; 64];
     let mut od = [0.0f64; 64];
-    let mut rs = [0u64; 64];
-    let mut rq = [0i64; 64];
-    let mut rp = [0i64; 64];
-    let mut rd = [0.0f64; 64];
-    let p = plan_at(
+    let p = plan_on(
         symbol,
         quantity,
         h.count,
@@ -124,40 +109,15 @@ fn rebalance_at(
         weights,
         symbols,
         prices,
-        s,
+        h.settings,
         h.cash,
         &mut os,
         &mut oq,
         &mut op,
         &mut od,
-        &mut rs,
-        &mut rq,
-        &mut rp,
-        &mut rd,
     );
     let m = p.count;
     let n = m as u64;
-    let v = p.notional;
-    if s.cash_first {
-        return run(
-            symbol,
-            quantity,
-            average,
-            realized,
-            total,
-            &rs,
-            &rq,
-            &rp,
-            m,
-            period,
-            kind,
-            n,
-            v,
-            words,
-            ints,
-            h,
-        );
-    }
     run(
         symbol,
         quantity,
@@ -171,7 +131,7 @@ fn rebalance_at(
         period,
         kind,
         n,
-        v,
+        p.notional,
         words,
         ints,
         h,
@@ -195,13 +155,13 @@ pub fn rebalance_on(
     words: &mut [u64],
     ints: &mut [i64],
 ) -> Ran
-    ensures { λ r. ⌜ (Full (cols (now (symbol .entry)) (now (quantity .entry)) (now (average .entry)) (now (realized .entry)) (now (total .entry)))
-        → filedBy (tradedOn r (cols (now (symbol .exit)) (now (quantity .exit)) (now (average .exit)) (now (realized .exit)) (now (total .exit))))
-        (now (words .exit)) (now (ints .exit))
-        ≡ filed (rebalanced (accountWith h (cols (now (symbol .entry)) (now (quantity .entry)) (now (average .entry)) (now (realized .entry)) (now (total .entry))))
-        (now (targets .entry)) (now (weights .entry)) (now (symbols .entry)) (now (prices .entry)) period kind
+    ensures { λ r. ⌜ (let c = cols (now (symbol .entry)) (now (quantity .entry)) (now (average .entry)) (now (realized .entry)) (now (total .entry)) in
+        let d = cols (now (symbol .exit)) (now (quantity .exit)) (now (average .exit)) (now (realized .exit)) (now (total .exit)) in
+        filedBy (tradedOn r d) (now (words .exit)) (now (ints .exit))
+        ≡ filed (rebalanced (accountWith h c) (now (targets .entry)) (now (weights .entry)) (now (symbols .entry)) (now (prices .entry)) period kind
         (places (length (now (words .entry))) (length (now (ints .entry))))) (now (words .entry)) (now (ints .entry))) ⌝ }
 {
+    whole_columns(*symbol, *quantity, *average, *realized, *total);
     let room = places(words.len(), ints.len());
     let answer = rebalance_answer(
         h,
@@ -224,7 +184,7 @@ pub fn rebalance_on(
         };
     }
     if is_ascending(symbols) {
-        return rebalance_at(
+        return plan_and_fill(
             h,
             symbol,
             quantity,
@@ -244,7 +204,7 @@ pub fn rebalance_on(
     let mut keys = [0u64; 128];
     let mut values = [0i64; 128];
     let m = sort_prices(symbols, prices, &mut keys[..], &mut values[..]);
-    rebalance_at(
+    plan_and_fill(
         h,
         symbol,
         quantity,

@@ -97,9 +97,8 @@ pub(crate) fn rebalance_answer<'a>(
     prices: &[i64],
     room: usize,
 ) -> Answer
-    ensures { λ r. ⌜ (Full (cols (now (symbol .entry)) (now (quantity .entry)) (now (average .entry)) (now (realized .entry)) (now (total .entry)))
-        → r ≡ rebalanceAnswer (accountWith h (cols (now (symbol .entry)) (now (quantity .entry)) (now (average .entry)) (now (realized .entry)) (now (total .entry))))
-        (now (targets .entry)) (now (weights .entry)) (now (symbols .entry)) (now (prices .entry)) room) ⌝ }
+    ensures { λ r. ⌜ (let c = cols (now (symbol .entry)) (now (quantity .entry)) (now (average .entry)) (now (realized .entry)) (now (total .entry)) in
+        Full c → r ≡ rebalanceAnswer (accountWith h c) (now (targets .entry)) (now (weights .entry)) (now (symbols .entry)) (now (prices .entry)) room) ⌝ }
 {
     if !sound_account(h, symbol, quantity, average, realized, total) {
         return Answer::Unsound;
@@ -127,8 +126,8 @@ pub(crate) fn holding_of<'a>(
     n: usize,
     s: u64,
 ) -> Position
-    ensures { λ r. ⌜ (Ordered n (cols (now (symbol .entry)) (now (quantity .entry)) (now (average .entry)) (now (realized .entry)) (now (total .entry)))
-        → r ≡ holding s (rows n (cols (now (symbol .entry)) (now (quantity .entry)) (now (average .entry)) (now (realized .entry)) (now (total .entry))))) ⌝ }
+    ensures { λ r. ⌜ (let c = cols (now (symbol .entry)) (now (quantity .entry)) (now (average .entry)) (now (realized .entry)) (now (total .entry)) in
+        Ordered n c → r ≡ holding s (rows n c)) ⌝ }
 {
     let f = find(&symbol[..], n, s, 0);
     held(symbol, quantity, average, realized, total, f, s)
@@ -146,8 +145,8 @@ pub(crate) fn close_answer<'a>(
     price: i64,
     room: usize,
 ) -> Answer
-    ensures { λ r. ⌜ (Full (cols (now (symbol .entry)) (now (quantity .entry)) (now (average .entry)) (now (realized .entry)) (now (total .entry)))
-        → r ≡ closeAnswer (accountWith h (cols (now (symbol .entry)) (now (quantity .entry)) (now (average .entry)) (now (realized .entry)) (now (total .entry)))) s price room) ⌝ }
+    ensures { λ r. ⌜ (let c = cols (now (symbol .entry)) (now (quantity .entry)) (now (average .entry)) (now (realized .entry)) (now (total .entry)) in
+        Full c → r ≡ closeAnswer (accountWith h c) s price room) ⌝ }
 {
     if !sound_account(h, symbol, quantity, average, realized, total) {
         return Answer::Unsound;

@@ -3,12 +3,13 @@ ghost use mathlib.Core.Path.{_≡_};
 ghost use Prim.Native.Nat.{_<_};
 ghost use lib.ListN.{length, set};
 ghost use Rattle.table.specs.Keyed.{pick};
-ghost use Rattle.table.specs.Rows.{cols, Full};
+ghost use Rattle.table.specs.Rows.{cols};
 ghost use Rattle.account.specs.Account.{accountWith};
 ghost use Rattle.portfolio.specs.Answers.{returnAnswer};
 ghost use Rattle.portfolio.specs.Returns.{returnOf, isDue, nextSeries, recordedBy, recorded, notedBy};
-use crate::equity::equity_in;
+use crate::equity::equity_on;
 use crate::trade::ledger_of;
+use crate::trade::whole_columns;
 use account::Account;
 use account::Changed;
 use account::Ledger;
@@ -86,7 +87,8 @@ fn answer_on<'a>(
     equities: usize,
     returns: usize,
 ) -> Answer
-    ensures { λ r. ⌜ r ≡ returnAnswer (accountWith h (cols (now (symbol .entry)) (now (quantity .entry)) (now (average .entry)) (now (realized .entry)) (now (total .entry)))) (now (symbols .entry)) (now (prices .entry)) equities returns ⌝ }
+    ensures { λ r. ⌜ (let c = cols (now (symbol .entry)) (now (quantity .entry)) (now (average .entry)) (now (realized .entry)) (now (total .entry)) in
+        r ≡ returnAnswer (accountWith h c) (now (symbols .entry)) (now (prices .entry)) equities returns) ⌝ }
 {
     if !sound_account(h, symbol, quantity, average, realized, total) {
         return Answer::Unsound;
@@ -104,7 +106,7 @@ fn answer_on<'a>(
     Answer::Done
 }
 
-// A return recorded on the account of a ledger and five lent columns: its series alone changes. A lent column has 64 places, which `Full` says.
+// A return recorded on the account of a ledger and five lent columns: its series alone changes.
 pub fn return_on<'a>(
     h: Ledger,
     symbol: &'a [u64; 64],
@@ -118,8 +120,9 @@ pub fn return_on<'a>(
     returns: &mut [f64],
 ) -> Noted
     ensures { λ r. ⌜ (let c = cols (now (symbol .entry)) (now (quantity .entry)) (now (average .entry)) (now (realized .entry)) (now (total .entry)) in
-        Full c → notedBy r (accountWith h c) (now (equity .exit)) (now (returns .exit)) ≡ recorded (accountWith h c) (now (symbols .entry)) (now (prices .entry)) (now (equity .entry)) (now (returns .entry))) ⌝ }
+        notedBy r (accountWith h c) (now (equity .exit)) (now (returns .exit)) ≡ recorded (accountWith h c) (now (symbols .entry)) (now (prices .entry)) (now (equity .entry)) (now (returns .entry))) ⌝ }
 {
+    whole_columns(*symbol, *quantity, *average, *realized, *total);
     let equities = equity.len();
     let capacity = returns.len();
     let s = h.series;
@@ -138,7 +141,7 @@ pub fn return_on<'a>(
     if !is_done(answer) {
         return Noted { answer, series: s };
     }
-    let worth = equity_in(symbol, quantity, h.count, h.cash, symbols, prices);
+    let worth = equity_on(symbol, quantity, h.count, h.cash, symbols, prices);
     let due = is_due(s);
     let i = s.equity_count as usize;
     equity[i] = worth;

@@ -1,12 +1,12 @@
 // Orders filled on an account whose columns a caller lends.
 ghost use mathlib.Core.Path.{_≡_};
 ghost use lib.ListN.{length};
-ghost use Rattle.table.specs.Rows.{cols};
+ghost use Rattle.table.specs.Rows.{cols, Full};
 ghost use Rattle.fills.specs.Inner.Runs.{orders};
-ghost use Rattle.account.specs.Account.{accountWith};
+ghost use Rattle.account.specs.Account.{accountWith, ledgerOf};
 ghost use Rattle.portfolio.specs.Answers.{places};
 ghost use Rattle.portfolio.specs.Rebalance.{termsBy};
-ghost use Rattle.portfolio.specs.Trades.{Begins, Fillable, afterOrders, bookOf, filed, filedBy, ledgerFrom, tradedOn};
+ghost use Rattle.portfolio.specs.Trades.{Fillable, afterOrders, bookOf, filed, filedBy, ledgerFrom, tradedOn};
 use account::Account;
 use account::Counters;
 use account::Ledger;
@@ -32,9 +32,20 @@ pub struct Ran {
     pub ledger: Ledger,
 }
 
-// An account but for its columns. An account by value tells that they have 64 places; of lent columns only a copy would.
+// An array of 64 has 64 places. Lent columns are known to have them by their copies, passed here; copies and call compile to nothing.
+pub(crate) fn whole_columns(
+    symbol: [u64; 64],
+    quantity: [i64; 64],
+    average: [i64; 64],
+    realized: [i64; 64],
+    total: [i64; 64],
+)
+    ensures { λ _. ⌜ Full (cols symbol quantity average realized total) ⌝ }
+{}
+
+// An account but for its columns.
 pub(crate) fn ledger_of(a: Account) -> Ledger
-    ensures { λ r. ⌜ Begins a r ⌝ }
+    ensures { λ r. ⌜ r ≡ ledgerOf a ⌝ }
 {
     let settings = a.settings;
     let counters = a.counters;
@@ -161,12 +172,11 @@ pub(crate) fn run(
     ints: &mut [i64],
     h: Ledger,
 ) -> Ran
-    ensures { λ r. ⌜ (Fillable (accountWith h (cols (now (symbol .entry)) (now (quantity .entry)) (now (average .entry)) (now (realized .entry)) (now (total .entry)))) m
-        (places (length (now (words .entry))) (length (now (ints .entry)))) (now (os .entry)) (now (oq .entry)) (now (op .entry))
-        → filedBy (tradedOn r (cols (now (symbol .exit)) (now (quantity .exit)) (now (average .exit)) (now (realized .exit)) (now (total .exit))))
-        (now (words .exit)) (now (ints .exit))
-        ≡ filed (afterOrders (accountWith h (cols (now (symbol .entry)) (now (quantity .entry)) (now (average .entry)) (now (realized .entry)) (now (total .entry))))
-        (orders m (now (os .entry)) (now (oq .entry)) (now (op .entry))) period kind «order_count» notional) (now (words .entry)) (now (ints .entry))) ⌝ }
+    ensures { λ r. ⌜ (let c = cols (now (symbol .entry)) (now (quantity .entry)) (now (average .entry)) (now (realized .entry)) (now (total .entry)) in
+        let d = cols (now (symbol .exit)) (now (quantity .exit)) (now (average .exit)) (now (realized .exit)) (now (total .exit)) in
+        Fillable (accountWith h c) m (places (length (now (words .entry))) (length (now (ints .entry)))) (now (os .entry)) (now (oq .entry)) (now (op .entry))
+        → filedBy (tradedOn r d) (now (words .exit)) (now (ints .exit))
+        ≡ filed (afterOrders (accountWith h c) (orders m (now (os .entry)) (now (oq .entry)) (now (op .entry))) period kind «order_count» notional) (now (words .entry)) (now (ints .entry))) ⌝ }
 {
     let t = terms_of(h.settings, period, kind);
     let b = book_of(h);

@@ -5,22 +5,22 @@ use mathlib.Core.List.{List, _++_}
 use native.Mathlib.Omega.{arith}
 use lib.IntN.{pos}
 use lib.Ieee.{Float}
-use lib.ListN.{length, getD, set, length-set}
+use lib.ListN.{length, getD, set}
 use mir.Syntax.{w64}
 use mir.Val.{SFits, toZ, ofZ}
 use mir.Facts.{toZ-ofZ}
 use borrow.Author.Needs.{needs}
-use Rattle.admission.specs.Columns.{cols, orderAt, from, plans}
+use Rattle.admission.specs.Columns.{cols, orderAt, from, plans, counted}
 use Rattle.admission.specs.Admission.{admittedFrom, admitted}
 use Rattle.admission.specs.Offers.{offered}
-use Rattle.admission.proofs.Plans.{shorter-le, shorter-below, plans-few}
-use Rattle.admission.proofs.Admitting.{admit-start, admit-on, admit-ends, admit-part, admit-all, plans-cut}
+use Rattle.admission.proofs.Plans.{shorter-le}
+use Rattle.admission.proofs.Admitting.{admit-start, admit-on, admit-ends, admit-part, admit-all, cut-whole, cut-part}
 use Rattle.admission.proofs.cap.admit.Statement.{statement}
 use Rattle.admission.proofs.cap.admit.Tie as tie
 
 abbrev Inv-loop : tie.InvT-loop
 Inv-loop quantity₀ price n s m left₀ i₀ quantity left i =
-    (i ≤ m) × (m ≤ 64) × (m ≤ n) × (quantity ≡ quantity₀)
+    (i ≤ m) × (m ≤ 64) × (length quantity₀ ≡ 64) × (quantity ≡ quantity₀)
     × ((k : List ℕ) (d : List Float)
     → from (orderAt (cols k quantity₀ price d)) 0 i ++ admittedFrom s i (toZ w64 left) (from (orderAt (cols k quantity₀ price d)) i (m - i)) ≡ admitted s (plans n (cols k quantity₀ price d)))
 
@@ -34,7 +34,7 @@ abbrev at-loop : tie.After-offer Inv-loop μ-loop → tie.At-loop Inv-loop μ-lo
 at-loop d = d .before .before .before .before
 
 abbrev start : tie.At-loop Inv-loop μ-loop → tie.Start Inv-loop μ-loop
-start l = l .before .before .before
+start l = l .before .before .before .before .before
 
 offer-is : (d : tie.After-offer Inv-loop μ-loop) → offered (start (at-loop d) .args .s) (at-loop d .loop .i) (toZ w64 (at-loop d .loop .left))
     (getD (start (at-loop d) .args .quantity .now) (at-loop d .loop .i) (pos 0)) (getD (start (at-loop d) .args .price .now) (at-loop d .loop .i) (pos 0))
@@ -47,17 +47,20 @@ offer-is d =
     ap (λ q. offered (a .s) (l .loop .i) (toZ w64 (l .loop .left)) (getD q (l .loop .i) (pos 0)) (getD (a .price .now) (l .loop .i) (pos 0))) (sym (l .loop .inv .3))
     ∙ sym (simp (toZ-ofZ x, toZ-ofZ y) at (d .offer .ensures))
 
+whole-numbers-requires : tie.Need-whole-numbers-requires Inv-loop μ-loop
+whole-numbers-requires c κs = search needs
+
 used-requires : tie.Need-used-requires Inv-loop μ-loop
 used-requires c κs = search needs
 
 loop-holds : tie.Need-loop-holds Inv-loop μ-loop
 loop-holds c =
     let u = c .before .used in
-    let s = c .before .before in
+    let s = c .before .before .before .before in
     let a = s .args in (
       omega arith,
       omega (arith, u .ensures, shorter-le (a .n) 64),
-      omega (arith, u .ensures, shorter-below (a .n) 64),
+      c .before .before .whole-numbers .ensures,
       refl,
       λ k d. simp (toZ-ofZ (fit-most s)) (admit-start (a .s) (a .n) (u .result) (cols k (a .quantity .now) (a .price .now) d) (u .ensures)),
     )
@@ -102,16 +105,11 @@ returns c =
     let t = d .before .before .before .loop-test .taken in
     let cut = c .before .o2 .given .0 .0 in
     let x : SFits w64 cut = search needs in
-    record {
-      no-more = omega (arith, t);
-      kept = simp length-set (ap length (l .loop .inv .3));
-      same =
-          λ h k e.
-          ap (λ q. plans (i + 1) (cols k (set q i (toZ w64 (ofZ w64 cut))) (a .price .now) e)) (l .loop .inv .3)
-          ∙ ap (λ z. plans (i + 1) (cols k (set (a .quantity .now) i z) (a .price .now) e)) (toZ-ofZ x)
-          ∙ plans-cut k (a .quantity .now) (a .price .now) e i cut (omega (arith, t)) h
-          ∙ admit-part (a .s) (a .n) m i (toZ w64 (l .loop .left)) (orderAt (cols k (a .quantity .now) (a .price .now) e)) _ t (l .loop .inv .4 k e) cut (offer-is d ∙ c .before .o2 .given .1);
-    }
+    λ k e.
+    ap (λ q. counted (i + 1) (cols k (set q i (toZ w64 (ofZ w64 cut))) (a .price .now) e)) (l .loop .inv .3)
+    ∙ ap (λ z. counted (i + 1) (cols k (set (a .quantity .now) i z) (a .price .now) e)) (toZ-ofZ x)
+    ∙ cut-part (a .s) (a .n) k (a .quantity .now) (a .price .now) e i (l .loop .inv .2) cut (omega (arith, t))
+    (admit-part (a .s) (a .n) m i (toZ w64 (l .loop .left)) (orderAt (cols k (a .quantity .now) (a .price .now) e)) _ t (l .loop .inv .4 k e) cut (offer-is d ∙ c .before .o2 .given .1))
 
 enum-told : tie.Need-enum-told Inv-loop μ-loop
 enum-told c = search needs
@@ -124,15 +122,10 @@ returns-2 c =
     let m = l .before .before .used .result in
     let i = l .loop .i in
     let t = d .before .before .before .loop-test .taken in
-    record {
-      no-more = omega (arith, t);
-      kept = ap length (l .loop .inv .3);
-      same =
-          λ h k e.
-          ap (λ q. plans i (cols k q (a .price .now) e)) (l .loop .inv .3)
-          ∙ plans-few i _ (omega (arith, t))
-          ∙ admit-ends (a .s) (a .n) m i (toZ w64 (l .loop .left)) (orderAt (cols k (a .quantity .now) (a .price .now) e)) _ t (l .loop .inv .4 k e) (offer-is d ∙ c .enum-told .given .1);
-    }
+    λ k e.
+    ap (λ q. counted i (cols k q (a .price .now) e)) (l .loop .inv .3)
+    ∙ cut-whole (a .s) (a .n) k (a .quantity .now) (a .price .now) e i (l .loop .inv .2) (omega (arith, t))
+    (admit-ends (a .s) (a .n) m i (toZ w64 (l .loop .left)) (orderAt (cols k (a .quantity .now) (a .price .now) e)) _ t (l .loop .inv .4 k e) (offer-is d ∙ c .enum-told .given .1))
 
 add-i : tie.Need-add-i Inv-loop μ-loop
 add-i c = omega arith
@@ -166,16 +159,11 @@ returns-3 c =
     let m = l .before .before .used .result in
     let i = l .loop .i in
     let z : m ≡ i = omega arith in
-    record {
-      no-more = l .loop .inv .2;
-      kept = ap length (l .loop .inv .3);
-      same =
-          λ h k e.
-          ap (λ q. plans m (cols k q (a .price .now) e)) (l .loop .inv .3)
-          ∙ plans-few m _ (l .loop .inv .1)
-          ∙ ap (from (orderAt (cols k (a .quantity .now) (a .price .now) e)) 0) z
-          ∙ admit-all (a .s) m i (toZ w64 (l .loop .left)) (orderAt (cols k (a .quantity .now) (a .price .now) e)) _ (c .loop-test .left) (l .loop .inv .4 k e);
-    }
+    λ k e.
+    ap (λ q. counted m (cols k q (a .price .now) e)) (l .loop .inv .3)
+    ∙ cut-whole (a .s) (a .n) k (a .quantity .now) (a .price .now) e m (l .loop .inv .2) (l .loop .inv .1)
+    (ap (from (orderAt (cols k (a .quantity .now) (a .price .now) e)) 0) z
+    ∙ admit-all (a .s) m i (toZ w64 (l .loop .left)) (orderAt (cols k (a .quantity .now) (a .price .now) e)) _ (c .loop-test .left) (l .loop .inv .4 k e))
 
 pub admit-spec : {M : Type 1} → statement M
 admit-spec =
@@ -183,6 +171,7 @@ admit-spec =
     (tie.spec
     Inv-loop
     μ-loop
+    whole-numbers-requires
     used-requires
     loop-holds
     mul-q

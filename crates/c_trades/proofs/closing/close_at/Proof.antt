@@ -28,7 +28,7 @@ traded c = let l = c .close-on .last in tradedOn (c .close-on .result) (cols (l 
 made : (c : tie.After-close-on) → let s = begun c in
     filedBy (traded c) (c .close-on .last .1 .1 .1 .1 .1 .1 .1 .1 .1 .1 .0) (c .close-on .last .1 .1 .1 .1 .1 .1 .1 .1 .1 .1 .1 .0)
     ≡ filed (closed (accountWith (s .args .h) (columns-at s)) (s .args .s) (s .args .price) (s .args .period) (kindOf (s .args .kind)) (places (length (s .args .words .now)) (length (s .args .ints .now)))) (s .args .words .now) (s .args .ints .now)
-made c = let s = begun c in simp (toZ-ofZ (s .fits .price), c .before .before .before .before .before .before .before .before .kind-of .ensures) at (c .close-on .ensures (s .pre .1))
+made c = let s = begun c in simp (toZ-ofZ (s .fits .price), c .before .before .before .before .before .before .before .before .kind-of .ensures) at (c .close-on .ensures)
 
 kind-of-requires : tie.Need-kind-of-requires
 kind-of-requires c κs = search needs

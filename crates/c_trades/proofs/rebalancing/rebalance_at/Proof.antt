@@ -52,7 +52,7 @@ made c =
     let s = begun t in
     let f = targets-lent t in
     let g = prices-lent p in
-    simp (t .before .before .before .kind-of .ensures, f .symbols (s .pre .0), f .values (s .pre .0), g .symbols (s .pre .1), g .values (s .pre .1)) at (c .rebalance-on .ensures (s .pre .3))
+    simp (t .before .before .before .kind-of .ensures, f .symbols (s .pre .0), f .values (s .pre .0), g .symbols (s .pre .1), g .values (s .pre .1)) at (c .rebalance-on .ensures)
 
 kind-of-requires : tie.Need-kind-of-requires
 kind-of-requires c κs = search needs

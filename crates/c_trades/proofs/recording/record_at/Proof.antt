@@ -34,7 +34,7 @@ made c =
     let s = begun p in
     let f = fronts p in
     let l = s .args .prices .now in
-    (simp (f .symbols (s .pre .0), f .values (s .pre .0)) at (c .return-on .ensures (s .pre .1 .full)))
+    (simp (f .symbols (s .pre .0), f .values (s .pre .0)) at (c .return-on .ensures))
     ∙ ap (λ (a : Account). recorded a (symbolsIn l) (pricesIn l) (s .args .equities .now) (s .args .returns .now)) (s .pre .1 .same)
 
 prices-into-requires : tie.Need-prices-into-requires

@@ -1,10 +1,10 @@
 -- The closes, then the targets, then the caps.
-use mathlib.Core.Path.{_≡_, _∙_}
+use mathlib.Core.Path.{_≡_, sym, ap, _∙_}
 use borrow.Author.Needs.{needs}
 use mir.Facts.{toZ-ofZ}
-use Rattle.admission.specs.Columns.{cols, counted}
-use Rattle.plan.specs.Adding.{wantedAt, Makes}
-use Rattle.plan.proofs.Made.{made}
+use Rattle.admission.specs.Offers.{cutPlan}
+use Rattle.plan.specs.Adding.{addedAllTo, wantedAt, Makes}
+use Rattle.plan.proofs.Adding.{added-append}
 use Rattle.plan.proofs.plan.admit_plan.Statement.{statement}
 use Rattle.plan.proofs.plan.admit_plan.Tie as tie
 
@@ -26,11 +26,10 @@ returns c =
     let a = st .args in
     let fe = st .fits .equity in
     record {
-      settled = λ room.
-          made (a .s) _ _ (cols (a .symbol .now) (a .quantity .now) (a .price .now) (a .drift .now)) (room .full) (room .most) _ _
-          (simp (toZ-ofZ fe) at (b .plan-closes .ensures .settled (room .prices)))
-          (simp (toZ-ofZ fe) at (pt .ensures .settled (room .prices) (room .holdings)))
-          _ _ (c .admit .ensures);
+      settled = λ rs rk.
+          let e = simp (toZ-ofZ fe) at (b .plan-closes .ensures .settled rs) in
+          let g = simp (toZ-ofZ fe) at (pt .ensures .settled rs rk) in
+          c .admit .ensures _ _ ∙ ap (cutPlan (a .s)) (g ∙ ap (addedAllTo (a .s) _) e ∙ sym (added-append (a .s) _ _ _));
     }
 
 pub admit-plan-spec : {M : Type 1} → statement M

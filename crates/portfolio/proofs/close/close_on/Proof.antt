@@ -40,25 +40,31 @@ abbrev placed : tie.After-close-answer → tie.After-places
 placed c = c .before .before .before .before .before .before
 
 abbrev began : tie.After-close-answer → tie.Start
-began c = placed c .before .before
+began c = placed c .before .before .before .before .before .before .before .before
 
-answer-is : (c : tie.After-close-answer) → Full (columns-at (began c)) → c .close-answer .result ≡ answer-at (began c)
-answer-is c f = simp (toZ-ofZ (began c .fits .price), placed c .places .ensures) at (c .close-answer .ensures f)
+full-at : (c : tie.After-close-answer) → Full (columns-at (began c))
+full-at c = placed c .before .whole-columns .ensures
+
+answer-is : (c : tie.After-close-answer) → c .close-answer .result ≡ answer-at (began c)
+answer-is c = simp (toZ-ofZ (began c .fits .price), placed c .places .ensures) at (c .close-answer .ensures (full-at c))
 
 abbrev accepted : tie.Else1 → tie.Start
 accepted c = began (c .before .before)
 
-is-done : (c : tie.Else1) → Full (columns-at (accepted c)) → isDone (answer-at (accepted c)) ≡ true
-is-done c f = sym (ap isDone (answer-is (c .before .before) f)) ∙ sym (c .before .is-done .ensures) ∙ not-false _ (c .if1 .left)
+is-done : (c : tie.Else1) → isDone (answer-at (accepted c)) ≡ true
+is-done c = sym (ap isDone (answer-is (c .before .before))) ∙ sym (c .before .is-done .ensures) ∙ not-false _ (c .if1 .left)
 
-closing : (c : tie.Else1) → let s = accepted c in Full (columns-at s) → Closing (account-at s) (s .args .s) (s .args .price) (room-at s)
-closing c f = close-done _ _ _ _ (is-done c f)
+closing : (c : tie.Else1) → let s = accepted c in Closing (account-at s) (s .args .s) (s .args .price) (room-at s)
+closing c = close-done _ _ _ _ (is-done c)
 
 notional-fits : (s : tie.Start) → SFits w64 (s .args .h .counters .«last_rebalance_notional»)
 notional-fits s = search needs
 
 quantity-fits : (c : tie.After-neg) → SFits w64 (c .neg .result .0)
 quantity-fits c = search needs
+
+whole-columns-requires : tie.Need-whole-columns-requires
+whole-columns-requires c κs = search needs
 
 places-requires : tie.Need-places-requires
 places-requires c κs = search needs
@@ -74,8 +80,7 @@ unfolding closed allWords allInts
 returns c =
     let q = c .before .before in
     let s = began q in
-    λ f.
-    let e = answer-is q f in
+    let e = answer-is q in
     let d = sym (ap isDone e) ∙ sym (c .before .is-done .ensures) ∙ not-true _ (c .if1 .taken) in
     rw d (ap (λ w. filed (refused w (account-at s)) (s .args .words .now) (s .args .ints .now)) e)
 
@@ -107,11 +112,11 @@ same-length-2 c = search needs
 abbrev unrefused : tie.After-neg → tie.Else1
 unrefused n = n .before .before .before .before .before .before .before
 
-quantity-is : (n : tie.After-neg) → let s = accepted (unrefused n) in Full (columns-at s) → n .neg .result .0 ≡ satNeg (holding (s .args .s) (heldIn (account-at s .positions)) .quantity .0)
-quantity-is n f =
+quantity-is : (n : tie.After-neg) → let s = accepted (unrefused n) in n .neg .result .0 ≡ satNeg (holding (s .args .s) (heldIn (account-at s .positions)) .quantity .0)
+quantity-is n =
     let o = unrefused n in
     let a = account-at (accepted o) in
-    ap (λ k. k .0) (n .neg .ensures) ∙ ap (λ p. satNeg (p .quantity .0)) (n .before .holding-of .ensures (account-ordered a (closing o f .sound) f))
+    ap (λ k. k .0) (n .neg .ensures) ∙ ap (λ p. satNeg (p .quantity .0)) (n .before .holding-of .ensures (account-ordered a (closing o .sound) (full-at (o .before .before))))
 
 returns-2 : tie.Need-returns-2
 returns-2 c =
@@ -120,15 +125,15 @@ returns-2 c =
     let o = unrefused n in
     let s = accepted o in
     let x = s .args in
-    λ f.
-    let k = closing o f in
-    let e = simp (toZ-ofZ (quantity-fits n), toZ-ofZ (s .fits .price), toZ-ofZ (notional-fits s)) at (r .run .ensures (record { sound = k .sound; roomy = k .roomy; full = f; symbols = refl; quantities = refl; prices = refl })) in
-    e ∙ ap (λ k. filed k (x .words .now) (x .ints .now)) (closed-by-run (account-at s) (x .s) (x .price) (x .period) (x .kind) (room-at s) (is-done o f) (n .neg .result .0) (quantity-is n f))
+    let k = closing o in
+    let e = simp (toZ-ofZ (quantity-fits n), toZ-ofZ (s .fits .price), toZ-ofZ (notional-fits s)) at (r .run .ensures (record { sound = k .sound; roomy = k .roomy; full = full-at (o .before .before); symbols = refl; quantities = refl; prices = refl })) in
+    e ∙ ap (λ k. filed k (x .words .now) (x .ints .now)) (closed-by-run (account-at s) (x .s) (x .price) (x .period) (x .kind) (room-at s) (is-done o) (n .neg .result .0) (quantity-is n))
 
 pub close-on-spec : {M : Type 1} → statement M
 close-on-spec =
     tie.close
     (tie.spec
+    whole-columns-requires
     places-requires
     close-answer-requires
     is-done-requires

@@ -34,8 +34,8 @@ returns c =
     let x = s .args in
     let e = q .close-on .last .1 .1 .1 .1 .1 .1 .1 .1 .1 .1 in
     ap (λ r. filedBy r (e .0) (e .1 .0)) (c .traded-on .ensures)
-    ∙ (simp (toZ-ofZ (s .fits .price)) at (q .close-on .ensures (l .ledger-of .ensures .full)))
-    ∙ ap (λ h. filed (closed (accountWith h (columnsOf (x .a .positions))) (x .symbol) (x .price) (x .period) (x .kind) (places (length (x .words .now)) (length (x .ints .now)))) (x .words .now) (x .ints .now)) (l .ledger-of .ensures .same)
+    ∙ (simp (toZ-ofZ (s .fits .price)) at (q .close-on .ensures))
+    ∙ ap (λ h. filed (closed (accountWith h (columnsOf (x .a .positions))) (x .symbol) (x .price) (x .period) (x .kind) (places (length (x .words .now)) (length (x .ints .now)))) (x .words .now) (x .ints .now)) (l .ledger-of .ensures)
 
 pub close-position-at-spec : {M : Type 1} → statement M
 close-position-at-spec = tie.close (tie.spec ledger-of-requires close-on-requires traded-on-requires same-length same-length-2 returns)

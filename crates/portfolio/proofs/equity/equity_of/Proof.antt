@@ -20,15 +20,15 @@ cash-fits s = search needs
 queried : (s : tie.Start) → Queried (s .args .a) (s .args .symbols .now) (s .args .prices .now)
 queried s = query-done (s .args .a) (s .args .symbols .now) (s .args .prices .now) (ap isDone (s .pre))
 
-equity-in-requires : tie.Need-equity-in-requires
-equity-in-requires c κs = queried (c .before .before .before .before .before .before) .prices
+equity-on-requires : tie.Need-equity-on-requires
+equity-on-requires c κs = queried (c .before .before .before .before .before .before) .prices
 
 returns : tie.Need-returns
 returns c =
     let s = c .before .before .before .before .before .before .before in
-    let r : SFits w64 (c .equity-in .result) = record { sfits = c .equity-in .ok } in
-    let e = simp (toZ-ofZ (cash-fits s)) at (c .equity-in .ensures) in
+    let r : SFits w64 (c .equity-on .result) = record { sfits = c .equity-on .ok } in
+    let e = simp (toZ-ofZ (cash-fits s)) at (c .equity-on .ensures) in
     simp (toZ-ofZ r) (e ∙ equity-of-places _ (s .args .a) (queried s .sound) (full s))
 
 pub equity-of-spec : {M : Type 1} → statement M
-equity-of-spec = tie.close (tie.spec equity-in-requires returns)
+equity-of-spec = tie.close (tie.spec equity-on-requires returns)

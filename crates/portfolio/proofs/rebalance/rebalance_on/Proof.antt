@@ -40,23 +40,25 @@ abbrev placed : tie.After-rebalance-answer → tie.After-places
 placed c = c .before .before .before .before .before .before
 
 abbrev began : tie.After-rebalance-answer → tie.Start
-began c = placed c .before .before .before .before .before
+began c = placed c .before .before .before .before .before .before .before .before .before .before .before
 
-answer-is : (c : tie.After-rebalance-answer) → Full (columns-at (began c)) → c .rebalance-answer .result ≡ answer-at (began c)
-answer-is c f =
+full-at : (c : tie.After-rebalance-answer) → Full (columns-at (began c))
+full-at c = placed c .before .whole-columns .ensures
+
+answer-is : (c : tie.After-rebalance-answer) → c .rebalance-answer .result ≡ answer-at (began c)
+answer-is c =
     let s = began c in
     let x = s .args in
-    c .rebalance-answer .ensures f ∙ ap (rebalanceAnswer (account-at s) (x .targets .now) (x .weights .now) (x .symbols .now) (x .prices .now)) (placed c .places .ensures)
+    c .rebalance-answer .ensures (full-at c) ∙ ap (rebalanceAnswer (account-at s) (x .targets .now) (x .weights .now) (x .symbols .now) (x .prices .now)) (placed c .places .ensures)
 
 abbrev accepted : tie.Else1 → tie.Start
 accepted c = began (c .before .before)
 
-is-done : (c : tie.Else1) → Full (columns-at (accepted c)) → isDone (answer-at (accepted c)) ≡ true
-is-done c f = sym (ap isDone (answer-is (c .before .before) f)) ∙ sym (c .before .is-done .ensures) ∙ not-false _ (c .if1 .left)
+is-done : (c : tie.Else1) → isDone (answer-at (accepted c)) ≡ true
+is-done c = sym (ap isDone (answer-is (c .before .before))) ∙ sym (c .before .is-done .ensures) ∙ not-false _ (c .if1 .left)
 
-rebalancing : (c : tie.Else1) → let s = accepted c in
-    Full (columns-at s) → Rebalancing (account-at s) (s .args .targets .now) (s .args .weights .now) (s .args .symbols .now) (s .args .prices .now) (room-at s)
-rebalancing c f = rebalance-done _ _ _ _ _ _ (is-done c f)
+rebalancing : (c : tie.Else1) → let s = accepted c in Rebalancing (account-at s) (s .args .targets .now) (s .args .weights .now) (s .args .symbols .now) (s .args .prices .now) (room-at s)
+rebalancing c = rebalance-done _ _ _ _ _ _ (is-done c)
 
 -- ---- the sorted prices
 abbrev no-keys : List ℕ
@@ -78,14 +80,17 @@ room-for-keys : (c : tie.After-sort-prices) → let l = c .sort-prices .last in 
 room-for-keys c = let x = accepted (unsorted c) .args in sorted-fits (x .symbols .now) (x .prices .now) no-keys no-values _ _ _ (c .sort-prices .ensures)
 
 serves : (c : tie.After-sort-prices) → let s = accepted (unsorted c) in
-    Full (columns-at s) → Serves (s .args .symbols .now) (s .args .prices .now) no-keys no-values (c .sort-prices .result) (c .sort-prices .last .1 .1 .0) (c .sort-prices .last .1 .1 .1 .0)
-serves c f =
+    Serves (s .args .symbols .now) (s .args .prices .now) no-keys no-values (c .sort-prices .result) (c .sort-prices .last .1 .1 .0) (c .sort-prices .last .1 .1 .1 .0)
+serves c =
     let s = accepted (unsorted c) in
     let ss = s .args .symbols .now in
-    let p = rebalancing (unsorted c) f .lists in
+    let p = rebalancing (unsorted c) .lists in
     let k : length ss ≤ length no-keys = omega (arith, p .pricesBound, keys-places) in
     let v : length ss ≤ length no-values = omega (arith, p .pricesBound, values-places) in
     sorted-serves ss (s .args .prices .now) no-keys no-values (p .pricesPaired) k v _ _ _ (c .sort-prices .ensures)
+
+whole-columns-requires : tie.Need-whole-columns-requires
+whole-columns-requires c κs = search needs
 
 places-requires : tie.Need-places-requires
 places-requires c κs = search needs
@@ -101,16 +106,15 @@ unfolding rebalanced allWords allInts
 returns c =
     let q = c .before .before in
     let s = began q in
-    λ f.
-    let e = answer-is q f in
+    let e = answer-is q in
     let d = sym (ap isDone e) ∙ sym (c .before .is-done .ensures) ∙ not-true _ (c .if1 .taken) in
     rw d (ap (λ w. filed (refused w (account-at s)) (s .args .words .now) (s .args .ints .now)) e)
 
 is-ascending-requires : tie.Need-is-ascending-requires
 is-ascending-requires c κs = search needs
 
-rebalance-at-requires : tie.Need-rebalance-at-requires
-rebalance-at-requires c κs = search needs
+plan-and-fill-requires : tie.Need-plan-and-fill-requires
+plan-and-fill-requires c κs = search needs
 
 same-length : tie.Need-same-length
 same-length c = search needs
@@ -124,9 +128,8 @@ returns-2 c =
     let r = c .before .before .before in
     let t = r .before .before .before .before .before .before .before .before in
     let o = t .before .before in
-    λ f.
-    rw (is-done o f)
-    (r .rebalance-at .ensures (rebalance-ready _ _ _ _ _ _ (rebalancing o f) f _ (ascending-rises (accepted o .args .symbols .now) (sym (t .before .is-ascending .ensures) ∙ t .if2 .taken))))
+    rw (is-done o)
+    (r .plan-and-fill .ensures (rebalance-ready _ _ _ _ _ _ (rebalancing o) (full-at (o .before .before)) _ (ascending-rises (accepted o .args .symbols .now) (sym (t .before .is-ascending .ensures) ∙ t .if2 .taken))))
 
 slice-aggregate-sort-prices : tie.Need-slice-aggregate-sort-prices
 slice-aggregate-sort-prices c = search needs
@@ -140,17 +143,17 @@ sort-prices-requires c κs = search needs
 array-share-prefix-keys : tie.Need-array-share-prefix-keys
 array-share-prefix-keys c = room-for-keys (c .before .before .before .before .before .before .before) .0
 
-slice-aggregate-rebalance-at : tie.Need-slice-aggregate-rebalance-at
-slice-aggregate-rebalance-at c = sym (length-take-le _ _ (room-for-keys (c .before .before .before .before .before .before .before .before) .0))
+slice-aggregate-plan-and-fill : tie.Need-slice-aggregate-plan-and-fill
+slice-aggregate-plan-and-fill c = sym (length-take-le _ _ (room-for-keys (c .before .before .before .before .before .before .before .before) .0))
 
 array-share-prefix-values : tie.Need-array-share-prefix-values
 array-share-prefix-values c = room-for-keys (c .before .before .before .before .before .before .before .before) .1
 
-slice-aggregate-rebalance-at-2 : tie.Need-slice-aggregate-rebalance-at-2
-slice-aggregate-rebalance-at-2 c = sym (length-take-le _ _ (room-for-keys (c .before .before .before .before .before .before .before .before .before) .1))
+slice-aggregate-plan-and-fill-2 : tie.Need-slice-aggregate-plan-and-fill-2
+slice-aggregate-plan-and-fill-2 c = sym (length-take-le _ _ (room-for-keys (c .before .before .before .before .before .before .before .before .before) .1))
 
-rebalance-at-requires-2 : tie.Need-rebalance-at-requires-2
-rebalance-at-requires-2 c κs = search needs
+plan-and-fill-requires-2 : tie.Need-plan-and-fill-requires-2
+plan-and-fill-requires-2 c κs = search needs
 
 same-length-3 : tie.Need-same-length-3
 same-length-3 c = search needs
@@ -166,21 +169,21 @@ returns-3 c =
     let o = unsorted q in
     let s = accepted o in
     let x = s .args in
-    λ f.
-    rw (is-done o f)
-    (r .rebalance-at2 .ensures (rebalance-ready _ _ _ _ _ _ (rebalancing o f) f _ (serves q f .rising))
-    ∙ ap (λ price. filed (afterRebalance (account-at s) (admittedPlan (account-at s) (x .targets .now) (x .weights .now) price) (x .period) (x .kind)) (x .words .now) (x .ints .now)) (fun-ext (serves q f .price)))
+    rw (is-done o)
+    (r .plan-and-fill2 .ensures (rebalance-ready _ _ _ _ _ _ (rebalancing o) (full-at (o .before .before)) _ (serves q .rising))
+    ∙ ap (λ price. filed (afterRebalance (account-at s) (admittedPlan (account-at s) (x .targets .now) (x .weights .now) price) (x .period) (x .kind)) (x .words .now) (x .ints .now)) (fun-ext (serves q .price)))
 
 pub rebalance-on-spec : {M : Type 1} → statement M
 rebalance-on-spec =
     tie.close
     (tie.spec
+    whole-columns-requires
     places-requires
     rebalance-answer-requires
     is-done-requires
     returns
     is-ascending-requires
-    rebalance-at-requires
+    plan-and-fill-requires
     same-length
     same-length-2
     returns-2
@@ -188,10 +191,10 @@ rebalance-on-spec =
     slice-aggregate-sort-prices-2
     sort-prices-requires
     array-share-prefix-keys
-    slice-aggregate-rebalance-at
+    slice-aggregate-plan-and-fill
     array-share-prefix-values
-    slice-aggregate-rebalance-at-2
-    rebalance-at-requires-2
+    slice-aggregate-plan-and-fill-2
+    plan-and-fill-requires-2
     same-length-3
     same-length-4
     returns-3)

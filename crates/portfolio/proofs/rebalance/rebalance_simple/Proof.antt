@@ -33,8 +33,8 @@ returns c =
     let x = s .args in
     let e = q .rebalance-on .last .1 .1 .1 .1 .1 .1 .1 .1 .1 .1 .1 .1 in
     ap (λ r. filedBy r (e .0) (e .1 .0)) (c .traded-on .ensures)
-    ∙ q .rebalance-on .ensures (l .ledger-of .ensures .full)
-    ∙ ap (λ h. filed (rebalanced (accountWith h (columnsOf (x .a .positions))) (x .targets .now) (x .weights .now) (x .symbols .now) (x .prices .now) (x .period) (x .kind) (places (length (x .words .now)) (length (x .ints .now)))) (x .words .now) (x .ints .now)) (l .ledger-of .ensures .same)
+    ∙ q .rebalance-on .ensures
+    ∙ ap (λ h. filed (rebalanced (accountWith h (columnsOf (x .a .positions))) (x .targets .now) (x .weights .now) (x .symbols .now) (x .prices .now) (x .period) (x .kind) (places (length (x .words .now)) (length (x .ints .now)))) (x .words .now) (x .ints .now)) (l .ledger-of .ensures)
 
 pub rebalance-simple-spec : {M : Type 1} → statement M
 rebalance-simple-spec = tie.close (tie.spec ledger-of-requires rebalance-on-requires traded-on-requires same-length same-length-2 returns)

@@ -19,7 +19,7 @@ returns : tie.Need-returns
 returns c =
     let r = c .before .before .before .before in
     let h = r .before .before .before .before .before .before .before .before .before .before in
-    simp (h .ledger-of .ensures .same) at (r .return-on .ensures (h .ledger-of .ensures .full))
+    simp (h .ledger-of .ensures) at (r .return-on .ensures)
 
 pub record-return-spec : {M : Type 1} → statement M
 record-return-spec = tie.close (tie.spec ledger-of-requires return-on-requires same-length same-length-2 returns)

@@ -38,7 +38,7 @@ abbrev answer-at : tie.Start → Answer
 answer-at s = returnAnswer (account-at s) (s .args .symbols .now) (s .args .prices .now) (length (s .args .equity .now)) (length (s .args .returns .now))
 
 abbrev begun : tie.After-is-done → tie.Start
-begun c = c .before .before .before .before .before
+begun c = c .before .before .before .before .before .before .before .before .before .before .before
 
 cash-fits : (s : tie.Start) → SFits w64 (s .args .h .cash)
 cash-fits s = search needs
@@ -56,6 +56,9 @@ queried c = let s = begun (c .before) in query-done (account-at s) (s .args .sym
 abbrev not-refused : tie.After-is-due → tie.Else1
 not-refused d = d .before .before .before
 
+whole-columns-requires : tie.Need-whole-columns-requires
+whole-columns-requires c κs = search needs
+
 answer-on-requires : tie.Need-answer-on-requires
 answer-on-requires c κs = search needs
 
@@ -67,14 +70,14 @@ answered a equities returns w = record { answer = w; account = a; equities = equ
 
 returns : tie.Need-returns
 unfolding recorded
-returns c f =
+returns c =
     let s = begun (c .before) in
     let e = c .before .before .answer-on .ensures in
     let d = sym (ap isDone e) ∙ sym (c .before .is-done .ensures) ∙ not-true _ (c .if1 .taken) in
     rw d (ap (answered (account-at s) (s .args .equity .now) (s .args .returns .now)) e)
 
-equity-in-requires : tie.Need-equity-in-requires
-equity-in-requires c κs = queried (c .before) .prices
+equity-on-requires : tie.Need-equity-on-requires
+equity-on-requires c κs = queried (c .before) .prices
 
 is-due-requires : tie.Need-is-due-requires
 is-due-requires c κs = search needs
@@ -117,18 +120,18 @@ returns-after s e =
 
 returns-2 : tie.Need-returns-2
 unfolding recorded
-returns-2 c full =
+returns-2 c =
     let wr = c .before .before .before in
     let d = wr .before .before in
     let o = not-refused d in
     let s = begun (o .before) in
     let x = s .args .h .series in
-    let r = d .before .equity-in in
+    let r = d .before .equity-on in
     let f : SFits w64 (r .result) = record { sfits = r .ok } in
     let w = o .before .before .answer-on .ensures ∙ done-is _ (is-done o) in
     let n = simp (toZ-ofZ f) at (c .next-series .ensures) in
     let l = simp (toZ-ofZ f, d .is-due .ensures) at (wr .write-return .ensures) in
-    let e = (simp (toZ-ofZ (cash-fits s)) at (r .ensures)) ∙ equity-of-places (priceOf (s .args .symbols .now) (s .args .prices .now)) (account-at s) (queried o .sound) full in
+    let e = (simp (toZ-ofZ (cash-fits s)) at (r .ensures)) ∙ equity-of-places (priceOf (s .args .symbols .now) (s .args .prices .now)) (account-at s) (queried o .sound) (o .before .before .before .before .whole-columns .ensures) in
     rw (is-done o)
     (simp (toZ-ofZ f)
     (ap (λ k. made s k (c .next-series .result) (r .result) (wr .write-return .last .0)) w
@@ -140,10 +143,11 @@ pub return-on-spec : {M : Type 1} → statement M
 return-on-spec =
     tie.close
     (tie.spec
+    whole-columns-requires
     answer-on-requires
     is-done-requires
     returns
-    equity-in-requires
+    equity-on-requires
     is-due-requires
     mul-worth
     slice-set-from-worth

@@ -15,8 +15,8 @@ use Rattle.table.proofs.Keyed.{ascending-rises}
 use Rattle.call_lists.proofs.Checks.{done-accepted}
 use Rattle.call_lists.proofs.Sorted.{Serves, sorted-serves}
 use Rattle.portfolio.proofs.Worths.{worth-same}
-use Rattle.portfolio.proofs.equity.equity_in.Statement.{statement}
-use Rattle.portfolio.proofs.equity.equity_in.Tie as tie
+use Rattle.portfolio.proofs.equity.equity_on.Statement.{statement}
+use Rattle.portfolio.proofs.equity.equity_on.Tie as tie
 
 -- the columns before they are sorted into
 abbrev no-keys : List ℕ
@@ -115,8 +115,8 @@ returns-2 c =
     let v = serves o in
     simp (toZ-ofZ fa) (e ∙ ap (satAdd (s .args .cash)) (w .ensures .settled (v .rising) ∙ worth-same _ _ (v .price) _ _ _))
 
-pub equity-in-spec : {M : Type 1} → statement M
-equity-in-spec =
+pub equity-on-spec : {M : Type 1} → statement M
+equity-on-spec =
     tie.close
     (tie.spec
     is-ascending-requires

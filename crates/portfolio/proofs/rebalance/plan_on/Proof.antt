@@ -9,10 +9,9 @@ use borrow.Author.Needs.{needs}
 use Rattle.sums.specs.Sums.{satAdd}
 use Rattle.table.specs.Keyed.{Rising}
 use Rattle.call_lists.specs.Lists.{priceOf}
-use Rattle.portfolio.specs.Planned.{equityAt}
-use Rattle.portfolio.proofs.Plans.{plan-none, plan-some}
-use Rattle.portfolio.proofs.rebalance.plan_at.Statement.{statement}
-use Rattle.portfolio.proofs.rebalance.plan_at.Tie as tie
+use Rattle.portfolio.specs.Planned.{equityAt, planAt}
+use Rattle.portfolio.proofs.rebalance.plan_on.Statement.{statement}
+use Rattle.portfolio.proofs.rebalance.plan_on.Tie as tie
 
 equity-is : (c : tie.After-saturating-add) → let x = c .before .before .before .before .before .args in
     Rising (x .symbols .now) → c .saturating-add .result ≡ equityAt (priceOf (x .symbols .now) (x .prices .now)) (x .cash) (x .n) (x .key .now) (x .held .now)
@@ -29,28 +28,29 @@ saturating-add-requires : tie.Need-saturating-add-requires
 saturating-add-requires c κs = search needs
 
 returns : tie.Need-returns
+unfolding planAt
 returns c =
     let q = c .before in
     let f : SFits w64 (q .saturating-add .result) = record { sfits = q .saturating-add .ok } in
     let t = simp (toZ-ofZ f) at (c .if1 .taken) in
-    record { settled = λ room. plan-none _ _ _ _ _ _ _ _ _ _ (room .plan) (room .run) (sym (ap (λ v. leZ v (pos 0)) (equity-is q (room .priced))) ∙ t) }
+    record { settled = λ rs rk. rw (sym (ap (λ v. leZ v (pos 0)) (equity-is q rs)) ∙ t) }
 
 make-plan-requires : tie.Need-make-plan-requires
 make-plan-requires c κs = search needs
 
 returns-2 : tie.Need-returns-2
+unfolding planAt
 returns-2 c =
-    let o = c .before .before .before .before .before .before .before .before .before in
+    let o = c .before .before .before .before .before in
     let q = o .before in
     let f : SFits w64 (q .saturating-add .result) = record { sfits = q .saturating-add .ok } in
     let t = simp (toZ-ofZ f) at (o .if1 .left) in
     record {
-      settled = λ room.
-          let e = equity-is q (room .priced) in
+      settled = λ rs rk.
+          let e = equity-is q rs in
           let m = rw e at (simp (toZ-ofZ f) at (c .make-plan .ensures .settled)) in
-          plan-some _ _ _ _ _ _ _ _ _ _ _ (sym (ap (λ v. leZ v (pos 0)) e) ∙ t)
-          (m (record { prices = room .priced; holdings = room .held; full = room .plan; most = room .most }) (room .run));
+          rw (sym (ap (λ v. leZ v (pos 0)) e) ∙ t) (m rs rk);
     }
 
-pub plan-at-spec : {M : Type 1} → statement M
-plan-at-spec = tie.close (tie.spec total-worth-requires saturating-add-requires returns make-plan-requires returns-2)
+pub plan-on-spec : {M : Type 1} → statement M
+plan-on-spec = tie.close (tie.spec total-worth-requires saturating-add-requires returns make-plan-requires returns-2)
