@@ -2,12 +2,13 @@
 ghost use mathlib.Core.Path.{_≡_};
 ghost use lib.IntN.{pos};
 ghost use Rattle.sums.specs.Sums.{SCALE};
-ghost use Rattle.account.specs.Settings.{openingSettings};
+ghost use Rattle.account.specs.Settings.{ofCosts, openingSettings};
 ghost use Rattle.account.specs.Calls.{answered, emptyAccount, zeroAccount, opened, opening};
 use crate::account::Account;
 use crate::account::Counters;
 use crate::account::Series;
 use crate::change::Changed;
+use crate::settings::Rules;
 use crate::settings::Settings;
 use crate::settings::TradeCap;
 use crate::soundness::sound_scalars;
@@ -17,11 +18,11 @@ use position::Shares;
 use table::Table;
 
 // No limits, no cap, no recording, orders as planned.
-fn opening_settings(cost_model: CostModel, quantity_step: i64) -> Settings
-    ensures { λ r. ⌜ r ≡ openingSettings «cost_model» «quantity_step» ⌝ }
+fn opening_settings(rules: Rules, quantity_step: i64) -> Settings
+    ensures { λ r. ⌜ r ≡ openingSettings rules «quantity_step» ⌝ }
 {
     Settings {
-        cost_model,
+        rules,
         quantity_step,
         min_order_value: 0,
         max_order_value: 0,
@@ -63,13 +64,13 @@ fn refused(answer: Answer) -> Changed
         return_count: 0,
         prev_equity: 0,
     };
-    let account = empty_account(0, opening_settings(CostModel::zero(), 0), series);
+    let account = empty_account(0, opening_settings(Rules::of_costs(CostModel::zero()), 0), series);
     Changed { answer, account }
 }
 
 // An account that trades whole shares.
 pub fn open(initial_cash: i64, cost_model: CostModel, equity: &mut [i64]) -> Changed
-    ensures { λ r. ⌜ opened r (now (equity .exit)) ≡ opening «initial_cash» «cost_model» (pos SCALE) (now (equity .entry)) ⌝ }
+    ensures { λ r. ⌜ opened r (now (equity .exit)) ≡ opening «initial_cash» (ofCosts «cost_model») (pos SCALE) (now (equity .entry)) ⌝ }
 {
     with_quantity_step(initial_cash, cost_model, Shares::SCALE, equity)
 }
@@ -81,9 +82,9 @@ pub fn with_quantity_step(
     quantity_step: i64,
     equity: &mut [i64],
 ) -> Changed
-    ensures { λ r. ⌜ opened r (now (equity .exit)) ≡ opening «initial_cash» «cost_model» «quantity_step» (now (equity .entry)) ⌝ }
+    ensures { λ r. ⌜ opened r (now (equity .exit)) ≡ opening «initial_cash» (ofCosts «cost_model») «quantity_step» (now (equity .entry)) ⌝ }
 {
-    let settings = opening_settings(cost_model, quantity_step);
+    let settings = opening_settings(Rules::of_costs(cost_model), quantity_step);
     if !sound_scalars(initial_cash, settings) {
         return refused(Answer::BadSetting);
     }
