@@ -56,6 +56,10 @@ emptyAccount cash s x = record {
 abbrev pub zeroAccount : Account
 zeroAccount = emptyAccount (pos 0) zeroSettings (series 0 0 (pos 0))
 
+-- the cash is the first equity
+abbrev pub openAccount : ℤ → Settings → Account
+openAccount cash s = emptyAccount cash s (series 1 0 cash)
+
 -- what a call answers, and the equity buffer as it leaves it
 pub record Opened : Type 0 where
   pub changed : Changed
@@ -70,7 +74,7 @@ unfoldable pub opening : ℤ → Rules → ℤ → List ℤ → Opened
 opening cash r step equity =
     pick (soundScalars cash (openingSettings r step))
     (pick (ltb 0 (length equity))
-    (opened (answered Done (emptyAccount cash (openingSettings r step) (series 1 0 cash))) (set equity 0 cash))
+    (opened (answered Done (openAccount cash (openingSettings r step))) (set equity 0 cash))
     (opened (answered BufferFull zeroAccount) equity))
     (opened (answered BadSetting zeroAccount) equity)
 

@@ -2,8 +2,8 @@
 ghost use mathlib.Core.Path.{_≡_};
 ghost use lib.IntN.{pos};
 ghost use Rattle.sums.specs.Sums.{SCALE};
-ghost use Rattle.account.specs.Settings.{ofCosts, openingSettings};
-ghost use Rattle.account.specs.Calls.{answered, emptyAccount, zeroAccount, opened, opening};
+ghost use Rattle.account.specs.Settings.{ofCosts, openingSettings, zeroSettings};
+ghost use Rattle.account.specs.Calls.{answered, emptyAccount, zeroAccount, openAccount, opened, opening};
 use crate::account::Account;
 use crate::account::Counters;
 use crate::account::Series;
@@ -55,16 +55,45 @@ fn empty_account(cash: i64, settings: Settings, series: Series) -> Account
     }
 }
 
-// "all zeros from a refused opening"
+impl Settings {
+    // No account has them: "`quantity_step` at least 1".
+    pub fn zero() -> Settings
+        ensures { λ r. ⌜ r ≡ zeroSettings ⌝ }
+    {
+        opening_settings(Rules::of_costs(CostModel::zero()), 0)
+    }
+}
+
+impl Account {
+    // "all zeros from a refused opening"
+    pub fn zero() -> Account
+        ensures { λ r. ⌜ r ≡ zeroAccount ⌝ }
+    {
+        let series = Series {
+            equity_count: 0,
+            return_count: 0,
+            prev_equity: 0,
+        };
+        empty_account(0, Settings::zero(), series)
+    }
+
+    // The cash is the first equity.
+    pub fn opened(cash: i64, settings: Settings) -> Account
+        ensures { λ r. ⌜ r ≡ openAccount cash settings ⌝ }
+    {
+        let series = Series {
+            equity_count: 1,
+            return_count: 0,
+            prev_equity: cash,
+        };
+        empty_account(cash, settings, series)
+    }
+}
+
 fn refused(answer: Answer) -> Changed
     ensures { λ r. ⌜ r ≡ answered answer zeroAccount ⌝ }
 {
-    let series = Series {
-        equity_count: 0,
-        return_count: 0,
-        prev_equity: 0,
-    };
-    let account = empty_account(0, opening_settings(Rules::of_costs(CostModel::zero()), 0), series);
+    let account = Account::zero();
     Changed { answer, account }
 }
 
@@ -92,12 +121,7 @@ pub fn with_quantity_step(
         return refused(Answer::BufferFull);
     }
     equity[0] = initial_cash;
-    let series = Series {
-        equity_count: 1,
-        return_count: 0,
-        prev_equity: initial_cash,
-    };
-    let account = empty_account(initial_cash, settings, series);
+    let account = Account::opened(initial_cash, settings);
     Changed {
         answer: Answer::Done,
         account,

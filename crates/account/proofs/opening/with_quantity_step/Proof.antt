@@ -11,7 +11,7 @@ use borrow.Author.Tests.{not-true, not-false, lt-ltb, le-ltb}
 use Rattle.account.specs.declared.settings.Settings.{Settings}
 use Rattle.account.specs.Settings.{ofCosts, openingSettings}
 use Rattle.account.specs.Account.{soundScalars}
-use Rattle.account.specs.Calls.{series, emptyAccount, opened, opening}
+use Rattle.account.specs.Calls.{openAccount, opened, opening}
 use Rattle.account.proofs.opening.with_quantity_step.Statement.{statement}
 use Rattle.account.proofs.opening.with_quantity_step.Tie as tie
 
@@ -61,8 +61,8 @@ returns-2 c =
 slice-set-from-initial-cash : tie.Need-slice-set-from-initial-cash
 slice-set-from-initial-cash c = search needs
 
-empty-account-requires : tie.Need-empty-account-requires
-empty-account-requires c κs = search needs
+opened-requires : tie.Need-opened-requires
+opened-requires c κs = search needs
 
 same-length : tie.Need-same-length
 same-length c = search needs
@@ -74,7 +74,7 @@ returns-3 c =
     let s = o .before .before .before .before in
     let t = sym (same-test (o .before)) ∙ not-false _ (o .if1 .left) in
     let l : 0 < length (s .args .equity .now) = omega arith in
-    let e : c .empty-account .result ≡ emptyAccount (s .args .initial-cash) (settings-at s) (series 1 0 (s .args .initial-cash)) = c .empty-account .ensures ∙ simp (toZ-ofZ (s .fits .initial-cash), same-settings (o .before .before)) in
+    let e : c .opened .result ≡ openAccount (s .args .initial-cash) (settings-at s) = c .opened .ensures ∙ simp (toZ-ofZ (s .fits .initial-cash), same-settings (o .before .before)) in
     rw (t, lt-ltb 0 (length (s .args .equity .now)) l) (simp (toZ-ofZ (s .fits .initial-cash), e))
 
 pub with-quantity-step-spec : {M : Type 1} → statement M
@@ -89,6 +89,6 @@ with-quantity-step-spec =
     refused-requires-2
     returns-2
     slice-set-from-initial-cash
-    empty-account-requires
+    opened-requires
     same-length
     returns-3)
