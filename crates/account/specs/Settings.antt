@@ -20,11 +20,12 @@ atLeast n z = leZ (pos n) z
 abbrev pub goodBand : Float → Bool
 goodBand x = goodRate x
 
--- "opening cash, `min_commission`, `min_order_value`, `max_order_value` and `max_rebalance_notional` at least 0; `quantity_step` at least 1;
--- `commission_bps` and `no_trade_band_bps` finite and at least 0; `slippage_bps` from 0 to 10,000; the trade cap absent or any count"
+-- ".. `min_commission` .. at least 0; .. `commission_bps` .. finite and at least 0; `slippage_bps` from 0 to 10,000"
 unfoldable pub goodRules : Rules → Bool
 goodRules r = goodCosts (r .«cost_model»)
 
+-- "opening cash, `min_commission`, `min_order_value`, `max_order_value` and `max_rebalance_notional` at least 0; `quantity_step` at least 1;
+-- `commission_bps` and `no_trade_band_bps` finite and at least 0; `slippage_bps` from 0 to 10,000; the trade cap absent or any count"
 unfoldable pub goodSettings : Settings → Bool
 goodSettings s =
     both (goodRules (s .rules))
