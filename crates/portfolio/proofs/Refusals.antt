@@ -13,22 +13,15 @@ use borrow.Author.Tests.{leb-true, le-leb, lt-leb}
 use Rattle.answer.specs.declared.Answer.the-variants.{Done, BadSymbol, BadPrice, TooMany, NoRecordRoom, BufferFull, Unsound}
 use Rattle.answer.proofs.Answers.{done-is, passed, passed-both}
 use Rattle.table.specs.Keyed.{both, Rising}
-use Rattle.table.specs.Rows.{columnsOf, Full, ordered}
+use Rattle.table.specs.Rows.{columnsOf, Full}
 use Rattle.table.proofs.Keyed.{both-true}
 use Rattle.call_lists.specs.Checks.{unless, listsAnswer, pricesAnswer}
 use Rattle.call_lists.proofs.Checks.{Accepted, done-accepted}
 use Rattle.account.specs.declared.account.Account.{Account}
 use Rattle.position.specs.Symbols.{goodSymbol}
-use Rattle.account.specs.Account.{soundAccount, soundColumns, heldIn}
-use Rattle.account.proofs.Columns.{ordered-small}
-use Rattle.account.proofs.Holdings.{account-table}
+use Rattle.account.specs.Account.{soundAccount, heldIn}
 use Rattle.portfolio.specs.Answers.{isDone, orLater, hasRoom, notHeld, rebalanceAnswer, queryAnswer, returnAnswer, closeAnswer}
 use Rattle.portfolio.specs.Planned.{Ready}
-
--- the count of a sound account's positions, whatever the lengths of its columns
-pub sound-small : (a : Account) → soundAccount a ≡ true → a .positions .count ≤ 64
-unfolding soundColumns
-sound-small a e = let n = a .positions .count in let c = columnsOf (a .positions) in ordered-small n c (both-true (ordered n c) _ (account-table a e) .0)
 
 -- ---- a query with prices
 pub record Queried (a : Account) (ps : List ℕ) (vs : List ℤ) : Type 0 where
