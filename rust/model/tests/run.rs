@@ -98,7 +98,7 @@ fn a_run_stops_where_asked() {
     let (out, page) = model("stop", Some(&stops), &["--stop"]);
     assert_eq!(out.status.code(), Some(1));
     assert!(!said(&out).contains("\ntwo\n"));
-    assert!(page.unwrap().contains("the run stopped there"));
+    assert!(page.unwrap().contains("The run stopped there."));
     let (out, page) = model("unread", Some(BAD), &["--stop"]);
     assert_eq!(out.status.code(), Some(1));
     assert!(!said(&out).contains("equity") && page.is_none());
