@@ -71,14 +71,16 @@ pub fn run(plan: &Plan, stop: bool, mut told: impl FnMut(usize, &Told)) -> Resul
         let mut now = Told { label: period.label.clone(), ..Told::default() };
         trade(&mut account, k as u64, period, &mut now);
         let prices = period.all_prices();
-        match account.record_return(&prices, &mut equities, &mut returns) {
-            Ok(()) => {
+        let recorded = (!period.prices_unread).then(|| account.record_return(&prices, &mut equities, &mut returns));
+        match recorded {
+            None => {}
+            Some(Ok(())) => {
                 now.equity = Some(account.previous_equity());
                 now.gain = (account.return_count() > gains).then(|| returns[gains as usize]);
                 weights = account.current_weights(&prices).map(|w| w.to_vec()).unwrap_or_default();
                 now.refused.extend(unpriced(&account, period));
             }
-            Err(refusal) => {
+            Some(Err(refusal)) => {
                 let line = bad_prices(&account, period).unwrap_or(period.line);
                 now.refused.push(Refused { line, what: "the period's return".into(), why: Why::Library(refusal) });
             }
@@ -115,6 +117,9 @@ fn trade(account: &mut Account, index: u64, period: &Period, now: &mut Told) {
         }
     }
     let Some(lines) = &period.targets else { return };
+    if period.prices_unread || period.targets_unread {
+        return;
+    }
     let context = Context { period_index: index, kind: ExecutionKind::Rebalance };
     match account.rebalance_simple(&period.all_targets(), &prices, context, &mut records) {
         Ok(filled) => now.fills.extend(&records[..filled]),

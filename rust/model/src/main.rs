@@ -6,6 +6,8 @@ mod page;
 mod plan;
 mod text;
 
+use history::History;
+use plan::{Plan, Unread};
 use std::io::{self, IsTerminal, Write};
 use std::path::PathBuf;
 use std::process::ExitCode;
@@ -91,10 +93,15 @@ fn run(asked: Asked) -> io::Result<bool> {
         }
     };
     text::summary(&mut out, &plan, &history)?;
+    publish(&mut out, &asked, &plan, &unread, &history)
+}
+
+/// Writes the page. Whether every line of the file counted.
+fn publish(out: &mut impl Write, asked: &Asked, plan: &Plan, unread: &[Unread], history: &History) -> io::Result<bool> {
     if let Some(folder) = asked.page.parent() {
         std::fs::create_dir_all(folder)?;
     }
-    std::fs::write(&asked.page, page::page(&plan, &unread, &history))?;
+    std::fs::write(&asked.page, page::page(plan, unread, history))?;
     writeln!(out, "page: {}", asked.page.display())?;
     let left_out = unread.len() + history.refusals().count();
     if left_out > 0 {

@@ -62,11 +62,11 @@ fn left_out(out: &mut String, unread: &[Unread], history: &History) {
     }
     all.sort_by_key(|(line, _)| *line);
     let (count, do_not) = (all.len(), if all.len() == 1 { "entry does" } else { "entries do" });
-    let then = if history.stopped { "; the run stopped there" } else { "" };
+    let then = if history.stopped { " The run stopped there." } else { "" };
     let _ = write!(
         out,
         "<section class=\"left-out\">\n<h2>{count} {do_not} not count</h2>\n\
-         <p>Each was refused, can't be read or has no price, and the account stayed as it was{then}.</p>\n"
+         <p>Each was refused, can't be read or has no price. A refused call changes nothing.{then}</p>\n"
     );
     let (open, folded) = all.split_at(all.len().min(OPEN));
     list(out, open);

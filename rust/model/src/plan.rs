@@ -24,9 +24,18 @@ pub struct Period {
     /// None where the period asks for no rebalance; a list may be empty.
     pub targets: Option<Vec<Said<Vec<Target>>>>,
     pub closes: Vec<Said<Close>>,
+    /// Whether a line of prices can't be read: what it prices would count 0.
+    pub prices_unread: bool,
+    /// Whether a line of targets can't be read: what it names would be closed.
+    pub targets_unread: bool,
 }
 
 impl Period {
+    fn new(line: usize, label: String) -> Period {
+        let (prices, closes) = (Vec::new(), Vec::new());
+        Period { line, label, prices, targets: None, closes, prices_unread: false, targets_unread: false }
+    }
+
     pub fn all_prices(&self) -> Vec<Price> {
         self.prices.iter().flat_map(|said| said.what.iter().copied()).collect()
     }
@@ -85,7 +94,7 @@ fn take(plan: &mut Plan, line: usize, word: &str, rest: &str) -> Result<(), Stri
     if word == "period" {
         // Without a label it still begins here: its lines are not those of the period before.
         let label = if rest.is_empty() { format!("line {line}") } else { rest.into() };
-        plan.periods.push(Period { line, label, prices: Vec::new(), targets: None, closes: Vec::new() });
+        plan.periods.push(Period::new(line, label));
         return if rest.is_empty() { Err("a period has a label".into()) } else { Ok(()) };
     }
     match plan.periods.last_mut() {
@@ -126,11 +135,15 @@ fn take_setting(plan: &mut Plan, line: usize, word: &str, rest: &str) -> Result<
 fn take_in_period(period: &mut Period, line: usize, word: &str, rest: &str) -> Result<(), String> {
     match word {
         "prices" => {
-            let what = pairs(rest, |symbol, price| Ok(Price { symbol, price: cents(price)? }))?;
+            let what = pairs(rest, |symbol, price| Ok(Price { symbol, price: cents(price)? }));
+            period.prices_unread |= what.is_err();
+            let what = what.map_err(|why| format!("{why}, so the period has no rebalance and no equity"))?;
             period.prices.push(Said { line, what });
         }
         "targets" => {
-            let what = pairs(rest, |symbol, weight| Ok(Target { symbol, weight: number(weight)? }))?;
+            let what = pairs(rest, |symbol, weight| Ok(Target { symbol, weight: number(weight)? }));
+            period.targets_unread |= what.is_err();
+            let what = what.map_err(|why| format!("{why}, so the period has no rebalance"))?;
             period.targets.get_or_insert_default().push(Said { line, what });
         }
         "close" => {

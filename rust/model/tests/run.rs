@@ -86,6 +86,23 @@ fn a_bad_line_is_told_with_its_number_and_the_run_goes_on() {
 }
 
 #[test]
+fn a_period_is_not_half_read() {
+    let text = "cash 100.00\nperiod one\nprices A 1.00\nprices B 1.00\ntargets A 0.5\ntargets B 0.5\n\
+                period two\nprices A 1.00\nprices B 1.00\ntargets A 0.5\ntargets B half\n\
+                period three\nprices A 1.00\nprices B 1,00\ntargets A 0.5\ntargets B 0.5\n\
+                period four\nprices A 1.00\nprices B 1.00\n";
+    let (out, page) = model("half", Some(text), &[]);
+    assert_eq!(out.status.code(), Some(1));
+    let said = said(&out);
+    assert!(
+        said.contains("two\n  equity 100.00 (0.00%)\nthree\n  no equity for this period\nfour\n  equity 100.00"),
+        "{said}"
+    );
+    assert!(said.contains(":11: 'half' is no number, so the period has no rebalance\n"), "{said}");
+    assert!(page.unwrap().contains("so the period has no rebalance and no equity</li>"));
+}
+
+#[test]
 fn a_long_list_is_folded() {
     let (_, page) = model("long", Some(&("cash 1.00\nperiod one\n".to_string() + &"nonsense\n".repeat(50))), &[]);
     let page = page.unwrap();
@@ -98,7 +115,7 @@ fn a_run_stops_where_asked() {
     let (out, page) = model("stop", Some(&stops), &["--stop"]);
     assert_eq!(out.status.code(), Some(1));
     assert!(!said(&out).contains("\ntwo\n"));
-    assert!(page.unwrap().contains("the run stopped there"));
+    assert!(page.unwrap().contains("The run stopped there."));
     let (out, page) = model("unread", Some(BAD), &["--stop"]);
     assert_eq!(out.status.code(), Some(1));
     assert!(!said(&out).contains("equity") && page.is_none());
