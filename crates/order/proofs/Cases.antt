@@ -1,6 +1,6 @@
 -- The worked runs, evaluated, and condition 3 at case l: its conditions can be met, and are needed.
 use Prim.Native.Nat.{ℕ}
-use mathlib.Core.Bool.{true}
+use mathlib.Core.Bool.{true, false}
 use mathlib.Core.List.{[], _∷_}
 use mathlib.Core.Path.{_≡_, refl, sym, subst}
 use native.Mathlib.Omega.{arith}
@@ -20,7 +20,7 @@ use Rattle.fills.specs.Orders.{paid}
 use Rattle.fills.specs.Fill.{fillsWhole, made, counted, settled, trimmedFill, fill, fillAll}
 use Rattle.order.specs.Running.{swap, total, nothing, and, parted, NotBelow0, InRange}
 use Rattle.order.specs.Statement.{lowers, cashRaised, Batch, allWhole, AllWhole, SameLeft}
-use Rattle.order.specs.Examples.{floorOf, opened, allComeOut, saleFirst, buyFirst, smallSale, runs, sameSymbol, oneRoom}
+use Rattle.order.specs.Examples.{floorOf, opened, allComeOut, saleFirst, buyFirst, smallSale, runs, sameSymbol, oneRoom, slipsDown, slippedBuy, slippedSale, badCosts}
 use Rattle.order.proofs.Perms.{perm-refl}
 use Rattle.order.proofs.OrderTheorem.{condition-3, parted-whole}
 
@@ -33,6 +33,9 @@ pub record Evaluated : Type 0 where
   pub small-sale-lowers-cash : lowers (floorOf (pos 15)) smallSale ≡ true
   pub same-symbol-matters : sameSymbol ≡ (pos 50 ∷ []) ∷ ((pos 0 ∷ []) ∷ [])
   pub one-room-matters : oneRoom ≡ (64 ∷ []) ∷ ((65 ∷ []) ∷ [])
+  pub good-costs-matter : badCosts ≡ true ∷ (false ∷ [])
+  pub slipped-buy-lowers-cash : lowers slipsDown slippedBuy ≡ true
+  pub slipped-sale-lowers-cash : lowers slipsDown slippedSale ≡ true
   good : goodCosts (free .costs) ≡ true
   raised : total (cashRaised free) saleFirst ≡ 80
   sale-first-at-50 : AllWhole free saleFirst (opened (pos 50))
@@ -46,6 +49,9 @@ evaluated = record {
   small-sale-lowers-cash = refl;
   same-symbol-matters = refl;
   one-room-matters = refl;
+  good-costs-matter = refl;
+  slipped-buy-lowers-cash = refl;
+  slipped-sale-lowers-cash = refl;
   good = refl;
   raised = refl;
   sale-first-at-50 = refl;

@@ -78,7 +78,7 @@ module _ (t : Terms) (os : List Order) (s : State) where
   parted-whole f w p a =
       whole-if-any f w p a (parted (lowers t) os) (perm-parted (lowers t) os) (Rule.parted-last (fills t (f .costs)) os)
 
-  -- Cash-first mode, "admitted sells run before admitted buys", in whatever order within the two, is such a running order where no sell lowers cash.
+  -- Cash-first mode, "admitted sells run before admitted buys", in whatever order within the two, fills each whole where no sell lowers cash and any running order does.
   pub cash-first-whole : Funded t os s → (w : List Order) → Perm Order os w → AllWhole t w s
       → (sells bought : List Order) → Perm Order os (sells ++ bought) → All Order (λ o. T (lowers t o) → ⊥) sells → All Order (λ o. T (buys o)) bought → AllWhole t (sells ++ bought) s
   unfolding fills cashChange paid

@@ -5,6 +5,7 @@ use mathlib.Core.List.{List, [], _∷_, _++_, map}
 use lib.Dec.{eqb}
 use lib.ListN.{drop}
 use lib.IntN.{ℤ, pos, negsuc}
+use lib.Ieee.{fin}
 use Rattle.position.specs.declared.position.Position.{Position}
 use Rattle.position.specs.Rows.{shares, symbol, fresh, keyOf, realized}
 use Rattle.cost_model.specs.Costs as Costs
@@ -135,6 +136,23 @@ abbrev pub overdrawn : List Run
 overdrawn =
     run (pos 0) (negsuc 9) (sell 2 (pos 20) ∷ (sell 1 (pos 5) ∷ [])) true (pos 15)
     ∷ (run (pos 0) (negsuc 9) (sell 1 (pos 5) ∷ (sell 2 (pos 20) ∷ [])) false (pos 10)
+    ∷ [])
+
+-- Good costs: slippage -10,000 takes a buy's price to 0, at which it needs nothing and still pays the floor. Both orders lower cash, so that either may come
+-- first; behind the buy the sale, which brings 2, is skipped.
+abbrev pub slipsDown : Terms
+slipsDown = record { costs = Costs.model Costs.zero (fin true 625 (pos 4)) (pos 15); «quantity_step» = pos 1000000; recording = false; «period_index» = 0; kind = Rebalance }
+
+abbrev pub slippedBuy : Order
+slippedBuy = buy 1 (pos 5)
+
+abbrev pub slippedSale : Order
+slippedSale = sell 2 (pos 1)
+
+abbrev pub badCosts : List Bool
+badCosts =
+    allWhole slipsDown (slippedSale ∷ (slippedBuy ∷ [])) (opened (pos 15))
+    ∷ (allWhole slipsDown (slippedBuy ∷ (slippedSale ∷ [])) (opened (pos 15))
     ∷ [])
 
 abbrev pub runs : List Run
