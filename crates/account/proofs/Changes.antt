@@ -1,22 +1,14 @@
--- Settings by their parts, when a setter refuses, and that opening and setters give sound accounts.
-use mathlib.Core.Path.{_≡_, refl}
-use mathlib.Core.Bool.{Bool, true, false}
+-- Settings by their parts, and when a setter refuses.
+use mathlib.Core.Path.{_≡_}
+use mathlib.Core.Bool.{Bool, true}
 use lib.IntN.{ℤ}
 use lib.Ieee.{Float}
 use Rattle.cost_model.specs.Costs.{goodCosts}
-use Rattle.answer.specs.declared.Answer.the-variants.{Done, BadSetting}
-use Rattle.table.specs.Keyed.{pick}
-use Rattle.table.specs.Rows.{emptyTable, unused, ordered}
 use Rattle.table.proofs.Keyed.{both-true}
 use Rattle.account.specs.declared.settings.Settings.{Settings}
 use Rattle.account.specs.declared.settings.TradeCap.{TradeCap}
-use Rattle.account.specs.declared.account.Account.{Account}
-use Rattle.account.specs.declared.account.Series.{Series}
 use Rattle.account.specs.Settings.{atLeast, goodBand, goodSettings, withStep, withMinOrder, withMaxOrder, withBand, withTradeCap, withMaxNotional, withRecording, withCashFirst}
-use Rattle.account.specs.Account.{soundPlaces, soundColumns, soundTable, soundScalars, soundAccount, withSettings}
-use Rattle.account.specs.Calls.{emptyAccount, answered, changed}
 use Rattle.account.proofs.Columns.{both-unit}
-use Rattle.account.proofs.Holdings.{account-scalars, account-table, account-sound}
 
 -- ---- good settings by their parts
 pub record Good (s : Settings) : Type 0 where
@@ -72,33 +64,3 @@ module _ (s : Settings) (g : Good s) where
 
   pub cash-first-good : (on : Bool) → goodSettings (withCashFirst on s) ≡ true
   cash-first-good on = parts-good (withCashFirst on s) (record { costs = g .costs; step = g .step; min-order = g .min-order; max-order = g .max-order; band = g .band; max-notional = g .max-notional })
-
--- ---- sound accounts
-pub account-settings : (a : Account) → soundAccount a ≡ true → goodSettings (a .settings) ≡ true
-unfolding soundScalars
-account-settings a e = both-true (atLeast 0 (a .cash)) _ (account-scalars a e) .1
-
-pub account-cash : (a : Account) → soundAccount a ≡ true → atLeast 0 (a .cash) ≡ true
-unfolding soundScalars
-account-cash a e = both-true (atLeast 0 (a .cash)) _ (account-scalars a e) .0
-
-pub parts-account : (a : Account) → atLeast 0 (a .cash) ≡ true → goodSettings (a .settings) ≡ true → soundTable (a .positions) ≡ true → soundAccount a ≡ true
-unfolding soundScalars
-parts-account a c g t = account-sound a (simp (c, g)) t
-
--- a setter that is done, and one that is refused, keep an account sound
-pub changed-keeps-sound : (s : Settings) (a : Account) → soundAccount a ≡ true → soundAccount (changed s a .account) ≡ true
-unfolding changed
-changed-keeps-sound s a e = rw e (go (goodSettings s) refl)
-  where
-    go : (b : Bool) → goodSettings s ≡ b → soundAccount (pick b (answered Done (withSettings s a)) (answered BadSetting a) .account) ≡ true
-    go true g = parts-account (withSettings s a) (account-cash a e) g (account-table a e)
-    go false g = e
-
--- an account that was opened is sound
-empty-sound : soundTable emptyTable ≡ true
-unfolding soundColumns soundPlaces ordered unused
-empty-sound = refl
-
-pub opened-sound : (cash : ℤ) (s : Settings) (x : Series) → soundScalars cash s ≡ true → soundAccount (emptyAccount cash s x) ≡ true
-opened-sound cash s x e = account-sound (emptyAccount cash s x) e empty-sound

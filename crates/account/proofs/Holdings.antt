@@ -1,41 +1,19 @@
--- What a sound account holds: the position of a symbol, and the one at a place.
+-- What ordered columns hold: the position of a symbol, and the one at a place.
 use Prim.Native.Nat.{ℕ, _<_, _≤_}
 use mathlib.Core.Path.{_≡_, sym, ap, _∙_}
-use mathlib.Core.Bool.{true}
 use native.Mathlib.Omega.{arith}
 use lib.ListN.{length, take, getD}
 use Rattle.position.specs.Rows.{fresh, keyOf}
 use Rattle.table.specs.Keyed.{seek}
 use Rattle.table.specs.Places.{found}
-use Rattle.table.specs.Rows.{Cols, columnsOf, rows, rowAt, heldAt, Full, Ordered}
+use Rattle.table.specs.Rows.{Cols, rows, heldAt, Ordered}
 use Rattle.table.specs.declared.found.Found.{Found}
 use Rattle.table.specs.declared.found.Found.the-variants.{At, Absent}
-use Rattle.table.proofs.Keyed.{both-true}
 use Rattle.table.proofs.Places.{stands, lacks}
 use Rattle.table.proofs.Zipped.{keys-of}
-use Rattle.account.specs.declared.account.Account.{Account}
-use Rattle.account.specs.Account.{soundScalars, soundTable, soundAccount}
 use Rattle.account.specs.Calls.{present, presentOr, foundIn}
-use Rattle.account.proofs.Columns.{held-row, rows-length, row-of, sound-orders}
+use Rattle.account.proofs.Columns.{held-row, rows-length, row-of}
 
--- ---- the parts of a sound account
-module _ (a : Account) (e : soundAccount a ≡ true) where
-  pub account-scalars : soundScalars (a .cash) (a .settings) ≡ true
-  unfolding soundAccount
-  account-scalars = both-true (soundScalars (a .cash) (a .settings)) _ e .0
-
-  pub account-table : soundTable (a .positions) ≡ true
-  unfolding soundAccount
-  account-table = both-true (soundScalars (a .cash) (a .settings)) _ e .1
-
-  pub account-ordered : Full (columnsOf (a .positions)) → Ordered (a .positions .count) (columnsOf (a .positions))
-  account-ordered f = sound-orders (a .positions .count) (columnsOf (a .positions)) f account-table
-
-pub account-sound : (a : Account) → soundScalars (a .cash) (a .settings) ≡ true → soundTable (a .positions) ≡ true → soundAccount a ≡ true
-unfolding soundAccount
-account-sound a c t = simp (c, t)
-
--- ---- one position
 pub place-holds : (n i : ℕ) (c : Cols) → Ordered n c → i < n → heldAt (At i) 0 c ≡ getD (rows n c) i (fresh 0)
 place-holds n i c o h = held-row i 0 c (omega (arith, o .small)) ∙ sym (row-of c (o .full) n i h)
 

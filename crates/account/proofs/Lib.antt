@@ -3,3 +3,4 @@ pub mod Columns
 pub mod Tables
 pub mod Holdings
 pub mod Changes
+pub mod SoundAccounts

@@ -32,7 +32,7 @@ use Rattle.account.specs.declared.query.Step.{Step}
 use Rattle.account.specs.declared.query.Flag.{Flag}
 use Rattle.account.specs.declared.query.Costs.{Costs}
 use Rattle.account.specs.declared.holding.Held.{Held}
-use Rattle.account.specs.Settings.{goodSettings, openingSettings}
+use Rattle.account.specs.Settings.{goodSettings, openingSettings, zeroSettings}
 use Rattle.account.specs.Account.{heldIn, soundScalars, soundAccount, withSettings}
 
 abbrev pub answered : Answer → Account → Changed
@@ -53,7 +53,7 @@ emptyAccount cash s x = record {
 
 -- "all zeros from a refused opening"
 abbrev pub zeroAccount : Account
-zeroAccount = emptyAccount (pos 0) (openingSettings free (pos 0)) (series 0 0 (pos 0))
+zeroAccount = emptyAccount (pos 0) zeroSettings (series 0 0 (pos 0))
 
 -- what a call answers, and the equity buffer as it leaves it
 pub record Opened : Type 0 where

@@ -6,7 +6,7 @@ use lib.Signed.{leZ}
 use lib.Ieee.{Float, fin}
 use Rattle.table.specs.Keyed.{both}
 use Rattle.cost_model.specs.declared.CostModel.{CostModel}
-use Rattle.cost_model.specs.Costs.{goodRate, goodCosts}
+use Rattle.cost_model.specs.Costs.{free, goodRate, goodCosts}
 use Rattle.account.specs.declared.settings.Settings.{Settings}
 use Rattle.account.specs.declared.settings.TradeCap.{TradeCap}
 use Rattle.account.specs.declared.settings.TradeCap.the-variants.{Absent, AtMost}
@@ -47,6 +47,10 @@ settings m k low high band cap top recording first = record {
 -- what an account opens with: no limits, no cap, no recording, orders as planned
 abbrev pub openingSettings : CostModel → ℤ → Settings
 openingSettings m step = settings m step (pos 0) (pos 0) (fin false 0 (pos 0)) Absent (pos 0) false false
+
+-- "all zeros": those of a refused opening
+abbrev pub zeroSettings : Settings
+zeroSettings = openingSettings free (pos 0)
 
 -- ---- one setting changed
 abbrev pub withStep : ℤ → Settings → Settings

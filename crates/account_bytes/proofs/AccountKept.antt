@@ -16,8 +16,8 @@ use Rattle.table.specs.declared.table.Table.{Table}
 use Rattle.account.specs.declared.account.Account.{Account}
 use Rattle.account.specs.declared.account.Counters.{Counters}
 use Rattle.account.specs.declared.account.Series.{Series}
-use Rattle.account.specs.Settings.{atLeast}
-use Rattle.account.specs.Account.{soundScalars, soundAccount, withSeries}
+use Rattle.account.specs.Account.{soundAccount, withSeries}
+use Rattle.account.proofs.SoundAccounts.{account-settings}
 use Rattle.word_bytes.specs.Words.{wordsIn, wordsOf, bytesOf, turned}
 use Rattle.word_bytes.specs.Numbers.{signedOf, unsignedOf}
 use Rattle.word_bytes.proofs.Words.{Words, Octets, length-words, words-bytes, length-bytes, words-fit, bytes-words}
@@ -57,8 +57,7 @@ pub record KeptAccount (a : Account) : Type 0 where
 
 -- A sound account is one of them.
 pub sound-rates : (a : Account) → soundAccount a ≡ true → NoNan (a .settings)
-unfolding soundAccount soundScalars
-sound-rates a e = good-rates (a .settings) (both-true (atLeast 0 (a .cash)) _ (both-true (soundScalars (a .cash) (a .settings)) _ e .0) .1)
+sound-rates a e = good-rates (a .settings) (account-settings a e)
 
 -- ---- every word of an account is a word
 counts-fit : (k : Counters) (s : Series) (n : ℕ) → KeptCounts k s → n < 2 ^ 64 → Words (countWords k s n)

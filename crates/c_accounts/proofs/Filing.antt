@@ -13,16 +13,15 @@ use borrow.Author.Tests.{eq-eqb, ne-eqb}
 use Rattle.answer.specs.declared.Answer.the-variants.{Done, BadSetting, Unsound}
 use Rattle.answer.specs.Numbers.{numberOf}
 use Rattle.table.specs.Keyed.{pick, both}
-use Rattle.table.specs.Rows.{emptyTable}
 use Rattle.table.proofs.Keyed.{both-true}
 use Rattle.word_bytes.specs.Words.{wordsOf}
-use Rattle.cost_model.specs.Costs.{free, goodCosts}
 use Rattle.account.specs.declared.account.Account.{Account}
 use Rattle.account.specs.declared.settings.Settings.{Settings}
 use Rattle.account.specs.declared.change.Changed.{Changed}
 use Rattle.account.specs.Settings.{goodSettings}
-use Rattle.account.specs.Account.{soundTable, soundScalars, soundAccount, withSettings}
-use Rattle.account.specs.Calls.{zeroAccount, answered, changed}
+use Rattle.account.specs.Account.{soundAccount, withSettings}
+use Rattle.account.specs.Calls.{answered, changed}
+use Rattle.account.proofs.SoundAccounts.{zero-unsound}
 use Rattle.account_bytes.specs.Sizes.{accountLength}
 use Rattle.account_bytes.specs.Account.{gotAccount, noAccount, accountOf, holdAccount, readAccount, writtenAccount}
 use Rattle.account_bytes.proofs.AccountKept.{good-long}
@@ -30,15 +29,6 @@ use Rattle.c_accounts.specs.Entries.{accountIn, soundIn, accountBytes, t
 use Rattle.c_accounts.specs.Setters.{setIn, filed}
 
 -- ---- bytes that hold no account
--- "`quantity_step` at least 1": the account of zeros has 0
-pub zero-unsound : soundAccount zeroAccount ≡ false
-unfolding soundAccount soundScalars goodSettings
-zero-unsound = go (goodCosts free) (soundTable emptyTable)
-  where
-    go : (b t : Bool) → both (both b false) t ≡ false
-    go true t = refl
-    go false t = refl
-
 good-or-zero : (t : Bool) (a : Account) → let r = pick t (gotAccount a) noAccount in both (r .good) (soundAccount (r .account)) ≡ soundAccount (r .account)
 good-or-zero true a = refl
 good-or-zero false a = sym zero-unsound

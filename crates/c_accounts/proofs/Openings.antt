@@ -9,29 +9,18 @@ use borrow.Author.Tests.{eq-eqb, ne-eqb, lt-ltb, le-ltb}
 use Rattle.answer.specs.declared.Answer.the-variants.{Done, BadSetting, BufferFull, Unsound}
 use Rattle.table.specs.Keyed.{pick, both}
 use Rattle.word_bytes.specs.Words.{wordsOf, bytesOf}
-use Rattle.cost_model.specs.Costs.{free, goodCosts}
 use Rattle.account.specs.declared.settings.Settings.{Settings}
-use Rattle.account.specs.Settings.{atLeast, goodSettings}
 use Rattle.account.specs.Account.{soundScalars}
+use Rattle.account.proofs.SoundAccounts.{zero-scalars-unsound}
 use Rattle.account_bytes.specs.Sizes.{accountLength}
-use Rattle.account_bytes.specs.Settings.{zeroSettings, gotSettings, noSettings, settingsAt, holdSettings, readSettings}
+use Rattle.account_bytes.specs.Settings.{gotSettings, noSettings, settingsAt, holdSettings, readSettings}
 use Rattle.account_bytes.specs.Account.{accountWords, writtenAccount}
 use Rattle.c_accounts.specs.Entries.{accountBytes}
 use Rattle.c_accounts.specs.Opening.{opening, openAccount, soundOpening, openIn}
 
--- "`quantity_step` at least 1": the settings of zeros have 0
-pub zero-bad : (cash : ℤ) → soundScalars cash zeroSettings ≡ false
-unfolding soundScalars goodSettings
-zero-bad cash = go (atLeast 0 cash) (goodCosts free)
-  where
-    go : (t g : Bool) → both t (both g false) ≡ false
-    go true true = refl
-    go true false = refl
-    go false g = refl
-
 good-or-zero : (t : Bool) (cash : ℤ) (s : Settings) → let r = pick t (gotSettings s) noSettings in both (r .good) (soundScalars cash (r .settings)) ≡ soundScalars cash (r .settings)
 good-or-zero true cash s = refl
-good-or-zero false cash s = sym (zero-bad cash)
+good-or-zero false cash s = sym (zero-scalars-unsound cash)
 
 pub sound-opening : (cash : ℤ) (g : List ℕ) → soundOpening cash g ≡ soundScalars cash (readSettings g .settings)
 unfolding soundOpening readSettings

@@ -9,14 +9,11 @@ use lib.ListN.{length, take}
 use Rattle.answer.specs.declared.Answer.{Answer}
 use Rattle.answer.specs.declared.Answer.the-variants.{Done, TooLong, Unsound}
 use Rattle.table.specs.Keyed.{pick, both}
-use Rattle.table.specs.Rows.{emptyTable}
 use Rattle.table.proofs.Keyed.{both-true}
 use Rattle.call_lists.specs.Checks.{unless}
-use Rattle.cost_model.specs.Costs.{free, goodCosts}
 use Rattle.account.specs.declared.account.Account.{Account}
-use Rattle.account.specs.Settings.{goodSettings}
-use Rattle.account.specs.Account.{soundTable, soundScalars, soundAccount}
-use Rattle.account.specs.Calls.{zeroAccount}
+use Rattle.account.specs.Account.{soundAccount}
+use Rattle.account.proofs.SoundAccounts.{zero-unsound}
 use Rattle.word_bytes.specs.Words.{wordsOf}
 use Rattle.account_bytes.specs.Account.{gotAccount, noAccount, accountOf, holdAccount, readAccount}
 use Rattle.list_bytes.specs.declared.price.Prices.{Prices}
@@ -28,15 +25,6 @@ use Rattle.portfolio.specs.Answers.{isDone}
 use Rattle.c_queries.specs.Asked.{accountIn, soundIn, asked, early}
 
 -- ---- bytes that hold no account
--- "`quantity_step` at least 1": the account of zeros has 0
-zero-unsound : soundAccount zeroAccount ≡ false
-unfolding soundAccount soundScalars goodSettings
-zero-unsound = go (goodCosts free) (soundTable emptyTable)
-  where
-    go : (b t : Bool) → both (both b false) t ≡ false
-    go true t = refl
-    go false t = refl
-
 good-or-zero : (t : Bool) (a : Account) → let r = pick t (gotAccount a) noAccount in both (r .good) (soundAccount (r .account)) ≡ soundAccount (r .account)
 good-or-zero true a = refl
 good-or-zero false a = sym zero-unsound

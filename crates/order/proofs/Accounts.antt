@@ -8,12 +8,10 @@ use lib.IntN.{ℤ, pos, _+ℤ_}
 use Rattle.position.specs.declared.position.Position.{Position}
 use Rattle.cost_model.specs.declared.CostModel.{CostModel}
 use Rattle.cost_model.specs.Costs.{goodCosts}
-use Rattle.table.specs.Keyed.{both}
 use Rattle.table.specs.Rows.{Cols, rows, Ordered}
-use Rattle.table.proofs.Keyed.{both-true}
 use Rattle.account.specs.declared.account.Account.{Account}
-use Rattle.account.specs.Settings.{goodSettings}
-use Rattle.account.specs.Account.{soundScalars, soundTable, soundAccount, tableFrom, tableOf}
+use Rattle.account.specs.Account.{tableFrom, tableOf}
+use Rattle.account.proofs.SoundAccounts.{account-cash, account-costs}
 use Rattle.account.proofs.Tables.{ordered-table}
 use Rattle.fills.specs.declared.order.Order.{Order}
 use Rattle.fills.specs.declared.order.Terms.{Terms}
@@ -24,23 +22,14 @@ use Rattle.order.specs.Statement.{cashRaised, placesAsked, Batch, AllWho
 use Rattle.order.specs.OnAccount.{Begins, OrdersOn, SameAccount}
 use Rattle.order.proofs.OrderTheorem.{condition-3}
 
-sound-scalars : (a : Account) → soundAccount a ≡ true → NotBelow0 (a .cash) × (goodSettings (a .settings) ≡ true)
-unfolding soundAccount soundScalars
-sound-scalars a e = both-true _ _ (both-true _ (soundTable (a .positions)) e .0)
-
-good-costs : (a : Account) → goodSettings (a .settings) ≡ true → goodCosts (a .settings .«cost_model») ≡ true
-unfolding goodSettings
-good-costs a e = both-true (goodCosts (a .settings .«cost_model»)) _ e .0
-
 module _ (a : Account) (t : Terms) (os : List Order) (s : State) (g : OrdersOn a t os) (b : Begins a t s) where
   batch : Batch t os s
   batch =
-      let k = sound-scalars a (g .sound) in
       record {
         funded = record {
-          costs = subst (λ (m : CostModel). goodCosts m ≡ true) (sym (b .costs)) (good-costs a (k .1));
+          costs = subst (λ (m : CostModel). goodCosts m ≡ true) (sym (b .costs)) (account-costs a (g .sound));
           orders = g .orders;
-          cash-low = subst NotBelow0 (sym (b .cash)) (k .0);
+          cash-low = subst NotBelow0 (sym (b .cash)) (account-cash a (g .sound));
           cash-top = subst (λ (z : ℤ). InRange (z +ℤ pos (total (cashRaised t) os))) (sym (b .cash)) (g .cash-top);
         };
         different = g .different;

@@ -20,7 +20,7 @@ use Rattle.call_lists.proofs.Sorted.{sorted-serves}
 use Rattle.account.specs.declared.account.Account.{Account}
 use Rattle.account.specs.declared.settings.Settings.{Settings}
 use Rattle.account.specs.Account.{heldIn}
-use Rattle.account.proofs.Holdings.{account-ordered}
+use Rattle.account.proofs.SoundAccounts.{account-ordered}
 use Rattle.wanted.specs.declared.plan.PlannedOrder.{PlannedOrder}
 use Rattle.wanted.specs.Equity.{equityOf}
 use Rattle.wanted.specs.Plan.{closings, targetings, wanted, orderCount}

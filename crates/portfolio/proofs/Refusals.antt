@@ -14,15 +14,13 @@ use Rattle.answer.specs.declared.Answer.{Answer}
 use Rattle.answer.specs.declared.Answer.the-variants.{Done, BadSetting, BadSymbol, Twice, BadPrice, BadWeight, TooLong, TooMany, NoRecordRoom, NotHeld, BufferFull, Unsound, BadSeries}
 use Rattle.answer.specs.Numbers.{numberOf}
 use Rattle.table.specs.Keyed.{both, Rising}
-use Rattle.table.specs.Rows.{columnsOf, Full, ordered}
+use Rattle.table.specs.Rows.{columnsOf, Full}
 use Rattle.table.proofs.Keyed.{both-true}
 use Rattle.call_lists.specs.Checks.{unless, listsAnswer, pricesAnswer}
 use Rattle.call_lists.proofs.Checks.{Accepted, done-accepted}
 use Rattle.account.specs.declared.account.Account.{Account}
 use Rattle.position.specs.Symbols.{goodSymbol}
-use Rattle.account.specs.Account.{soundAccount, soundColumns, heldIn}
-use Rattle.account.proofs.Columns.{ordered-small}
-use Rattle.account.proofs.Holdings.{account-table}
+use Rattle.account.specs.Account.{soundAccount, heldIn}
 use Rattle.portfolio.specs.Answers.{isDone, orLater, hasRoom, notHeld, rebalanceAnswer, queryAnswer, returnAnswer, closeAnswer}
 use Rattle.portfolio.specs.Planned.{Ready}
 
@@ -70,11 +68,6 @@ passed-both first later e = go (isDone first) refl
     go : (b : Bool) → isDone first ≡ b → (isDone first ≡ true) × (isDone later ≡ true)
     go true q = (q, rw q at e)
     go false q = let h : isDone first ≡ true = rw q at e in clash (isDone first) h q
-
--- the count of a sound account's positions, whatever the lengths of its columns
-pub sound-small : (a : Account) → soundAccount a ≡ true → a .positions .count ≤ 64
-unfolding soundColumns
-sound-small a e = let n = a .positions .count in let c = columnsOf (a .positions) in ordered-small n c (both-true (ordered n c) _ (account-table a e) .0)
 
 -- ---- a query with prices
 pub record Queried (a : Account) (ps : List ℕ) (vs : List ℤ) : Type 0 where

@@ -29,9 +29,8 @@ use Rattle.fills.proofs.Soundness.{Sound, AllListed, fills-keep-sound}
 use Rattle.account.specs.declared.account.Account.{Account}
 use Rattle.account.specs.declared.settings.Settings.{Settings}
 use Rattle.account.specs.Account.{soundAccount, heldIn}
-use Rattle.account.proofs.Changes.{good-parts, account-settings, account-cash, parts-account}
-use Rattle.account.proofs.Columns.{rows-length, sound-rows}
-use Rattle.account.proofs.Holdings.{account-table, account-ordered}
+use Rattle.account.proofs.Columns.{rows-length}
+use Rattle.account.proofs.SoundAccounts.{account-cash, account-settings, account-costs, account-ordered, account-positions, parts-account, series-keep-sound}
 use Rattle.account.proofs.Tables.{table-sound}
 use Rattle.wanted.specs.declared.plan.PlannedOrder.{PlannedOrder}
 use Rattle.wanted.specs.Equity.{equityOf}
@@ -101,15 +100,12 @@ either-sound account true x y h g = h refl
 either-sound account false x y h g = g
 
 module _ (a : Account) (f : Full (columnsOf (a .positions))) (e : soundAccount a ≡ true) where
-  held-sound : all sound (heldIn (a .positions)) ≡ true
-  held-sound = sound-rows (a .positions .count) (columnsOf (a .positions)) f (account-table a e)
-
   state-sound : Sound (stateOf a)
   state-sound =
       let o = account-ordered a e f in
       record {
         cash = account-cash a e;
-        positions = held-sound;
+        positions = account-positions a e f;
         rising = rw (keys-of (a .positions .count) (columnsOf (a .positions)) f) (o .rising);
         room = omega (arith, rows-length (columnsOf (a .positions)) f (a .positions .count) (o .small), o .small);
       }
@@ -119,7 +115,7 @@ module _ (a : Account) (f : Full (columnsOf (a .positions))) (e : soundAccount a
   after-sound s n v h = parts-account (accountAfter a s n v) (h .cash) (account-settings a e) (table-sound (s .held) (h .room) (rising-ascends (map keyOf (s .held)) (h .rising)) (h .positions))
 
   run-sound : (os : List Order) (period : ℕ) (kind : ExecutionKind) → AllListed os → Sound (fillAll (termsOf a period kind) os (stateOf a))
-  run-sound os period kind l = fills-keep-sound (termsOf a period kind) (good-parts (a .settings) (account-settings a e) .costs) os l (stateOf a) state-sound
+  run-sound os period kind l = fills-keep-sound (termsOf a period kind) (account-costs a e) os l (stateOf a) state-sound
 
   pub close-keeps-sound : (s : ℕ) (price : ℤ) → SFits w64 price → (period : ℕ) (kind : ExecutionKind) (room : ℕ) → soundAccount (closed a s price period kind room .account) ≡ true
   unfolding closed afterClose fillAll
@@ -139,7 +135,7 @@ module _ (a : Account) (f : Full (columnsOf (a .positions))) (e : soundAccount a
       let h = rebalance-done a ts ws ps vs room d in
       let price = priceOf ps vs in
       let equity = equityOf price (a .cash) (heldIn (a .positions)) in
-      let p = plan-tradable (a .settings) equity price (λ k. price-fits k ps vs fits) (heldIn (a .positions)) ts ws held-sound (h .lists .targetsGood) in
+      let p = plan-tradable (a .settings) equity price (λ k. price-fits k ps vs fits) (heldIn (a .positions)) ts ws (account-positions a e f) (h .lists .targetsGood) in
       let plan = admittedPlan a ts ws price in
       after-sound _ _ _ (run-sound _ period kind (orders-listed (inRunningOrder (a .settings) plan) (running-all (a .settings) plan Tradable (go (leZ equity (pos 0)) (planOf (a .settings) equity price (heldIn (a .positions)) ts ws) p)))))
       e
@@ -149,5 +145,5 @@ module _ (a : Account) (f : Full (columnsOf (a .positions))) (e : soundAccount a
       go false l h = h
 
   pub return-keeps-sound : (ps : List ℕ) (vs : List ℤ) (equities : List ℤ) (returns : List Float) → soundAccount (recorded a ps vs equities returns .account) ≡ true
-  unfolding recorded soundAccount
-  return-keeps-sound ps vs equities returns = either-sound (λ (o : Recorded). o .account) (isDone (returnAnswer a ps vs (length equities) (length returns))) _ _ (λ d. e) e
+  unfolding recorded
+  return-keeps-sound ps vs equities returns = either-sound (λ (o : Recorded). o .account) (isDone (returnAnswer a ps vs (length equities) (length returns))) _ _ (λ d. series-keep-sound a e _) e

@@ -10,7 +10,7 @@ use Rattle.table.specs.Rows.{columnsOf, Full}
 use Rattle.call_lists.specs.Lists.{priceOf}
 use Rattle.account.specs.declared.account.Account.{Account}
 use Rattle.account.specs.Account.{soundAccount, heldIn}
-use Rattle.account.proofs.Holdings.{account-ordered}
+use Rattle.account.proofs.SoundAccounts.{account-ordered}
 use Rattle.wanted.specs.Equity.{worthPlaces, equityOf}
 use Rattle.wanted.proofs.Worth.{worth-of-rows, shorter-same}
 

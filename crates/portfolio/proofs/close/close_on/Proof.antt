@@ -14,7 +14,7 @@ use Rattle.table.specs.Rows.{Cols, cols, holding, Full}
 use Rattle.fills.specs.Records.{allWords, allInts}
 use Rattle.account.specs.declared.account.Account.{Account}
 use Rattle.account.specs.Account.{accountWith, heldIn}
-use Rattle.account.proofs.Holdings.{account-ordered}
+use Rattle.account.proofs.SoundAccounts.{account-ordered}
 use Rattle.portfolio.specs.Answers.{isDone, places, closeAnswer}
 use Rattle.portfolio.specs.Rebalance.{refused}
 use Rattle.portfolio.specs.Close.{closed}

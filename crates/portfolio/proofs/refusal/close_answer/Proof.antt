@@ -14,7 +14,7 @@ use Rattle.position.proofs.Counts.{lt-not-ge, not-lt-ge}
 use Rattle.table.specs.Rows.{Cols, cols, holding, isZero, Full}
 use Rattle.account.specs.declared.account.Account.{Account}
 use Rattle.account.specs.Account.{accountWith, soundAccount, heldIn}
-use Rattle.account.proofs.Holdings.{account-ordered}
+use Rattle.account.proofs.SoundAccounts.{account-ordered}
 use Rattle.portfolio.specs.Answers.{hasRoom, closeAnswer}
 use Rattle.portfolio.proofs.refusal.close_answer.Statement.{statement}
 use Rattle.portfolio.proofs.refusal.close_answer.Tie as tie

@@ -13,10 +13,10 @@ use Rattle.call_lists.proofs.Checks.{done-accepted}
 use Rattle.account.specs.declared.account.Account.{Account}
 use Rattle.account.specs.Account.{accountWith, soundAccount, heldIn}
 use Rattle.account.proofs.Columns.{rows-length}
-use Rattle.account.proofs.Holdings.{account-ordered}
+use Rattle.account.proofs.SoundAccounts.{account-ordered, account-small}
 use Rattle.portfolio.specs.Answers.{isDone, hasRoom, notHeld, rebalanceAnswer}
 use Rattle.portfolio.proofs.Lacking.{lacking-held}
-use Rattle.portfolio.proofs.Refusals.{done-is, sound-small}
+use Rattle.portfolio.proofs.Refusals.{done-is}
 use Rattle.portfolio.proofs.refusal.rebalance_answer.Statement.{statement}
 use Rattle.portfolio.proofs.refusal.rebalance_answer.Tie as tie
 
@@ -96,7 +96,7 @@ has-places-requires : tie.Need-has-places-requires
 has-places-requires c κs =
     let o = c .before .before in
     let x = start (unrefused o) .args in
-    (sound-small (account-at (start (unrefused o))) (is-sound (unrefused o)), done-accepted (x .targets .now) (x .weights .now) (x .symbols .now) (x .prices .now) (done-is _ (is-listed o)) .targetsBound)
+    (account-small (account-at (start (unrefused o))) (is-sound (unrefused o)), done-accepted (x .targets .now) (x .weights .now) (x .symbols .now) (x .prices .now) (done-is _ (is-listed o)) .targetsBound)
 
 returns-4 : tie.Need-returns-4
 unfolding rebalanceAnswer

@@ -7,7 +7,7 @@ use borrow.Author.Needs.{needs}
 use Rattle.table.specs.Rows.{columnsOf, Full, Ordered}
 use Rattle.call_lists.specs.Lists.{priceOf}
 use Rattle.account.specs.Account.{heldIn}
-use Rattle.account.proofs.Holdings.{account-ordered}
+use Rattle.account.proofs.SoundAccounts.{account-ordered}
 use Rattle.portfolio.specs.Answers.{isDone}
 use Rattle.portfolio.proofs.Refusals.{Queried, query-done}
 use Rattle.queries.specs.Places.{Priced, Adds, WeighsAt}

@@ -6,7 +6,7 @@ use borrow.Author.Needs.{needs}
 use borrow.Author.Tests.{not-true, not-false}
 use Rattle.table.specs.Rows.{columnsOf, Full, Ordered}
 use Rattle.call_lists.specs.Lists.{priceOf}
-use Rattle.account.proofs.Holdings.{account-ordered}
+use Rattle.account.proofs.SoundAccounts.{account-ordered}
 use Rattle.portfolio.specs.Answers.{isDone, queryAnswer}
 use Rattle.portfolio.proofs.Refusals.{Queried, query-done}
 use Rattle.queries.specs.Answers.{answeredUnpriced, toldUnpriced}

@@ -7,7 +7,8 @@ use borrow.Author.Tests.{not-true, not-false}
 use Rattle.table.specs.Rows.{columnsOf, Full}
 use Rattle.account.specs.Account.{soundAccount}
 use Rattle.account.specs.Calls.{positionOf}
-use Rattle.account.proofs.Holdings.{account-ordered, found-holds}
+use Rattle.account.proofs.Holdings.{found-holds}
+use Rattle.account.proofs.SoundAccounts.{account-ordered}
 use Rattle.account.proofs.account.Account.position.Statement.{statement}
 use Rattle.account.proofs.account.Account.position.Tie as tie
 

@@ -7,7 +7,8 @@ use borrow.Author.Tests.{not-true, not-false, lt-ltb, le-ltb}
 use Rattle.table.specs.Rows.{columnsOf, Full}
 use Rattle.account.specs.Account.{soundAccount}
 use Rattle.account.specs.Calls.{present, positionAt}
-use Rattle.account.proofs.Holdings.{account-ordered, place-holds}
+use Rattle.account.proofs.Holdings.{place-holds}
+use Rattle.account.proofs.SoundAccounts.{account-ordered}
 use Rattle.account.proofs.account.Account.position_at.Statement.{statement}
 use Rattle.account.proofs.account.Account.position_at.Tie as tie
 
