@@ -12,13 +12,13 @@ use borrow.Author.Tests.{lt-ltb, ltb-true, ltb-false, leb-true}
 use Rattle.position.specs.Rows.{fresh}
 use Rattle.position.specs.Fills.{sound}
 use Rattle.position.specs.declared.position.Position.{Position}
-use Rattle.table.specs.Keyed.{both}
+use Rattle.table.specs.Keyed.{both, all}
 use Rattle.table.specs.Rows.{Cols, zipped, rows, rowAt, heldAt, Full, Ordered, ordered}
 use Rattle.table.specs.declared.found.Found.the-variants.{At}
 use Rattle.table.proofs.Keyed.{both-true, both-false}
 use Rattle.table.proofs.Zipped.{zipped-length, zipped-at}
 use Rattle.table.proofs.Ordering.{test-orders, ordered-tests}
-use Rattle.account.specs.Account.{allSound, soundPlaces, soundColumns}
+use Rattle.account.specs.Account.{soundPlaces, soundColumns}
 
 -- ---- a walk over the first n places
 pub held-row : (i s : ℕ) (c : Cols) → i < 64 → heldAt (At i) s c ≡ rowAt i c
@@ -42,6 +42,9 @@ module _ (i : ℕ) (c : Cols) (h : i < 64) where
   sound-not g (suc n) l = not-here n g (sound-not g n) l (ltb i n) refl
 
 -- ---- the places as a list
+abbrev pub allSound : List Position → Bool
+allSound ps = all sound ps
+
 pub both-unit : (b : Bool) → both b true ≡ b
 both-unit true = refl
 both-unit false = refl

@@ -15,11 +15,11 @@ use Rattle.account.specs.declared.settings.Settings.{Settings}
 use Rattle.account.specs.declared.account.Account.{Account}
 use Rattle.account.specs.declared.account.Counters.{Counters}
 use Rattle.account.specs.declared.account.Series.{Series}
-use Rattle.account.specs.Settings.{atLeast, goodSettings, zeroSettings}
-use Rattle.account.specs.Account.{allSound, soundPlaces, soundColumns, heldIn, soundTable, soundScalars, soundAccount, withSettings, withSeries}
+use Rattle.account.specs.Settings.{atLeast, goodRules, goodSettings, ofCosts, zeroSettings}
+use Rattle.account.specs.Account.{soundPlaces, soundColumns, heldIn, soundTable, soundScalars, soundAccount, withSettings, withSeries}
 use Rattle.account.specs.Calls.{emptyAccount, zeroAccount, answered, changed}
-use Rattle.account.proofs.Columns.{ordered-small, sound-orders, sound-rows, sound-at}
-use Rattle.account.proofs.Changes.{good-parts}
+use Rattle.account.proofs.Columns.{allSound, ordered-small, sound-orders, sound-rows, sound-at}
+use Rattle.account.proofs.Changes.{rules-costs, good-parts}
 
 -- ---- what a sound account has
 module _ (a : Account) (e : soundAccount a ≡ true) where
@@ -35,8 +35,8 @@ module _ (a : Account) (e : soundAccount a ≡ true) where
   unfolding soundScalars
   account-settings = both-true (atLeast 0 (a .cash)) _ account-scalars .1
 
-  pub account-costs : goodCosts (a .settings .«cost_model») ≡ true
-  account-costs = good-parts (a .settings) account-settings .costs
+  pub account-costs : goodCosts (a .settings .rules .«cost_model») ≡ true
+  account-costs = rules-costs (a .settings .rules) (good-parts (a .settings) account-settings .rules)
 
   pub account-table : soundTable (a .positions) ≡ true
   unfolding soundAccount
@@ -85,10 +85,12 @@ module _ (a : Account) (e : soundAccount a ≡ true) where
   settings-keep-sound s g = parts-account (withSettings s a) (account-cash a e) g (account-table a e)
 
   pub counters-keep-sound : (k : Counters) → soundAccount (withCounters k a) ≡ true
-  counters-keep-sound k = account-sound (withCounters k a) (account-scalars a e) (account-table a e)
+  unfolding soundAccount
+  counters-keep-sound k = e
 
   pub series-keep-sound : (s : Series) → soundAccount (withSeries s a) ≡ true
-  series-keep-sound s = account-sound (withSeries s a) (account-scalars a e) (account-table a e)
+  unfolding soundAccount
+  series-keep-sound s = e
 
   pub positions-keep-sound : (t : Table) → soundTable t ≡ true → soundAccount (withPositions t a) ≡ true
   positions-keep-sound t h = account-sound (withPositions t a) (account-scalars a e) h
@@ -97,7 +99,7 @@ module _ (a : Account) (e : soundAccount a ≡ true) where
 -- "`quantity_step` at least 1": its settings have 0
 zero-settings-bad : goodSettings zeroSettings ≡ false
 unfolding goodSettings
-zero-settings-bad = both-false (goodCosts free)
+zero-settings-bad = both-false (goodRules (ofCosts free))
 
 pub zero-scalars-unsound : (cash : ℤ) → soundScalars cash zeroSettings ≡ false
 unfolding soundScalars

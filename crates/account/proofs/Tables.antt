@@ -14,8 +14,8 @@ use Rattle.table.specs.Rows.{zip2, give, Cols, cols, columnsOf, zipped, rows, F
 use Rattle.table.specs.declared.table.Table.{Table}
 use Rattle.table.proofs.Keyed.{ascending-rises}
 use Rattle.table.proofs.Zipped.{map-take, symbols-of, quantities-of, averages-of, realized-of, totals-of}
-use Rattle.account.specs.Account.{allSound, soundColumns, soundTable, heldIn, tableFrom, padded, tableOf}
-use Rattle.account.proofs.Columns.{rows-length, sound-orders, orders-sound}
+use Rattle.account.specs.Account.{soundColumns, soundTable, heldIn, tableFrom, padded, tableOf}
+use Rattle.account.proofs.Columns.{allSound, rows-length, sound-orders, orders-sound}
 
 -- ---- lists
 module _ {A B : Type 0} (g : A → B) where

@@ -8,16 +8,13 @@ use Rattle.position.specs.declared.position.Position.{Position}
 use Rattle.position.specs.Rows.{keyOf, held, avg, realized, total}
 use Rattle.position.specs.Fills.{sound}
 use Rattle.table.specs.declared.table.Table.{Table}
-use Rattle.table.specs.Keyed.{both, all}
+use Rattle.table.specs.Keyed.{both}
 use Rattle.table.specs.Rows.{Cols, columnsOf, rows, rowAt, ordered}
 use Rattle.account.specs.declared.settings.Settings.{Settings}
 use Rattle.account.specs.declared.account.Account.{Account}
 use Rattle.account.specs.declared.account.Series.{Series}
 use Rattle.account.specs.declared.account.Ledger.{Ledger}
 use Rattle.account.specs.Settings.{atLeast, goodSettings}
-
-abbrev pub allSound : List Position → Bool
-allSound ps = all sound ps
 
 -- each of the positions at the first n places is sound
 unfoldable pub soundPlaces : ℕ → Cols → Bool

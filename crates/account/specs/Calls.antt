@@ -18,6 +18,7 @@ use Rattle.table.specs.Keyed.{pick, seek}
 use Rattle.table.specs.Rows.{Cols, emptyTable, heldAt}
 use Rattle.table.specs.declared.found.Found.{Found}
 use Rattle.table.specs.declared.found.Found.the-variants.{At, Absent}
+use Rattle.account.specs.declared.settings.Rules.{Rules}
 use Rattle.account.specs.declared.settings.Settings.{Settings}
 use Rattle.account.specs.declared.settings.TradeCap.{TradeCap}
 use Rattle.account.specs.declared.settings.TradeCap.the-variants.{Absent as Uncapped}
@@ -55,6 +56,10 @@ emptyAccount cash s x = record {
 abbrev pub zeroAccount : Account
 zeroAccount = emptyAccount (pos 0) zeroSettings (series 0 0 (pos 0))
 
+-- the cash is the first equity
+abbrev pub openAccount : ℤ → Settings → Account
+openAccount cash s = emptyAccount cash s (series 1 0 cash)
+
 -- what a call answers, and the equity buffer as it leaves it
 pub record Opened : Type 0 where
   pub changed : Changed
@@ -65,11 +70,11 @@ opened r l = record { changed = r; equity = l }
 
 -- 1: "a setting or opening cash is bad"; then 10: "the equity .. buffer has no free place"; else "Opening writes the cash as the first equity".
 -- "Each refusal returns its number with zero figures, [..] and every lent place as found."
-unfoldable pub opening : ℤ → CostModel → ℤ → List ℤ → Opened
-opening cash m step equity =
-    pick (soundScalars cash (openingSettings m step))
+unfoldable pub opening : ℤ → Rules → ℤ → List ℤ → Opened
+opening cash r step equity =
+    pick (soundScalars cash (openingSettings r step))
     (pick (ltb 0 (length equity))
-    (opened (answered Done (emptyAccount cash (openingSettings m step) (series 1 0 cash))) (set equity 0 cash))
+    (opened (answered Done (openAccount cash (openingSettings r step))) (set equity 0 cash))
     (opened (answered BufferFull zeroAccount) equity))
     (opened (answered BadSetting zeroAccount) equity)
 

@@ -1,4 +1,4 @@
-// One setting changed: the Rust's setters, and those of recording and cash-first mode. The cost model is fixed at opening.
+// One setting changed: the Rust's setters, and those of recording and cash-first mode. The rules are fixed at opening.
 ghost use mathlib.Core.Path.{_≡_};
 ghost use Rattle.account.specs.Settings.{withStep, withMinOrder, withMaxOrder, withBand, withTradeCap, withMaxNotional, withRecording, withCashFirst};
 ghost use Rattle.account.specs.Calls.{changed};

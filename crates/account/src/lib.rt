@@ -22,6 +22,7 @@ pub use query::Count;
 pub use query::Flag;
 pub use query::Rate;
 pub use query::Step;
+pub use settings::Rules;
 pub use settings::Settings;
 pub use settings::TradeCap;
 pub use soundness::sound_account;

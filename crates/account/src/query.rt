@@ -175,7 +175,7 @@ impl Account {
     }
 
     pub fn cost_model(self) -> Costs
-        ensures { λ r. ⌜ r ≡ toldCosts (soundAccount self) (self .settings .«cost_model») ⌝ }
+        ensures { λ r. ⌜ r ≡ toldCosts (soundAccount self) (self .settings .rules .«cost_model») ⌝ }
     {
         if !self.is_sound() {
             return Costs {
@@ -184,7 +184,7 @@ impl Account {
             };
         }
         let s = self.settings;
-        let cost_model = s.cost_model;
+        let cost_model = s.rules.cost_model;
         Costs {
             answer: Answer::Done,
             cost_model,

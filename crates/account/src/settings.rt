@@ -1,6 +1,6 @@
 // The settings of an account, as one value.
 ghost use mathlib.Core.Path.{_≡_};
-ghost use Rattle.account.specs.Settings.{goodBand, goodSettings};
+ghost use Rattle.account.specs.Settings.{ofCosts, goodRules, goodBand, goodSettings};
 use cost_model::CostModel;
 use doubles::is_finite;
 
@@ -11,8 +11,13 @@ pub enum TradeCap {
     AtMost(u64),
 }
 
-pub struct Settings {
+// What is chosen at opening and has no setter.
+pub struct Rules {
     pub cost_model: CostModel,
+}
+
+pub struct Settings {
+    pub rules: Rules,
     // Order sizing granularity in micro-shares.
     pub quantity_step: i64,
     // Orders below this notional are skipped.
@@ -28,12 +33,27 @@ pub struct Settings {
     pub cash_first: bool,
 }
 
+impl Rules {
+    // Of an account that is opened by its costs alone.
+    pub(crate) fn of_costs(cost_model: CostModel) -> Rules
+        ensures { λ r. ⌜ r ≡ ofCosts «cost_model» ⌝ }
+    {
+        Rules { cost_model }
+    }
+
+    fn is_good(self) -> bool
+        ensures { λ r. ⌜ r ≡ goodRules self ⌝ }
+    {
+        self.cost_model.is_good()
+    }
+}
+
 impl Settings {
     // "at least 0" or 1, the rates finite; -0.0 is at least 0.
     pub fn is_good(self) -> bool
         ensures { λ r. ⌜ r ≡ goodSettings self ⌝ }
     {
-        if !self.cost_model.is_good() {
+        if !self.rules.is_good() {
             return false;
         }
         if self.quantity_step < 1 {

@@ -18,7 +18,7 @@ use Rattle.account.specs.declared.settings.Settings.{Settings}
 use Rattle.account.specs.declared.settings.TradeCap.{TradeCap}
 use Rattle.account.specs.declared.settings.TradeCap.the-variants.{Absent, AtMost}
 use Rattle.account.specs.Settings.{goodBand, goodSettings}
-use Rattle.account.proofs.Changes.{good-parts as good-settings}
+use Rattle.account.proofs.Changes.{rules-costs, good-parts as good-settings}
 use Rattle.cost_model.specs.Costs as Costs
 use Rattle.cost_model.specs.Costs.{goodRate}
 use Rattle.cost_model.proofs.Costs.{good-parts as good-costs}
@@ -71,7 +71,7 @@ band-number (fin s m k) e = refl
 pub good-rates : (s : Settings) → goodSettings s ≡ true → NoNan s
 good-rates s e =
     let g = good-settings s e in
-    let c = good-costs (costsOf s) (g .costs) in
+    let c = good-costs (costsOf s) (rules-costs (s .rules) (g .rules)) in
     record {
       commission = finite-number (costsOf s .«commission_bps») (c .finite-rate);
       slippage = above-number (costsOf s .«slippage_bps») (c .slippage-low);

@@ -4,17 +4,17 @@ use mathlib.Core.Bool.{Bool, true, false, cond, not}
 use mathlib.Core.List.{List, [], _∷_, _++_}
 use lib.Dec.{eqb, ltb}
 use lib.ListN.{length, getD}
-use lib.IntN.{pos}
 use lib.Ieee.{isNan}
 use Rattle.word_bytes.specs.Words.{wordsOf, bytesOf}
 use Rattle.word_bytes.specs.Numbers.{signedOf, unsignedOf, floatOf, patternOf}
 use Rattle.table.specs.Keyed.{pick, both}
 use Rattle.cost_model.specs.declared.CostModel.{CostModel}
-use Rattle.cost_model.specs.Costs.{model, free}
+use Rattle.cost_model.specs.Costs.{model}
+use Rattle.account.specs.declared.settings.Rules.{Rules}
 use Rattle.account.specs.declared.settings.Settings.{Settings}
 use Rattle.account.specs.declared.settings.TradeCap.{TradeCap}
 use Rattle.account.specs.declared.settings.TradeCap.the-variants.{Absent, AtMost}
-use Rattle.account.specs.Settings.{settings, openingSettings}
+use Rattle.account.specs.Settings.{settings, zeroSettings}
 use Rattle.account_bytes.specs.Sizes.{settingsLength, commissionAt, slippageAt, minCommissionAt, stepAt, minOrderAt, maxOrderAt, bandAt, capMarkAt, capCountAt, maxNotionalAt, recordingAt, cashFirstAt, ceilingAt, coverRuleAt, longOnlyAt}
 use Rattle.account_bytes.specs.declared.setting_words.ReadSettings.{ReadSettings}
 
@@ -53,13 +53,17 @@ isCap mark n = pick (eqb mark 0) (eqb n 0) (eqb mark 1)
 
 -- ---- costs: "the two rates and the floor travel together as one value"
 abbrev pub costsOf : Settings → CostModel
-costsOf s = s .«cost_model»
+costsOf s = s .rules .«cost_model»
 
 abbrev pub costWords : CostModel → List ℕ
 costWords m = patternOf (m .«commission_bps») ∷ patternOf (m .«slippage_bps») ∷ unsignedOf (m .«min_commission») ∷ []
 
 abbrev pub costsAt : ℕ → List ℕ → CostModel
 costsAt from ws = model (floatOf (getD ws (from + commissionAt) 0)) (floatOf (getD ws (from + slippageAt) 0)) (signedOf (getD ws (from + minCommissionAt) 0))
+
+-- what is chosen at opening
+abbrev pub rulesAt : ℕ → List ℕ → Rules
+rulesAt from ws = record { «cost_model» = costsAt from ws }
 
 -- ---- settings
 unfoldable pub settingsWords : Settings → List ℕ
@@ -83,7 +87,7 @@ settingsWords s =
 unfoldable pub settingsAt : ℕ → List ℕ → Settings
 settingsAt from ws =
     settings
-    (costsAt from ws)
+    (rulesAt from ws)
     (signedOf (getD ws (from + stepAt) 0))
     (signedOf (getD ws (from + minOrderAt) 0))
     (signedOf (getD ws (from + maxOrderAt) 0))
@@ -118,9 +122,6 @@ areSettings from ws =
     (both (isCap (getD ws (from + capMarkAt) 0) (getD ws (from + capCountAt) 0))
     (both (areFlags from ws)
     (spareSettings from ws)))
-
-abbrev pub zeroSettings : Settings
-zeroSettings = openingSettings free (pos 0)
 
 abbrev pub gotSettings : Settings → ReadSettings
 gotSettings s = record { good = true; settings = s }

@@ -4,7 +4,6 @@ ghost use lib.ListN.{length};
 ghost use Rattle.word_bytes.specs.Words.{wordsOf};
 ghost use Rattle.table.specs.Rows.{cols};
 ghost use Rattle.account.specs.Account.{accountWith, ledgerOf};
-ghost use Rattle.account.specs.Calls.{zeroAccount};
 ghost use Rattle.account_bytes.specs.Sizes.{accountLength};
 ghost use Rattle.account_bytes.specs.Account.{countWords, countersOf, spareCounters, seriesOf, accountOf, readAccount, writtenAccount, writtenSeries};
 use crate::columns::put_columns;
@@ -16,7 +15,6 @@ use crate::setting_words::both;
 use crate::setting_words::is_zero;
 use crate::setting_words::settings_at;
 use crate::setting_words::settings_words;
-use crate::setting_words::zero_settings;
 use crate::sizes::ACCOUNT_BYTES;
 use crate::sizes::CASH_AT;
 use crate::sizes::CLOSED_TOTAL_AT;
@@ -136,32 +134,6 @@ fn account_of(bytes: &[u8]) -> Account
     }
 }
 
-fn zero_account() -> Account
-    ensures { λ r. ⌜ r ≡ zeroAccount ⌝ }
-{
-    let settings = zero_settings();
-    let counters = Counters {
-        last_rebalance_order_count: 0,
-        last_rebalance_notional: 0,
-        trimmed_fill_count: 0,
-        trimmed_shortfall_cents: 0,
-        record_count: 0,
-    };
-    let series = Series {
-        equity_count: 0,
-        return_count: 0,
-        prev_equity: 0,
-    };
-    let positions = Table::empty();
-    Account {
-        cash: 0,
-        settings,
-        counters,
-        series,
-        positions,
-    }
-}
-
 // Counters, series and the count of positions.
 fn count_words(k: Counters, s: Series, n: usize) -> [u64; COUNTS_WORDS]
     ensures { λ r. ⌜ r ≡ countWords k s n ⌝ }
@@ -198,7 +170,7 @@ pub fn read_account(bytes: &[u8]) -> ReadAccount
     if !is_account(bytes) {
         return ReadAccount {
             good: false,
-            account: zero_account(),
+            account: Account::zero(),
         };
     }
     ReadAccount {

@@ -4,7 +4,7 @@ ghost use Prim.Native.Nat.{_+_, _≤_};
 ghost use Rattle.word_bytes.specs.Words.{wordsOf};
 ghost use Rattle.table.specs.Keyed.{both};
 ghost use Rattle.account_bytes.specs.Sizes.{settingsFrom};
-ghost use Rattle.account_bytes.specs.Settings.{flagWord, isFlag, isNumber, isZero, capMark, capCount, capOf, isCap, costsAt, settingsWords, settingsAt, areRates, areFlags, spareSettings, areSettings, zeroSettings, readSettings, writtenSettings};
+ghost use Rattle.account_bytes.specs.Settings.{flagWord, isFlag, isNumber, isZero, capMark, capCount, capOf, isCap, costsAt, settingsWords, settingsAt, areRates, areFlags, spareSettings, areSettings, readSettings, writtenSettings};
 use crate::run::number_at;
 use crate::run::put_words;
 use crate::run::rate_at;
@@ -25,6 +25,7 @@ use crate::sizes::SETTINGS_BYTES;
 use crate::sizes::SETTINGS_WORDS;
 use crate::sizes::SLIPPAGE_AT;
 use crate::sizes::STEP_AT;
+use account::Rules;
 use account::Settings;
 use account::TradeCap;
 use cost_model::CostModel;
@@ -39,13 +40,13 @@ pub struct ReadSettings {
 }
 
 // A flag is 0 or 1.
-fn flag_word(on: bool) -> u64
+pub fn flag_word(on: bool) -> u64
     ensures { λ r. ⌜ r ≡ flagWord on ⌝ }
 {
     if on { 1 } else { 0 }
 }
 
-fn is_flag(w: u64) -> bool
+pub fn is_flag(w: u64) -> bool
     ensures { λ r. ⌜ r ≡ isFlag w ⌝ }
 {
     w < 2
@@ -90,7 +91,7 @@ fn cap_count(cap: TradeCap) -> u64
     }
 }
 
-fn cap_of(mark: u64, count: u64) -> TradeCap
+pub fn cap_of(mark: u64, count: u64) -> TradeCap
     ensures { λ r. ⌜ r ≡ capOf mark count ⌝ }
 {
     if mark == 0 {
@@ -101,7 +102,7 @@ fn cap_of(mark: u64, count: u64) -> TradeCap
 }
 
 // A mark is 0 or 1, and a cap that is absent has the count 0.
-fn is_cap(mark: u64, count: u64) -> bool
+pub fn is_cap(mark: u64, count: u64) -> bool
     ensures { λ r. ⌜ r ≡ isCap mark count ⌝ }
 {
     if mark == 0 { count == 0 } else { mark == 1 }
@@ -168,10 +169,11 @@ pub(crate) fn settings_at(bytes: &[u8], from: usize) -> Settings
     ensures { λ r. ⌜ r ≡ settingsAt from (wordsOf (now (bytes .entry))) ⌝ }
 {
     let cost_model = costs_at(bytes, from);
+    let rules = Rules { cost_model };
     let mark = word_at(bytes, from + CAP_MARK_AT);
     let count = word_at(bytes, from + CAP_COUNT_AT);
     Settings {
-        cost_model,
+        rules,
         quantity_step: number_at(bytes, from + STEP_AT),
         min_order_value: number_at(bytes, from + MIN_ORDER_AT),
         max_order_value: number_at(bytes, from + MAX_ORDER_AT),
@@ -187,7 +189,7 @@ pub(crate) fn settings_at(bytes: &[u8], from: usize) -> Settings
 pub(crate) fn settings_words(s: Settings) -> [u64; SETTINGS_WORDS]
     ensures { λ r. ⌜ r ≡ settingsWords s ⌝ }
 {
-    let m = s.cost_model;
+    let m = s.rules.cost_model;
     let cap = s.max_trades_per_rebalance;
     [
         pattern(m.commission_bps),
@@ -208,22 +210,6 @@ pub(crate) fn settings_words(s: Settings) -> [u64; SETTINGS_WORDS]
     ]
 }
 
-pub(crate) fn zero_settings() -> Settings
-    ensures { λ r. ⌜ r ≡ zeroSettings ⌝ }
-{
-    Settings {
-        cost_model: CostModel::zero(),
-        quantity_step: 0,
-        min_order_value: 0,
-        max_order_value: 0,
-        no_trade_band_bps: 0.0,
-        max_trades_per_rebalance: TradeCap::Absent,
-        max_rebalance_notional: 0,
-        recording: false,
-        cash_first: false,
-    }
-}
-
 // The settings that so many bytes hold.
 pub fn read_settings(bytes: &[u8]) -> ReadSettings
     ensures { λ r. ⌜ r ≡ readSettings (now (bytes .entry)) ⌝ }
@@ -238,7 +224,7 @@ pub fn read_settings(bytes: &[u8]) -> ReadSettings
     }
     ReadSettings {
         good: false,
-        settings: zero_settings(),
+        settings: Settings::zero(),
     }
 }
 

@@ -11,12 +11,13 @@ use Rattle.table.specs.Keyed.{pick, both}
 use Rattle.word_bytes.specs.Words.{wordsOf, bytesOf}
 use Rattle.account.specs.declared.settings.Settings.{Settings}
 use Rattle.account.specs.Account.{soundScalars}
+use Rattle.account.specs.Calls.{openAccount}
 use Rattle.account.proofs.SoundAccounts.{zero-scalars-unsound}
 use Rattle.account_bytes.specs.Sizes.{accountLength}
 use Rattle.account_bytes.specs.Settings.{gotSettings, noSettings, settingsAt, holdSettings, readSettings}
 use Rattle.account_bytes.specs.Account.{accountWords, writtenAccount}
 use Rattle.c_accounts.specs.Entries.{accountBytes}
-use Rattle.c_accounts.specs.Opening.{opening, openAccount, soundOpening, openIn}
+use Rattle.c_accounts.specs.Opening.{opening, soundOpening, openIn}
 
 good-or-zero : (t : Bool) (cash : ℤ) (s : Settings) → let r = pick t (gotSettings s) noSettings in both (r .good) (soundScalars cash (r .settings)) ≡ soundScalars cash (r .settings)
 good-or-zero true cash s = refl

@@ -9,10 +9,8 @@ use Rattle.answer.specs.declared.Answer.{Answer}
 use Rattle.answer.specs.declared.Answer.the-variants.{Done, BadSetting, BufferFull, Unsound}
 use Rattle.answer.specs.Numbers.{numberOf}
 use Rattle.table.specs.Keyed.{pick, both}
-use Rattle.account.specs.declared.account.Account.{Account}
-use Rattle.account.specs.declared.settings.Settings.{Settings}
 use Rattle.account.specs.Account.{soundScalars}
-use Rattle.account.specs.Calls.{emptyAccount, series}
+use Rattle.account.specs.Calls.{openAccount}
 use Rattle.account_bytes.specs.Sizes.{accountLength}
 use Rattle.account_bytes.specs.Settings.{readSettings}
 use Rattle.c_accounts.specs.Entries.{accountBytes}
@@ -28,10 +26,6 @@ openTold n b es = record { number = n; account = b; equities = es }
 
 abbrev pub opening : Answer → List ℕ → List ℤ → OpenTold
 opening w b es = openTold (numberOf w) b es
-
--- nothing held, nothing counted, the cash as the first equity
-abbrev pub openAccount : ℤ → Settings → Account
-openAccount cash s = emptyAccount cash s (series 1 0 cash)
 
 -- bytes of another length hold no settings, and so do those with a bad mark or flag or a NaN
 unfoldable pub soundOpening : ℤ → List ℕ → Bool

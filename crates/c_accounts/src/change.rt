@@ -8,31 +8,10 @@ ghost use Rattle.c_accounts.specs.Setters.{setIn};
 use crate::filed::account_in;
 use crate::filed::file;
 use crate::filed::unless_unsound;
-use account::TradeCap;
+use account_bytes::cap_of;
+use account_bytes::is_cap;
+use account_bytes::is_flag;
 use answer::Answer;
-
-fn is_flag(flag: u64) -> bool
-    ensures { λ r. ⌜ r ≡ isFlag flag ⌝ }
-{
-    flag < 2
-}
-
-// The mark 1 sets the cap; the mark 0 lifts it, and the cap is then 0.
-fn is_cap(mark: u64, cap: u64) -> bool
-    ensures { λ r. ⌜ r ≡ isCap mark cap ⌝ }
-{
-    if mark == 0 { cap == 0 } else { mark == 1 }
-}
-
-fn cap_of(mark: u64, cap: u64) -> TradeCap
-    ensures { λ r. ⌜ r ≡ capOf mark cap ⌝ }
-{
-    if mark == 0 {
-        TradeCap::Absent
-    } else {
-        TradeCap::AtMost(cap)
-    }
-}
 
 #[no_mangle]
 pub extern "C" fn tc_set_quantity_step(account: &mut [u8], micro_shares: i64) -> u64
@@ -71,6 +50,7 @@ pub extern "C" fn tc_set_no_trade_band_bps(account: &mut [u8], bps: f64) -> u64
     file(c, account)
 }
 
+// The mark 1 sets the cap; the mark 0 lifts it, and the cap is then 0.
 #[no_mangle]
 pub extern "C" fn tc_set_max_trades_per_rebalance(account: &mut [u8], mark: u64, cap: u64) -> u64
     ensures { λ r. ⌜ told r (now (account .exit)) ≡ setIn (isCap mark cap) (withTradeCap (capOf mark cap) (settingsIn (now (account .entry)))) (now (account .entry)) ⌝ }

@@ -3,7 +3,6 @@ ghost use mathlib.Core.Path.{_≡_};
 ghost use Prim.Native.Nat.{_*_, _≤_};
 ghost use lib.ListN.{length};
 ghost use Rattle.word_bytes.specs.Words.{wordsOf, turned};
-ghost use Rattle.account_bytes.specs.Settings.{flagWord};
 ghost use Rattle.account_bytes.specs.Account.{counterWords, seriesWords};
 ghost use Rattle.c_accounts.specs.Entries.{told};
 ghost use Rattle.c_accounts.specs.Queries.{heldWords, tellIn, cashTold, settingsTold, countersTold, seriesTold, positionTold, positionAtTold};
@@ -15,6 +14,7 @@ use account::Series;
 use account_bytes::COUNTER_WORDS;
 use account_bytes::SERIES_WORDS;
 use account_bytes::SETTINGS_BYTES;
+use account_bytes::flag_word;
 use account_bytes::write_settings;
 use answer::Answer;
 use position::Symbol;
@@ -73,12 +73,6 @@ fn series_words(s: Series) -> [u64; SERIES_WORDS]
     [s.equity_count, s.return_count, unsigned(s.prev_equity)]
 }
 
-fn mark_of(present: bool) -> u64
-    ensures { λ r. ⌜ r ≡ flagWord present ⌝ }
-{
-    if present { 1 } else { 0 }
-}
-
 // The word that a symbol's text is.
 fn text_of(symbol: u64) -> u64
     ensures { λ r. ⌜ r ≡ turned symbol ⌝ }
@@ -93,7 +87,7 @@ fn held_words(h: Held) -> [u64; 6]
 {
     let p = h.position;
     [
-        mark_of(h.present),
+        flag_word(h.present),
         text_of(p.symbol.0),
         unsigned(p.quantity.0),
         unsigned(p.avg_entry_price),

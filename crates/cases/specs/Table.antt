@@ -19,7 +19,7 @@ use Rattle.fills.specs.declared.record.ExecutionKind.the-variants.{Rebalance}
 use Rattle.fills.specs.Orders.{State}
 use Rattle.fills.specs.Fill.{fill, fillAll}
 use Rattle.account.specs.declared.settings.Settings.{Settings}
-use Rattle.account.specs.declared.settings.TradeCap.the-variants.{Absent}
+use Rattle.account.specs.Settings.{ofCosts, openingSettings, withBand}
 use Rattle.wanted.specs.Plan.{withinBand}
 use Rattle.cases.specs.Rows.{Row, says}
 
@@ -128,17 +128,7 @@ case-j = says (realized covered ∷ total covered ∷ avg covered ∷ []) (pos 4
 
 -- k. Equity 20,000, gap 5,000, band 2,500: skipped; gap 5,001 is not skipped by the band.
 abbrev pub banded : Settings
-banded = record {
-  «cost_model» = free;
-  «quantity_step» = whole (pos 1);
-  «min_order_value» = pos 0;
-  «max_order_value» = pos 0;
-  «no_trade_band_bps» = fin false 625 (pos 2);
-  «max_trades_per_rebalance» = Absent;
-  «max_rebalance_notional» = pos 0;
-  recording = false;
-  «cash_first» = false;
-}
+banded = withBand (fin false 625 (pos 2)) (openingSettings (ofCosts free) (whole (pos 1)))
 
 abbrev pub oneIf : Bool → ℤ
 oneIf true = pos 1

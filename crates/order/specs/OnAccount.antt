@@ -14,7 +14,7 @@ use Rattle.order.specs.Statement.{cashRaised, Tradable, symbolOf, places
 
 -- fills that begin at the account: its costs, its cash, its positions
 pub record Begins (a : Account) (t : Terms) (s : State) : Type 0 where
-  pub costs : t .costs ≡ a .settings .«cost_model»
+  pub costs : t .costs ≡ a .settings .rules .«cost_model»
   pub cash : s .cash ≡ a .cash
   pub held : s .held ≡ heldIn (a .positions)
 

@@ -31,7 +31,7 @@ pub record Outcome : Type 0 where
 
 -- "The caller gives period index and kind with the call."
 abbrev pub termsBy : Settings → ℕ → ExecutionKind → Terms
-termsBy s period kind = record { costs = s .«cost_model»; «quantity_step» = s .«quantity_step»; recording = s .recording; «period_index» = period; kind = kind }
+termsBy s period kind = record { costs = s .rules .«cost_model»; «quantity_step» = s .«quantity_step»; recording = s .recording; «period_index» = period; kind = kind }
 
 abbrev pub termsOf : Account → ℕ → ExecutionKind → Terms
 termsOf a period kind = termsBy (a .settings) period kind

@@ -95,7 +95,7 @@ pub(crate) fn traded_on<'a>(
 fn terms_of(s: Settings, period_index: u64, kind: ExecutionKind) -> Terms
     ensures { λ r. ⌜ r ≡ termsBy s «period_index» kind ⌝ }
 {
-    let costs = s.cost_model;
+    let costs = s.rules.cost_model;
     Terms {
         costs,
         quantity_step: s.quantity_step,

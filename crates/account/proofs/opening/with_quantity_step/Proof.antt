@@ -8,20 +8,27 @@ use lib.ListN.{length}
 use mir.Facts.{toZ-ofZ}
 use borrow.Author.Needs.{needs}
 use borrow.Author.Tests.{not-true, not-false, lt-ltb, le-ltb}
-use Rattle.account.specs.Settings.{openingSettings}
+use Rattle.account.specs.declared.settings.Settings.{Settings}
+use Rattle.account.specs.Settings.{ofCosts, openingSettings}
 use Rattle.account.specs.Account.{soundScalars}
-use Rattle.account.specs.Calls.{series, emptyAccount, opened, opening}
+use Rattle.account.specs.Calls.{openAccount, opened, opening}
 use Rattle.account.proofs.opening.with_quantity_step.Statement.{statement}
 use Rattle.account.proofs.opening.with_quantity_step.Tie as tie
 
-same-settings : (c : tie.After-opening-settings) → c .opening-settings .result ≡ openingSettings (c .before .args .cost-model) (c .before .args .quantity-step)
-same-settings c = simp (toZ-ofZ (c .before .fits .quantity-step)) at (c .opening-settings .ensures)
+abbrev settings-at : tie.Start → Settings
+settings-at s = openingSettings (ofCosts (s .args .cost-model)) (s .args .quantity-step)
 
-same-test : (c : tie.After-sound-scalars) → c .sound-scalars .result ≡ soundScalars (c .before .before .args .initial-cash) (openingSettings (c .before .before .args .cost-model) (c .before .before .args .quantity-step))
+same-settings : (c : tie.After-opening-settings) → c .opening-settings .result ≡ settings-at (c .before .before)
+same-settings c = simp (toZ-ofZ (c .before .before .fits .quantity-step), c .before .of-costs .ensures) at (c .opening-settings .ensures)
+
+same-test : (c : tie.After-sound-scalars) → c .sound-scalars .result ≡ soundScalars (c .before .before .before .args .initial-cash) (settings-at (c .before .before .before))
 same-test c =
-    let s = c .before .before in
+    let s = c .before .before .before in
     let e = simp (toZ-ofZ (s .fits .initial-cash)) at (c .sound-scalars .ensures) in
     e ∙ ap (soundScalars (s .args .initial-cash)) (same-settings (c .before))
+
+of-costs-requires : tie.Need-of-costs-requires
+of-costs-requires c κs = search needs
 
 opening-settings-requires : tie.Need-opening-settings-requires
 opening-settings-requires c κs = search needs
@@ -35,7 +42,7 @@ refused-requires c κs = search needs
 returns : tie.Need-returns
 unfolding opening
 returns c =
-    let s = c .before .before .before .before in
+    let s = c .before .before .before .before .before in
     let t = sym (same-test (c .before .before)) ∙ not-true _ (c .before .if1 .taken) in
     rw t (ap (λ r. opened r (s .args .equity .now)) (c .refused .ensures))
 
@@ -46,7 +53,7 @@ returns-2 : tie.Need-returns-2
 unfolding opening
 returns-2 c =
     let o = c .before .before in
-    let s = o .before .before .before in
+    let s = o .before .before .before .before in
     let t = sym (same-test (o .before)) ∙ not-false _ (o .if1 .left) in
     let l : length (s .args .equity .now) ≤ 0 = omega arith in
     rw (t, le-ltb 0 (length (s .args .equity .now)) l) (ap (λ r. opened r (s .args .equity .now)) (c .refused2 .ensures))
@@ -54,8 +61,8 @@ returns-2 c =
 slice-set-from-initial-cash : tie.Need-slice-set-from-initial-cash
 slice-set-from-initial-cash c = search needs
 
-empty-account-requires : tie.Need-empty-account-requires
-empty-account-requires c κs = search needs
+opened-requires : tie.Need-opened-requires
+opened-requires c κs = search needs
 
 same-length : tie.Need-same-length
 same-length c = search needs
@@ -64,16 +71,17 @@ returns-3 : tie.Need-returns-3
 unfolding opening
 returns-3 c =
     let o = c .before .before in
-    let s = o .before .before .before in
+    let s = o .before .before .before .before in
     let t = sym (same-test (o .before)) ∙ not-false _ (o .if1 .left) in
     let l : 0 < length (s .args .equity .now) = omega arith in
-    let e : c .empty-account .result ≡ emptyAccount (s .args .initial-cash) (openingSettings (s .args .cost-model) (s .args .quantity-step)) (series 1 0 (s .args .initial-cash)) = c .empty-account .ensures ∙ simp (toZ-ofZ (s .fits .initial-cash), same-settings (o .before .before)) in
+    let e : c .opened .result ≡ openAccount (s .args .initial-cash) (settings-at s) = c .opened .ensures ∙ simp (toZ-ofZ (s .fits .initial-cash), same-settings (o .before .before)) in
     rw (t, lt-ltb 0 (length (s .args .equity .now)) l) (simp (toZ-ofZ (s .fits .initial-cash), e))
 
 pub with-quantity-step-spec : {M : Type 1} → statement M
 with-quantity-step-spec =
     tie.close
     (tie.spec
+    of-costs-requires
     opening-settings-requires
     sound-scalars-requires
     refused-requires
@@ -81,6 +89,6 @@ with-quantity-step-spec =
     refused-requires-2
     returns-2
     slice-set-from-initial-cash
-    empty-account-requires
+    opened-requires
     same-length
     returns-3)

@@ -11,14 +11,14 @@ use Rattle.account_bytes.proofs.account_words.read_account.Tie as tie
 is-account-requires : tie.Need-is-account-requires
 is-account-requires c κs = search needs
 
-zero-account-requires : tie.Need-zero-account-requires
-zero-account-requires c κs = search needs
+zero-requires : tie.Need-zero-requires
+zero-requires c κs = search needs
 
 returns : tie.Need-returns
 unfolding readAccount
 returns c =
     let i = c .before .before in
-    simp (sym (good-is (i .before .before .args .bytes .now)) ∙ sym (i .is-account .ensures) ∙ not-true _ (c .before .if1 .taken), c .zero-account .ensures)
+    simp (sym (good-is (i .before .before .args .bytes .now)) ∙ sym (i .is-account .ensures) ∙ not-true _ (c .before .if1 .taken), c .zero .ensures)
 
 account-of-requires : tie.Need-account-of-requires
 account-of-requires c κs = good-long _ (sym (c .before .is-account .ensures) ∙ not-false _ (c .if1 .left))
@@ -32,4 +32,4 @@ returns-2 c =
 pub read-account-spec : {M : Type 1} → statement M
 read-account-spec =
     tie.close
-    (tie.spec is-account-requires zero-account-requires returns account-of-requires returns-2)
+    (tie.spec is-account-requires zero-requires returns account-of-requires returns-2)

@@ -19,18 +19,18 @@ returns c =
     let t = c .before in
     simp (eq-eqb _ _ (t .before .before .if1 .taken), sym (t .before .are-settings .ensures) ∙ t .if2 .taken, c .settings-at .ensures)
 
-zero-settings-requires : tie.Need-zero-settings-requires
-zero-settings-requires c κs = search needs
+zero-requires : tie.Need-zero-requires
+zero-requires c κs = search needs
 
 returns-2 : tie.Need-returns-2
 unfolding readSettings holdSettings
 returns-2 c =
     ⊎-elim
-    (λ w. simp (eq-eqb _ _ (w .0 .taken), sym (w .1 .ensures) ∙ w .2 .left, c .zero-settings .ensures))
-    (λ w. simp (ne-eqb _ _ (w .left), c .zero-settings .ensures))
+    (λ w. simp (eq-eqb _ _ (w .0 .taken), sym (w .1 .ensures) ∙ w .2 .left, c .zero .ensures))
+    (λ w. simp (ne-eqb _ _ (w .left), c .zero .ensures))
     (c .before .if1 .came)
 
 pub read-settings-spec : {M : Type 1} → statement M
 read-settings-spec =
     tie.close
-    (tie.spec are-settings-requires settings-at-requires returns zero-settings-requires returns-2)
+    (tie.spec are-settings-requires settings-at-requires returns zero-requires returns-2)

@@ -10,7 +10,8 @@ use Rattle.account.specs.Account.{soundScalars}
 use Rattle.account.specs.declared.account.Account.{Account}
 use Rattle.account_bytes.specs.Account.{writtenAccount}
 use Rattle.account_bytes.specs.Settings.{readSettings}
-use Rattle.c_accounts.specs.Opening.{openTold, openAccount}
+use Rattle.account.specs.Calls.{openAccount}
+use Rattle.c_accounts.specs.Opening.{openTold}
 use Rattle.c_accounts.proofs.Openings.{open-bad, open-short, open-full, open-done}
 use Rattle.c_accounts.proofs.opening.tc_open.Statement.{statement}
 use Rattle.c_accounts.proofs.opening.tc_open.Tie as tie
@@ -21,10 +22,10 @@ began c = c .before .before .before
 same-test : (c : tie.After-sound-scalars) → let s = began c .before .before .before .args in c .sound-scalars .result ≡ soundScalars (s .cash) (readSettings (s .settings .now) .settings)
 same-test c = simp (toZ-ofZ (began c .before .before .before .fits .cash), c .before .before .read-settings .ensures) at (c .sound-scalars .ensures)
 
-account-is : (c : tie.After-open-account) → let u = c .before .before .before in let s = began u .before .before .before .args in c .open-account .result ≡ openAccount (s .cash) (readSettings (s .settings .now) .settings)
+account-is : (c : tie.After-opened) → let u = c .before .before .before in let s = began u .before .before .before .args in c .opened .result ≡ openAccount (s .cash) (readSettings (s .settings .now) .settings)
 account-is c =
     let u = c .before .before .before in
-    simp (toZ-ofZ (began u .before .before .before .fits .cash), u .before .before .read-settings .ensures) at (c .open-account .ensures)
+    simp (toZ-ofZ (began u .before .before .before .fits .cash), u .before .before .read-settings .ensures) at (c .opened .ensures)
 
 number-requires : tie.Need-number-requires
 number-requires c κs = search needs
@@ -70,8 +71,8 @@ returns-3 c =
 slice-set-from-cash : tie.Need-slice-set-from-cash
 slice-set-from-cash c = search needs
 
-open-account-requires : tie.Need-open-account-requires
-open-account-requires c κs = search needs
+opened-requires : tie.Need-opened-requires
+opened-requires c κs = search needs
 
 write-account-requires : tie.Need-write-account-requires
 write-account-requires c κs = search needs
@@ -112,7 +113,7 @@ tc-open-spec =
     number-requires-3
     returns-3
     slice-set-from-cash
-    open-account-requires
+    opened-requires
     write-account-requires
     number-requires-4
     same-length

@@ -19,8 +19,8 @@ realized-fits s = search needs
 total-fits : (s : tie.Start) → SFits w64 (total (s .args .h .position))
 total-fits s = search needs
 
-mark-of-requires : tie.Need-mark-of-requires
-mark-of-requires c κs = search needs
+flag-word-requires : tie.Need-flag-word-requires
+flag-word-requires c κs = search needs
 
 text-of-requires : tie.Need-text-of-requires
 text-of-requires c κs = search needs
@@ -42,7 +42,7 @@ returns c =
     let t = c .before .before .before .before .before .before .before .before in
     let s = t .before .before .before in
     simp (
-      t .before .mark-of .ensures,
+      t .before .flag-word .ensures,
       t .text-of .ensures,
       stored (quantity-fits s) (c .before .before .before .before .before .before .unsigned .ensures),
       stored (average-fits s) (c .before .before .before .before .unsigned2 .ensures),
@@ -54,7 +54,7 @@ pub held-words-spec : {M : Type 1} → statement M
 held-words-spec =
     tie.close
     (tie.spec
-    mark-of-requires
+    flag-word-requires
     text-of-requires
     unsigned-requires
     unsigned-requires-2

@@ -5,6 +5,7 @@ use mir.Val.{SFits}
 use mir.Facts.{toZ-ofZ}
 use borrow.Author.Needs.{needs}
 use Rattle.table.specs.Rows.{columnsOf, Full}
+use Rattle.account.proofs.Full.{account-full}
 use Rattle.portfolio.specs.Answers.{isDone}
 use Rattle.portfolio.proofs.Refusals.{Queried, query-done}
 use Rattle.portfolio.proofs.Worths.{equity-of-places}
@@ -12,7 +13,7 @@ use Rattle.portfolio.proofs.equity.equity_of.Statement.{statement}
 use Rattle.portfolio.proofs.equity.equity_of.Tie as tie
 
 full : (s : tie.Start) → Full (columnsOf (s .args .a .positions))
-full s = record { symbol = search needs; quantity = search needs; average = search needs; realized = search needs; total = search needs }
+full s = account-full (s .args .a) _ (s .good .0)
 
 cash-fits : (s : tie.Start) → SFits w64 (s .args .a .cash)
 cash-fits s = search needs

@@ -7,6 +7,7 @@ use borrow.Author.Needs.{needs}
 use Rattle.table.specs.Rows.{columnsOf, Full, Ordered}
 use Rattle.call_lists.specs.Lists.{priceOf}
 use Rattle.account.specs.Account.{heldIn}
+use Rattle.account.proofs.Full.{account-full}
 use Rattle.account.proofs.SoundAccounts.{account-ordered}
 use Rattle.portfolio.specs.Answers.{isDone}
 use Rattle.portfolio.proofs.Refusals.{Queried, query-done}
@@ -17,7 +18,7 @@ use Rattle.queries.proofs.query.snapshot_at.Statement.{statement}
 use Rattle.queries.proofs.query.snapshot_at.Tie as tie
 
 full : (s : tie.Start) → Full (columnsOf (s .args .a .positions))
-full s = record { symbol = search needs; quantity = search needs; average = search needs; realized = search needs; total = search needs }
+full s = account-full (s .args .a) _ (s .good .0)
 
 cash-fits : (s : tie.Start) → SFits w64 (s .args .a .cash)
 cash-fits s = search needs

@@ -6,6 +6,7 @@ use borrow.Author.Needs.{needs}
 use borrow.Author.Tests.{not-true, not-false}
 use Rattle.table.specs.Rows.{columnsOf, Full, Ordered}
 use Rattle.call_lists.specs.Lists.{priceOf}
+use Rattle.account.proofs.Full.{account-full}
 use Rattle.account.proofs.SoundAccounts.{account-ordered}
 use Rattle.portfolio.specs.Answers.{isDone, queryAnswer}
 use Rattle.portfolio.proofs.Refusals.{Queried, query-done}
@@ -15,7 +16,7 @@ use Rattle.queries.proofs.unpriced.unpriced_holding.Statement.{statemen
 use Rattle.queries.proofs.unpriced.unpriced_holding.Tie as tie
 
 full : (s : tie.Start) → Full (columnsOf (s .args .a .positions))
-full s = record { symbol = search needs; quantity = search needs; average = search needs; realized = search needs; total = search needs }
+full s = account-full (s .args .a) _ (s .good .0)
 
 is-done : (c : tie.Else1) → let s = c .before .before .before .before in isDone (queryAnswer (s .args .a) (s .args .symbols .now) (s .args .prices .now)) ≡ true
 is-done c = sym (ap isDone (c .before .before .query-answer .ensures)) ∙ sym (c .before .is-done .ensures) ∙ not-false _ (c .if1 .left)

@@ -7,13 +7,14 @@ use borrow.Author.Tests.{not-true, not-false}
 use Rattle.table.specs.Rows.{columnsOf, Full}
 use Rattle.account.specs.Account.{soundAccount}
 use Rattle.account.specs.Calls.{positionOf}
+use Rattle.account.proofs.Full.{account-full}
 use Rattle.account.proofs.Holdings.{found-holds}
 use Rattle.account.proofs.SoundAccounts.{account-ordered}
 use Rattle.account.proofs.account.Account.position.Statement.{statement}
 use Rattle.account.proofs.account.Account.position.Tie as tie
 
 full : (s : tie.Start) → Full (columnsOf (s .args .self .positions))
-full s = record { symbol = search needs; quantity = search needs; average = search needs; realized = search needs; total = search needs }
+full s = account-full (s .args .self) _ (s .good .0)
 
 is-sound : (c : tie.Else1) → soundAccount (c .before .before .args .self) ≡ true
 is-sound c = sym (c .before .is-sound .ensures) ∙ not-false _ (c .if1 .left)

@@ -8,8 +8,7 @@ use mir.Facts.{toZ-ofZ}
 use borrow.Author.Needs.{needs}
 use borrow.Author.Tests.{not-true, not-false}
 use Rattle.position.proofs.Counts.{lt-not-ge, not-lt-ge}
-use Rattle.cost_model.specs.Costs.{goodCosts}
-use Rattle.account.specs.Settings.{atLeast, goodSettings}
+use Rattle.account.specs.Settings.{atLeast, goodRules, goodSettings}
 use Rattle.account.proofs.settings.Settings.is_good.Statement.{statement}
 use Rattle.account.proofs.settings.Settings.is_good.Tie as tie
 
@@ -26,8 +25,8 @@ notional-fits : (s : tie.Start) → SFits w64 (s .args .self .«max_rebalance_no
 notional-fits s = search needs
 
 -- the tests passed so far
-good-costs : (c : tie.Else1) → goodCosts (c .before .before .args .self .«cost_model») ≡ true
-good-costs c = sym (c .before .is-good .ensures) ∙ not-false _ (c .if1 .left)
+good-rules : (c : tie.Else1) → goodRules (c .before .before .args .self .rules) ≡ true
+good-rules c = sym (c .before .is-good .ensures) ∙ not-false _ (c .if1 .left)
 
 abbrev at-step : tie.Else2 → tie.Else1
 at-step c = c .before .before .before
@@ -63,7 +62,7 @@ returns-2 c =
     let e = c .before .before .before in
     let s = from e in
     let t = lt-not-ge (s .args .self .«quantity_step») (pos 1) (simp (toZ-ofZ (step-fits s)) at (c .if2 .taken)) in
-    rw (good-costs e, t)
+    rw (good-rules e, t)
 
 returns-3 : tie.Need-returns-3
 unfolding goodSettings
@@ -72,7 +71,7 @@ returns-3 c =
     let e = at-step d in
     let s = from e in
     let t = lt-not-ge (s .args .self .«min_order_value») (pos 0) (simp (toZ-ofZ (min-fits s)) at (c .if3 .taken)) in
-    rw (good-costs e, good-step d, t)
+    rw (good-rules e, good-step d, t)
 
 returns-4 : tie.Need-returns-4
 unfolding goodSettings
@@ -82,7 +81,7 @@ returns-4 c =
     let e = at-step d in
     let s = from e in
     let t = lt-not-ge (s .args .self .«max_order_value») (pos 0) (simp (toZ-ofZ (max-fits s)) at (c .if4 .taken)) in
-    rw (good-costs e, good-step d, good-min m, t)
+    rw (good-rules e, good-step d, good-min m, t)
 
 is-good-band-requires : tie.Need-is-good-band-requires
 is-good-band-requires c κs = search needs
@@ -94,7 +93,7 @@ returns-5 c =
     let m = at-max x in
     let d = at-min m in
     let t = sym (c .before .is-good-band .ensures) ∙ not-true _ (c .if5 .taken) in
-    rw (good-costs (at-step d), good-step d, good-min m, good-max x, t)
+    rw (good-rules (at-step d), good-step d, good-min m, good-max x, t)
 
 returns-6 : tie.Need-returns-6
 unfolding goodSettings
@@ -105,7 +104,7 @@ returns-6 c =
     let d = at-min m in
     let s = from (at-step d) in
     let t = sym (b .before .is-good-band .ensures) ∙ not-false _ (b .if5 .left) in
-    rw (good-costs (at-step d), good-step d, good-min m, good-max x, t) (simp (toZ-ofZ (notional-fits s)))
+    rw (good-rules (at-step d), good-step d, good-min m, good-max x, t) (simp (toZ-ofZ (notional-fits s)))
 
 pub is-good-spec : {M : Type 1} → statement M
 is-good-spec =
