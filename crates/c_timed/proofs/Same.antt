@@ -17,8 +17,11 @@ use Rattle.account.specs.declared.account.Account.{Account}
 use Rattle.account.specs.declared.change.Changed.{Changed}
 use Rattle.account.specs.Account.{heldIn, withSeries}
 use Rattle.wanted.specs.Equity.{equityOf}
+use Rattle.list_bytes.specs.declared.price.Prices.{Prices}
+use Rattle.list_bytes.specs.declared.target.Targets.{Targets}
 use Rattle.list_bytes.specs.Entries.{wholeList}
 use Rattle.list_bytes.specs.Lists.{targetsOf, pricesOf}
+use Rattle.list_bytes.proofs.Lists.{target-symbols-long, target-weights-long, price-symbols-long, price-prices-long}
 use Rattle.portfolio.specs.declared.trade.Traded.{Traded}
 use Rattle.portfolio.specs.Answers.{places, returnAnswer}
 use Rattle.portfolio.specs.Rebalance.{rebalanced}
@@ -65,14 +68,28 @@ rebalance-made a ts ws ps vs t xs′ xs ys′ ys m n e =
     ∙ ap (λ k. ofOutcome (rebalanced a ts ws ps vs 0 Rebalance (places k (length ys)))) m
     ∙ ap (λ k. ofOutcome (rebalanced a ts ws ps vs 0 Rebalance (places 256 k))) n
 
--- ---- whether a list is whole
-pub targets-whole : (l : List ℕ) → targetsOf l .whole ≡ wholeList 64 l
-unfolding targetsOf
-targets-whole l = refl
+-- ---- of what was read from a list's bytes: whether the list is whole, and how much is lent of each column
+module _ (l : List ℕ) {t : Targets} (e : t ≡ targetsOf l) where
+  pub targets-whole : t .whole ≡ wholeList 64 l
+  unfolding targetsOf
+  targets-whole = ap (λ (x : Targets). x .whole) e
 
-pub prices-whole : (l : List ℕ) → pricesOf l .whole ≡ wholeList 128 l
-unfolding pricesOf
-prices-whole l = refl
+  pub targets-lent : length (take (t .count) (t .symbol)) ≡ t .count
+  targets-lent = rw e (target-symbols-long l)
+
+  pub weights-lent : length (take (t .count) (t .weight)) ≡ t .count
+  weights-lent = rw e (target-weights-long l)
+
+module _ (l : List ℕ) {p : Prices} (e : p ≡ pricesOf l) where
+  pub prices-whole : p .whole ≡ wholeList 128 l
+  unfolding pricesOf
+  prices-whole = ap (λ (x : Prices). x .whole) e
+
+  pub symbols-lent : length (take (p .count) (p .symbol)) ≡ p .count
+  symbols-lent = rw e (price-symbols-long l)
+
+  pub prices-lent : length (take (p .count) (p .price)) ≡ p .count
+  prices-lent = rw e (price-prices-long l)
 
 -- ---- a front of a column that is as long as the count lies within it
 pub within : {A : Type 0} (n : ℕ) (l : List A) → length (take n l) ≡ n → n ≤ length l

@@ -30,11 +30,14 @@ module _ {A : Type 0} where
   front-long (x ∷ xs) [] h = absurd (omega arith)
   front-long (x ∷ xs) (y ∷ ys) h = ap suc (front-long xs ys (omega arith))
 
+  one-longer : (xs : List A) (r : A) → length (xs ++ (r ∷ [])) ≡ suc (length xs)
+  one-longer xs r = omega (arith, length-append xs (r ∷ []))
+
 module _ (ws : List ℕ) (is : List ℤ) where
   pub records-long : (n : ℕ) → length (recordsAt ws is n) ≡ n
   unfolding recordsAt
   records-long zero = refl
-  records-long (suc n) = omega (arith, length-append (recordsAt ws is n) (recordAt ws is n ∷ []), records-long n)
+  records-long (suc n) = one-longer (recordsAt ws is n) _ ∙ ap suc (records-long n)
 
   pub run-long : (n : ℕ) (ys : List ExecutionRecord) → n ≤ length ys → length (fronted (recordsAt ws is n) ys) ≡ length ys
   run-long n ys h = front-long (recordsAt ws is n) ys (omega (arith, records-long n))

@@ -3,39 +3,17 @@ use mathlib.Core.Path.{_≡_, sym, ap, _∙_}
 use mathlib.Core.Bool.{true}
 use borrow.Author.Needs.{needs}
 use borrow.Author.Tests.{not-true, not-false, eq-eqb, ne-eqb}
-use lib.ListN.{length, take}
-use Rattle.list_bytes.specs.declared.price.Prices.{Prices}
-use Rattle.list_bytes.specs.declared.target.Targets.{Targets}
 use Rattle.list_bytes.specs.Entries.{wholeList}
 use Rattle.list_bytes.specs.Lists.{symbolsIn, weightsIn, pricesIn}
-use Rattle.list_bytes.proofs.Lists.{target-symbols, target-weights, price-symbols, price-prices, target-symbols-long, target-weights-long, price-symbols-long, price-prices-long}
+use Rattle.list_bytes.proofs.Lists.{target-symbols, target-weights, price-symbols, price-prices}
 use Rattle.c_timed.specs.Made.{left}
 use Rattle.c_timed.specs.Calls.{accountIn, rebalanceCall, rebalancesIn}
-use Rattle.c_timed.proofs.Same.{within, targets-whole, prices-whole}
+use Rattle.c_timed.proofs.Same.{targets-whole, targets-lent, weights-lent, prices-whole, symbols-lent, prices-lent, within}
 use Rattle.c_timed.proofs.rebalancing.direct_rebalance.Statement.{statement}
 use Rattle.c_timed.proofs.rebalancing.direct_rebalance.Tie as tie
 
 abbrev begun : tie.After-read-prices → tie.Start
 begun c = c .before .before .before .before .before .before .before
-
-whole-targets : (c : tie.After-read-prices) → c .before .read-targets .result .whole ≡ wholeList 64 (begun c .args .targets .now)
-whole-targets c = ap (λ (t : Targets). t .whole) (c .before .read-targets .ensures) ∙ targets-whole (begun c .args .targets .now)
-
-whole-prices : (c : tie.After-read-prices) → c .read-prices .result .whole ≡ wholeList 128 (begun c .args .prices .now)
-whole-prices c = ap (λ (p : Prices). p .whole) (c .read-prices .ensures) ∙ prices-whole (begun c .args .prices .now)
-
--- ---- what is lent of each column
-targets-lent : (c : tie.After-read-prices) → let t = c .before .read-targets .result in length (take (t .count) (t .symbol)) ≡ t .count
-targets-lent c = rw (c .before .read-targets .ensures) (target-symbols-long (begun c .args .targets .now))
-
-weights-lent : (c : tie.After-read-prices) → let t = c .before .read-targets .result in length (take (t .count) (t .weight)) ≡ t .count
-weights-lent c = rw (c .before .read-targets .ensures) (target-weights-long (begun c .args .targets .now))
-
-symbols-lent : (c : tie.After-read-prices) → let p = c .read-prices .result in length (take (p .count) (p .symbol)) ≡ p .count
-symbols-lent c = rw (c .read-prices .ensures) (price-symbols-long (begun c .args .prices .now))
-
-prices-lent : (c : tie.After-read-prices) → let p = c .read-prices .result in length (take (p .count) (p .price)) ≡ p .count
-prices-lent c = rw (c .read-prices .ensures) (price-prices-long (begun c .args .prices .now))
 
 -- ---- the tests
 abbrev read : tie.Else1 → tie.After-read-prices
@@ -45,10 +23,10 @@ abbrev first : tie.Else2 → tie.Else1
 first c = c .before .before
 
 targets-are : (c : tie.Else1) → wholeList 64 (begun (read c) .args .targets .now) ≡ true
-targets-are c = sym (whole-targets (read c)) ∙ not-false _ (c .if1 .left)
+targets-are c = sym (targets-whole _ (read c .before .read-targets .ensures)) ∙ not-false _ (c .if1 .left)
 
 prices-are : (c : tie.Else2) → wholeList 128 (begun (read (first c)) .args .prices .now) ≡ true
-prices-are c = sym (whole-prices (read (first c))) ∙ not-false _ (c .if2 .left)
+prices-are c = sym (prices-whole _ (read (first c) .read-prices .ensures)) ∙ not-false _ (c .if2 .left)
 
 -- ---- the call, of lists that are whole
 abbrev tested : tie.After-rebalances → tie.Else3
@@ -81,7 +59,7 @@ returns : tie.Need-returns
 unfolding rebalancesIn
 returns c =
     let q = c .before .before .before .before in
-    let d = sym (whole-targets q) ∙ not-true _ (c .before .if1 .taken) in
+    let d = sym (targets-whole _ (q .before .read-targets .ensures)) ∙ not-true _ (c .before .if1 .taken) in
     simp (c .too-long .ensures, q .before .before .read-account .ensures, d)
 
 too-long-requires-2 : tie.Need-too-long-requires-2
@@ -92,7 +70,7 @@ unfolding rebalancesIn
 returns-2 c =
     let f = c .before .before .before in
     let q = read f in
-    let d = sym (whole-prices q) ∙ not-true _ (c .before .if2 .taken) in
+    let d = sym (prices-whole _ (q .read-prices .ensures)) ∙ not-true _ (c .before .if2 .taken) in
     simp (c .too-long2 .ensures, q .before .before .read-account .ensures, targets-are f, d)
 
 too-long-requires-3 : tie.Need-too-long-requires-3
@@ -106,28 +84,28 @@ returns-3 c =
     simp (c .too-long3 .ensures, q .before .before .read-account .ensures, targets-are (first e), prices-are e, ne-eqb _ _ (c .before .if3 .taken))
 
 array-share-prefix-ts : tie.Need-array-share-prefix-ts
-array-share-prefix-ts c = within _ _ (targets-lent (c .before .before .before .before .before .before .before .before .before .before))
+array-share-prefix-ts c = within _ _ (targets-lent _ (c .before .before .before .before .before .before .before .before .before .before .before .read-targets .ensures))
 
 slice-aggregate-rebalances : tie.Need-slice-aggregate-rebalances
-slice-aggregate-rebalances c = sym (targets-lent (c .before .before .before .before .before .before .before .before .before .before .before))
+slice-aggregate-rebalances c = sym (targets-lent _ (c .before .before .before .before .before .before .before .before .before .before .before .before .read-targets .ensures))
 
 array-share-prefix-ws : tie.Need-array-share-prefix-ws
-array-share-prefix-ws c = within _ _ (weights-lent (c .before .before .before .before .before .before .before .before .before .before .before))
+array-share-prefix-ws c = within _ _ (weights-lent _ (c .before .before .before .before .before .before .before .before .before .before .before .before .read-targets .ensures))
 
 slice-aggregate-rebalances-2 : tie.Need-slice-aggregate-rebalances-2
-slice-aggregate-rebalances-2 c = sym (weights-lent (c .before .before .before .before .before .before .before .before .before .before .before .before))
+slice-aggregate-rebalances-2 c = sym (weights-lent _ (c .before .before .before .before .before .before .before .before .before .before .before .before .before .read-targets .ensures))
 
 array-share-prefix-ss : tie.Need-array-share-prefix-ss
-array-share-prefix-ss c = within _ _ (symbols-lent (c .before .before .before .before .before .before .before .before .before .before .before .before))
+array-share-prefix-ss c = within _ _ (symbols-lent _ (c .before .before .before .before .before .before .before .before .before .before .before .before .read-prices .ensures))
 
 slice-aggregate-rebalances-3 : tie.Need-slice-aggregate-rebalances-3
-slice-aggregate-rebalances-3 c = sym (symbols-lent (c .before .before .before .before .before .before .before .before .before .before .before .before .before))
+slice-aggregate-rebalances-3 c = sym (symbols-lent _ (c .before .before .before .before .before .before .before .before .before .before .before .before .before .read-prices .ensures))
 
 array-share-prefix-ps : tie.Need-array-share-prefix-ps
-array-share-prefix-ps c = within _ _ (prices-lent (c .before .before .before .before .before .before .before .before .before .before .before .before .before))
+array-share-prefix-ps c = within _ _ (prices-lent _ (c .before .before .before .before .before .before .before .before .before .before .before .before .before .read-prices .ensures))
 
 slice-aggregate-rebalances-4 : tie.Need-slice-aggregate-rebalances-4
-slice-aggregate-rebalances-4 c = sym (prices-lent (c .before .before .before .before .before .before .before .before .before .before .before .before .before .before))
+slice-aggregate-rebalances-4 c = sym (prices-lent _ (c .before .before .before .before .before .before .before .before .before .before .before .before .before .before .read-prices .ensures))
 
 rebalances-requires : tie.Need-rebalances-requires
 rebalances-requires c κs = search needs

@@ -3,36 +3,24 @@ use mathlib.Core.Path.{_≡_, sym, ap, _∙_}
 use mathlib.Core.Bool.{true}
 use borrow.Author.Needs.{needs}
 use borrow.Author.Tests.{not-true, not-false, eq-eqb, ne-eqb}
-use lib.ListN.{length, take}
-use Rattle.list_bytes.specs.declared.price.Prices.{Prices}
 use Rattle.list_bytes.specs.Entries.{wholeList}
 use Rattle.list_bytes.specs.Lists.{symbolsIn, pricesIn}
-use Rattle.list_bytes.proofs.Lists.{price-symbols, price-prices, price-symbols-long, price-prices-long}
+use Rattle.list_bytes.proofs.Lists.{price-symbols, price-prices}
 use Rattle.c_timed.specs.Made.{left}
 use Rattle.c_timed.specs.Calls.{accountIn, returnCall, returnsIn}
-use Rattle.c_timed.proofs.Same.{within, prices-whole}
+use Rattle.c_timed.proofs.Same.{prices-whole, symbols-lent, prices-lent, within}
 use Rattle.c_timed.proofs.recording.direct_return.Statement.{statement}
 use Rattle.c_timed.proofs.recording.direct_return.Tie as tie
 
 abbrev begun : tie.After-read-prices → tie.Start
 begun c = c .before .before .before .before .before
 
-whole : (c : tie.After-read-prices) → c .read-prices .result .whole ≡ wholeList 128 (begun c .args .prices .now)
-whole c = ap (λ (p : Prices). p .whole) (c .read-prices .ensures) ∙ prices-whole (begun c .args .prices .now)
-
--- ---- what is lent of each column
-symbols-lent : (c : tie.After-read-prices) → let p = c .read-prices .result in length (take (p .count) (p .symbol)) ≡ p .count
-symbols-lent c = rw (c .read-prices .ensures) (price-symbols-long (begun c .args .prices .now))
-
-prices-lent : (c : tie.After-read-prices) → let p = c .read-prices .result in length (take (p .count) (p .price)) ≡ p .count
-prices-lent c = rw (c .read-prices .ensures) (price-prices-long (begun c .args .prices .now))
-
 -- ---- the tests
 abbrev read : tie.Else1 → tie.After-read-prices
 read c = c .before .before .before
 
 is-whole : (c : tie.Else1) → wholeList 128 (begun (read c) .args .prices .now) ≡ true
-is-whole c = sym (whole (read c)) ∙ not-false _ (c .if1 .left)
+is-whole c = sym (prices-whole _ (read c .read-prices .ensures)) ∙ not-false _ (c .if1 .left)
 
 -- ---- the call, of a list that is whole
 abbrev tested : tie.After-returns → tie.Else2
@@ -58,7 +46,7 @@ returns : tie.Need-returns
 unfolding returnsIn
 returns c =
     let q = c .before .before .before .before in
-    let d = sym (whole q) ∙ not-true _ (c .before .if1 .taken) in
+    let d = sym (prices-whole _ (q .read-prices .ensures)) ∙ not-true _ (c .before .if1 .taken) in
     simp (c .too-long .ensures, q .before .read-account .ensures, d)
 
 too-long-requires-2 : tie.Need-too-long-requires-2
@@ -72,16 +60,16 @@ returns-2 c =
     simp (c .too-long2 .ensures, q .before .read-account .ensures, is-whole t, ne-eqb _ _ (c .before .if2 .taken))
 
 array-share-prefix-ss : tie.Need-array-share-prefix-ss
-array-share-prefix-ss c = within _ _ (symbols-lent (c .before .before .before .before .before .before))
+array-share-prefix-ss c = within _ _ (symbols-lent _ (c .before .before .before .before .before .before .read-prices .ensures))
 
 slice-aggregate-returns : tie.Need-slice-aggregate-returns
-slice-aggregate-returns c = sym (symbols-lent (c .before .before .before .before .before .before .before))
+slice-aggregate-returns c = sym (symbols-lent _ (c .before .before .before .before .before .before .before .read-prices .ensures))
 
 array-share-prefix-ps : tie.Need-array-share-prefix-ps
-array-share-prefix-ps c = within _ _ (prices-lent (c .before .before .before .before .before .before .before))
+array-share-prefix-ps c = within _ _ (prices-lent _ (c .before .before .before .before .before .before .before .read-prices .ensures))
 
 slice-aggregate-returns-2 : tie.Need-slice-aggregate-returns-2
-slice-aggregate-returns-2 c = sym (prices-lent (c .before .before .before .before .before .before .before .before))
+slice-aggregate-returns-2 c = sym (prices-lent _ (c .before .before .before .before .before .before .before .before .read-prices .ensures))
 
 returns-requires : tie.Need-returns-requires
 returns-requires c κs = search needs

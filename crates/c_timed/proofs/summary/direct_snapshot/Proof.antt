@@ -3,37 +3,25 @@ use mathlib.Core.Path.{_≡_, sym, ap, _∙_}
 use mathlib.Core.Bool.{true}
 use borrow.Author.Needs.{needs}
 use borrow.Author.Tests.{not-true, not-false, eq-eqb, ne-eqb}
-use lib.ListN.{length, take}
-use Rattle.list_bytes.specs.declared.price.Prices.{Prices}
 use Rattle.list_bytes.specs.Entries.{wholeList}
 use Rattle.list_bytes.specs.Lists.{symbolsIn, pricesIn}
-use Rattle.list_bytes.proofs.Lists.{price-symbols, price-prices, price-symbols-long, price-prices-long}
+use Rattle.list_bytes.proofs.Lists.{price-symbols, price-prices}
 use Rattle.queries.specs.Answers.{toldSnapshot}
 use Rattle.c_timed.specs.Made.{leftBoth}
 use Rattle.c_timed.specs.Calls.{accountIn, snapshotsIn}
-use Rattle.c_timed.proofs.Same.{within, prices-whole}
+use Rattle.c_timed.proofs.Same.{prices-whole, symbols-lent, prices-lent, within}
 use Rattle.c_timed.proofs.summary.direct_snapshot.Statement.{statement}
 use Rattle.c_timed.proofs.summary.direct_snapshot.Tie as tie
 
 abbrev begun : tie.After-read-prices → tie.Start
 begun c = c .before .before .before .before .before .before
 
-whole : (c : tie.After-read-prices) → c .read-prices .result .whole ≡ wholeList 128 (begun c .args .prices .now)
-whole c = ap (λ (p : Prices). p .whole) (c .read-prices .ensures) ∙ prices-whole (begun c .args .prices .now)
-
--- ---- what is lent of each column
-symbols-lent : (c : tie.After-read-prices) → let p = c .read-prices .result in length (take (p .count) (p .symbol)) ≡ p .count
-symbols-lent c = rw (c .read-prices .ensures) (price-symbols-long (begun c .args .prices .now))
-
-prices-lent : (c : tie.After-read-prices) → let p = c .read-prices .result in length (take (p .count) (p .price)) ≡ p .count
-prices-lent c = rw (c .read-prices .ensures) (price-prices-long (begun c .args .prices .now))
-
 -- ---- the tests
 abbrev read : tie.Else1 → tie.After-read-prices
 read c = c .before .before .before
 
 is-whole : (c : tie.Else1) → wholeList 128 (begun (read c) .args .prices .now) ≡ true
-is-whole c = sym (whole (read c)) ∙ not-false _ (c .if1 .left)
+is-whole c = sym (prices-whole _ (read c .read-prices .ensures)) ∙ not-false _ (c .if1 .left)
 
 -- ---- the call, of a list that is whole
 abbrev tested : tie.After-snapshots → tie.Else3
@@ -59,7 +47,7 @@ returns : tie.Need-returns
 unfolding snapshotsIn
 returns c =
     let q = c .before .before .before .before in
-    let d = sym (whole q) ∙ not-true _ (c .before .if1 .taken) in
+    let d = sym (prices-whole _ (q .read-prices .ensures)) ∙ not-true _ (c .before .if1 .taken) in
     simp (c .too-long .ensures, q .before .read-account .ensures, d)
 
 too-long-requires-2 : tie.Need-too-long-requires-2
@@ -84,16 +72,16 @@ returns-3 c =
     simp (c .too-long3 .ensures, q .before .read-account .ensures, is-whole t, eq-eqb _ _ (f .if2 .left), ne-eqb _ _ (c .before .if3 .taken))
 
 array-share-prefix-ss : tie.Need-array-share-prefix-ss
-array-share-prefix-ss c = within _ _ (symbols-lent (c .before .before .before .before .before .before .before))
+array-share-prefix-ss c = within _ _ (symbols-lent _ (c .before .before .before .before .before .before .before .read-prices .ensures))
 
 slice-aggregate-snapshots : tie.Need-slice-aggregate-snapshots
-slice-aggregate-snapshots c = sym (symbols-lent (c .before .before .before .before .before .before .before .before))
+slice-aggregate-snapshots c = sym (symbols-lent _ (c .before .before .before .before .before .before .before .before .read-prices .ensures))
 
 array-share-prefix-ps : tie.Need-array-share-prefix-ps
-array-share-prefix-ps c = within _ _ (prices-lent (c .before .before .before .before .before .before .before .before))
+array-share-prefix-ps c = within _ _ (prices-lent _ (c .before .before .before .before .before .before .before .before .read-prices .ensures))
 
 slice-aggregate-snapshots-2 : tie.Need-slice-aggregate-snapshots-2
-slice-aggregate-snapshots-2 c = sym (prices-lent (c .before .before .before .before .before .before .before .before .before))
+slice-aggregate-snapshots-2 c = sym (prices-lent _ (c .before .before .before .before .before .before .before .before .before .read-prices .ensures))
 
 snapshots-requires : tie.Need-snapshots-requires
 snapshots-requires c κs = search needs
