@@ -77,8 +77,8 @@ fn bands(k: i64) -> Vec<Scenario> {
             10 * k,
             0,
             vec![
-                rebalance(&[(b'A', 0.1), (b'B', 0.0)], &[(b'A', 1_000_000 * k), (b'B', 5)]),
-                rebalance(&[], &[(b'A', 1_000_000 * k - 1)]),
+                rebalance(&[(b'A', 0.1), (b'B', 0.0)], &[(b'A', 1_000_000), (b'B', 5)]),
+                rebalance(&[], &[(b'A', 999_999 / k)]),
                 rebalance(&[], &[(b'A', 1)]),
             ],
         ),
@@ -96,13 +96,13 @@ fn bands(k: i64) -> Vec<Scenario> {
 }
 
 fn limits(k: i64) -> Vec<Scenario> {
-    // At a price of 3 the gap of 10 becomes 3,333,333 micro-shares, worth 9: more than 9 would buy.
+    // At a price of 7 the gap of 10 becomes 1,428,571 micro-shares, worth 9: more than 9 would buy.
     let (gap, worth) = (10 * k, 10 * k - 1);
     let weight = gap as f64 / 1_000.0;
     vec![
-        by_hand(1_000, 0, vec![set(MaxOrderValue(worth)), rebalance(&[(b'A', weight)], &[(b'A', 3)])]),
-        by_hand(1_000, 0, vec![set(MinOrderValue(worth)), rebalance(&[(b'A', weight)], &[(b'A', 3)])]),
-        by_hand(1_000, 0, vec![set(MinOrderValue(worth + 1)), rebalance(&[(b'A', weight)], &[(b'A', 3)])]),
+        by_hand(1_000, 0, vec![set(MaxOrderValue(worth)), rebalance(&[(b'A', weight)], &[(b'A', 7)])]),
+        by_hand(1_000, 0, vec![set(MinOrderValue(worth)), rebalance(&[(b'A', weight)], &[(b'A', 7)])]),
+        by_hand(1_000, 0, vec![set(MinOrderValue(worth + 1)), rebalance(&[(b'A', weight)], &[(b'A', 7)])]),
         // Over the order maximum, and cut to less than the minimum, to the minimum, and to nothing.
         by_hand(
             20_000,
@@ -171,7 +171,11 @@ fn caps(k: i64) -> Vec<Scenario> {
         capped(&[MaxRebalanceNotional(999 * k - 1)], &[(b'A', 0.0999)], &[(b'A', 1_000_003)]),
         capped(&[MaxRebalanceNotional(2_000 * k)], &[(b'A', 0.2), (b'B', 0.1)], &AT_100),
         // Nothing remains, and the next order is worth nothing: one micro-share at 700,000.
-        capped(&[MaxRebalanceNotional(2_000 * k)], &[(b'A', 0.2), (b'B', 0.0001)], &[(b'A', 100), (b'B', 700_000 * k)]),
+        capped(
+            &[MaxRebalanceNotional(2_000 * k)],
+            &[(b'A', 0.2), (b'B', 0.00015 / k as f64)],
+            &[(b'A', 100), (b'B', 700_000)],
+        ),
         // Cut to nothing by the step; cut to the minimum, and to less.
         capped(&[MaxRebalanceNotional(50), QuantityStep(1_000_000)], &rising, &AT_100),
         capped(&[MaxRebalanceNotional(3_500 * k), MinOrderValue(500 * k)], &rising, &AT_100),
@@ -259,10 +263,13 @@ fn ends(k: i64) -> Vec<Scenario> {
         short(-1e30, vec![set(QuantityStep(1_000)), rebalance(&[(b'A', 1e30)], &[(b'A', 1)])]),
         short(1e30, vec![Step::TotalEquity(prices(&[(b'A', i64::MAX)])), recorded(&[(b'A', i64::MAX - k)])]),
         // Values past the ends, and a change of equity past them.
-        short(
-            -1e30,
+        opened(
+            i64::MAX / 4,
+            FREE,
             vec![
-                recorded(&[(b'A', k)]),
+                set(Recording(true)),
+                rebalance(&[(b'A', -1e30), (b'B', 0.2)], &[(b'A', k), (b'B', 100)]),
+                recorded(&[(b'A', k), (b'B', 100)]),
                 recorded(&[(b'A', i64::MAX - k)]),
                 Step::Snapshot(prices(&[(b'A', i64::MAX - k)])),
                 recorded(&[(b'A', k)]),
