@@ -68,7 +68,7 @@ pub extern "C" fn direct_rebalance(
     if !p.whole {
         return too_long(a);
     }
-    if after.len() != 2736 {
+    if after.len() != account.len() {
         return too_long(a);
     }
     let n = t.count;

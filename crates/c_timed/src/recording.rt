@@ -37,7 +37,7 @@ pub extern "C" fn direct_return(account: &[u8], prices: &[u8], times: u64, after
     if !p.whole {
         return too_long(a);
     }
-    if after.len() != 2736 {
+    if after.len() != account.len() {
         return too_long(a);
     }
     let m = p.count;
