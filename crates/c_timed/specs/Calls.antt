@@ -1,5 +1,5 @@
 -- The calls, made over and over on one account. Account and lists are what their bytes stand for; with a list that is not whole, or a place of another
--- length than what is written there, none is made.
+-- length than what is written there, none is made. An account that is left takes as many bytes as the one that was given.
 use Prim.Native.Nat.{ℕ}
 use mathlib.Core.List.{List}
 use lib.Dec.{eqb}
@@ -11,7 +11,6 @@ use Rattle.fills.specs.declared.record.ExecutionKind.the-variants.{Rebalance}
 use Rattle.account.specs.declared.account.Account.{Account}
 use Rattle.account.specs.declared.change.Changed.{Changed}
 use Rattle.account_bytes.specs.Account.{readAccount}
-use Rattle.account_bytes.specs.Sizes.{accountLength}
 use Rattle.list_bytes.specs.Entries.{wholeList}
 use Rattle.list_bytes.specs.Lists.{symbolsIn, weightsIn, pricesIn}
 use Rattle.portfolio.specs.Rebalance.{Outcome, rebalanced}
@@ -32,7 +31,7 @@ rebalanceCall a ts ws ps vs = ofOutcome (rebalanced a ts ws ps vs 0 Rebalance 64
 
 unfoldable pub rebalancesIn : List ℕ → List ℕ → List ℕ → List ℕ → Left
 rebalancesIn b ts ps l =
-    pick (both (wholeList 64 ts) (both (wholeList 128 ps) (eqb (length l) accountLength)))
+    pick (both (wholeList 64 ts) (both (wholeList 128 ps) (eqb (length l) (length b))))
     (left (rebalanceCall (accountIn b) (symbolsIn ts) (weightsIn ts) (symbolsIn ps) (pricesIn ps)) l)
     (refusing l (tooLong (accountIn b)))
 
@@ -45,7 +44,7 @@ returnCall a ps vs = ofRecorded (recorded a ps vs (replicate 64 (pos 0)) (replic
 
 unfoldable pub returnsIn : List ℕ → List ℕ → List ℕ → Left
 returnsIn b ps l =
-    pick (both (wholeList 128 ps) (eqb (length l) accountLength))
+    pick (both (wholeList 128 ps) (eqb (length l) (length b)))
     (left (returnCall (accountIn b) (symbolsIn ps) (pricesIn ps)) l)
     (refusing l (tooLong (accountIn b)))
 

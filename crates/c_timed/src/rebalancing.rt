@@ -6,7 +6,6 @@ use crate::made::leave;
 use crate::made::too_long;
 use account::Account;
 use account::Changed;
-use account_bytes::ACCOUNT_BYTES;
 use account_bytes::read_account;
 use fills::ExecutionKind;
 use list_bytes::read_prices;
@@ -69,7 +68,7 @@ pub extern "C" fn direct_rebalance(
     if !p.whole {
         return too_long(a);
     }
-    if after.len() != ACCOUNT_BYTES {
+    if after.len() != account.len() {
         return too_long(a);
     }
     let n = t.count;

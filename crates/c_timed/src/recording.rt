@@ -6,7 +6,6 @@ use crate::made::leave;
 use crate::made::too_long;
 use account::Account;
 use account::Changed;
-use account_bytes::ACCOUNT_BYTES;
 use account_bytes::read_account;
 use list_bytes::read_prices;
 use portfolio::record_return;
@@ -38,7 +37,7 @@ pub extern "C" fn direct_return(account: &[u8], prices: &[u8], times: u64, after
     if !p.whole {
         return too_long(a);
     }
-    if after.len() != ACCOUNT_BYTES {
+    if after.len() != account.len() {
         return too_long(a);
     }
     let m = p.count;
