@@ -3,6 +3,7 @@
 ghost use Prim.Native.Nat.{_≤_};
 use account::Account;
 use account::Counters;
+use account::Rules;
 use account::Series;
 use account::Settings;
 use account::TradeCap;
@@ -48,9 +49,10 @@ fn costs_of(told: &[u8]) -> CostModel {
 // Words 1 to 11, and the rest as it was opened.
 fn settings_of(told: &[u8], opened: Settings) -> Settings {
     let cost_model = costs_of(told);
+    let rules = Rules { cost_model };
     let max_trades_per_rebalance = cap(word_at(told, 8), word_at(told, 9));
     Settings {
-        cost_model,
+        rules,
         quantity_step: number(told, 4),
         min_order_value: number(told, 5),
         max_order_value: number(told, 6),
@@ -156,9 +158,11 @@ fn same_cap(told: &[u8], cap: TradeCap) -> bool {
 
 fn same_settings(told: &[u8], s: Settings) -> bool {
     let cap = s.max_trades_per_rebalance;
-    word_at(told, 1) == pattern(s.cost_model.commission_bps)
-        && word_at(told, 2) == pattern(s.cost_model.slippage_bps)
-        && word_at(told, 3) == unsigned(s.cost_model.min_commission)
+    let rules = s.rules;
+    let costs = rules.cost_model;
+    word_at(told, 1) == pattern(costs.commission_bps)
+        && word_at(told, 2) == pattern(costs.slippage_bps)
+        && word_at(told, 3) == unsigned(costs.min_commission)
         && word_at(told, 4) == unsigned(s.quantity_step)
         && word_at(told, 5) == unsigned(s.min_order_value)
         && word_at(told, 6) == unsigned(s.max_order_value)
