@@ -1,3 +1,3 @@
--- What contracts inside the crate and proofs speak of: no sentence of the paper is said here, and each ends in a definition that says one.
+-- What proofs and the contracts of inner layers speak of, public ones too: no sentence of the paper is said here, and each ends in a definition that says one.
 pub mod Deal
 pub mod Runs

@@ -4,7 +4,6 @@ mod fill;
 mod order;
 mod record;
 
-pub use deal::Deal;
 pub use fill::Filled;
 pub use fill::fill_all;
 pub use fill::fill_one;

@@ -1,9 +1,11 @@
-//! docs/LAYOUT.md's worked examples, held to what the library writes in the run that the document describes.
+//! docs/LAYOUT.md's worked examples, held to what the library writes in the run that the document describes, and the header's places,
+//! held to the table of words that the runs read and write by.
 
 use threshcoil_sys as port;
 use threshcoil_sys::layout;
 
 const LAYOUT: &str = include_str!("../../../docs/LAYOUT.md");
+const HEADER: &str = include_str!("../../../include/threshcoil.h");
 
 fn section(title: &str) -> &'static str {
     let from = LAYOUT.find(&format!("## {title}")).expect("a section of that title");
@@ -80,6 +82,95 @@ fn the_document_has_the_words_of_the_table() {
         let (heading, _) = section(title).split_once('\n').expect("a heading");
         let told: String = heading.chars().filter(|c| *c != ',').collect();
         assert!(told.ends_with(&format!("{} words {size} bytes", size / layout::WORD_SIZE)), "{heading}");
+    }
+}
+
+/// The places and counts of words of one of the header's enums, in its order.
+fn places(name: &str) -> Vec<(&'static str, usize)> {
+    let from = HEADER.find(&format!("enum {name} {{")).unwrap_or_else(|| panic!("an enum {name}"));
+    let body = &HEADER[HEADER[from..].find('{').expect("its names") + from + 1..];
+    let entry = |text: &'static str| {
+        let (name, place) = text.split_once('=')?;
+        Some((name.trim(), place.trim().parse().ok()?))
+    };
+    body[..body.find('}').expect("its end")].split(',').filter_map(entry).collect()
+}
+
+/// The names that a table's rows have in the header, each with its place, and how many words there are.
+fn of_table(table: &[layout::Word], names: &[&'static str], count: &'static str) -> Vec<(&'static str, usize)> {
+    assert_eq!(table.len(), names.len(), "a name for each word before {count}");
+    names.iter().copied().enumerate().map(|(place, name)| (name, place)).chain([(count, table.len())]).collect()
+}
+
+#[test]
+fn the_header_has_the_places_of_the_table() {
+    let settings = [
+        "TC_COMMISSION_AT",
+        "TC_SLIPPAGE_AT",
+        "TC_MIN_COMMISSION_AT",
+        "TC_STEP_AT",
+        "TC_MIN_ORDER_AT",
+        "TC_MAX_ORDER_AT",
+        "TC_BAND_AT",
+        "TC_CAP_MARK_AT",
+        "TC_CAP_COUNT_AT",
+        "TC_MAX_NOTIONAL_AT",
+        "TC_RECORDING_AT",
+        "TC_CASH_FIRST_AT",
+        "TC_CEILING_AT",
+        "TC_COVER_RULE_AT",
+        "TC_LONG_ONLY_AT",
+    ];
+    assert_eq!(places("tc_settings_word"), of_table(layout::SETTINGS, &settings, "TC_SETTINGS_WORDS"));
+    let counters = [
+        "TC_ORDER_COUNT_AT",
+        "TC_LAST_NOTIONAL_AT",
+        "TC_TRIMMED_COUNT_AT",
+        "TC_SHORTFALL_AT",
+        "TC_RECORD_COUNT_AT",
+        "TC_OPEN_COUNT_AT",
+        "TC_CLOSED_TOTAL_AT",
+    ];
+    assert_eq!(places("tc_counters_word"), of_table(layout::COUNTERS, &counters, "TC_COUNTERS_WORDS"));
+    let series = ["TC_EQUITY_COUNT_AT", "TC_RETURN_COUNT_AT", "TC_PREV_EQUITY_AT"];
+    assert_eq!(places("tc_series_word"), of_table(layout::SERIES, &series, "TC_SERIES_WORDS"));
+    use layout::{Column, column};
+    let account = [
+        ("TC_CASH_AT", layout::CASH),
+        ("TC_SETTINGS_AT", layout::SETTINGS_FROM),
+        ("TC_COUNTERS_AT", layout::COUNTERS_FROM),
+        ("TC_SERIES_AT", layout::SERIES_FROM),
+        ("TC_COUNT_AT", layout::POSITIONS),
+        ("TC_SYMBOLS_AT", column(Column::Symbol)),
+        ("TC_QUANTITIES_AT", column(Column::Quantity)),
+        ("TC_AVERAGES_AT", column(Column::Average)),
+        ("TC_REALIZED_AT", column(Column::Realized)),
+        ("TC_TOTALS_AT", column(Column::TotalCost)),
+        ("TC_ACCOUNT_WORDS", layout::ACCOUNT_WORDS),
+    ];
+    assert_eq!(places("tc_account_word"), account);
+}
+
+#[test]
+fn the_header_has_the_sizes_of_the_table() {
+    let sizes = [
+        ("TARGET", layout::ENTRY_SIZE),
+        ("PRICE", layout::ENTRY_SIZE),
+        ("WEIGHT", layout::ENTRY_SIZE),
+        ("RECORD", layout::RECORD_SIZE),
+        ("POSITION", layout::POSITION_SIZE),
+        ("SNAPSHOT", layout::SNAPSHOT_SIZE),
+        ("UNPRICED", layout::ENTRY_SIZE),
+        ("CENTS", layout::WORD_SIZE),
+    ];
+    for (name, size) in sizes {
+        assert!(HEADER.contains(&format!("#define TC_{name}_BYTES {size}\n")), "TC_{name}_BYTES is {size}");
+    }
+    for name in ["ACCOUNT", "SETTINGS", "COUNTERS", "SERIES"] {
+        assert!(
+            HEADER.contains(&format!("#define TC_{name}_BYTES (8 * TC_{name}_WORDS)\n")),
+            "TC_{name}_BYTES by its words"
+        );
     }
 }
 
