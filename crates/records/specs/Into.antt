@@ -10,6 +10,7 @@ use Rattle.fills.specs.declared.record.ExecutionRecord.{ExecutionRecord}
 use Rattle.fills.specs.Records.{allWords, allInts, fronted}
 use Rattle.portfolio.specs.declared.trade.Traded.{Traded}
 use Rattle.portfolio.specs.Rebalance.{Outcome}
+use Rattle.records.specs.declared.into.Filed.{Filed}
 use Rattle.records.specs.declared.into.Numbers.{Numbers}
 
 -- what a call answers, and the run as it leaves it
@@ -28,6 +29,9 @@ handed o found = record { answer = o .answer; account = o .account; records = le
 
 abbrev pub numbersOf : Traded → List ℕ → List ℤ → Numbers
 numbersOf t ws is = record { words = ws; ints = is; count = t .records; traded = t }
+
+abbrev pub filedOf : Numbers → Filed
+filedOf n = record { words = n .words; ints = n .ints; count = n .count }
 
 -- an outcome with its records in number slices, and room for them in a run
 pub record Written (n : Numbers) (o : Outcome) (room : ℕ) : Type 0 where

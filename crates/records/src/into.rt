@@ -5,7 +5,7 @@ ghost use lib.ListN.{length};
 ghost use Rattle.portfolio.specs.Close.{closed};
 ghost use Rattle.portfolio.specs.Rebalance.{rebalanced};
 ghost use Rattle.records.specs.Run.{collected};
-ghost use Rattle.records.specs.Into.{numbersOf, Written, handed, handedBy};
+ghost use Rattle.records.specs.Into.{numbersOf, filedOf, Written, handed, handedBy};
 use crate::run::collect;
 use account::Account;
 use fills::ExecutionKind;
@@ -13,6 +13,13 @@ use fills::ExecutionRecord;
 use portfolio::Traded;
 use portfolio::close_position_at;
 use portfolio::rebalance_simple;
+
+// The records of a call, in number slices of 64 places.
+pub(crate) struct Filed {
+    pub words: [u64; 256],
+    pub ints: [i64; 512],
+    pub count: usize,
+}
 
 // What a call answers, with its records in number slices of 64 places.
 pub(crate) struct Numbers {
@@ -102,14 +109,38 @@ fn rebalance_within(
     in_numbers(traded, words, ints)
 }
 
-// Stores the records of a call into a run.
-fn hand_over<'a>(n: Numbers, out: &'a mut [ExecutionRecord]) -> Traded
-    ensures { λ r. ⌜ (r ≡ n .traded) × (now (out .exit) ≡ collected (n .words) (n .ints) (n .count) (now (out .entry))) ⌝ }
+// The records of a call, without its answer.
+fn filed_of(n: Numbers) -> Filed
+    ensures { λ r. ⌜ r ≡ filedOf n ⌝ }
 {
     let words = n.words;
     let ints = n.ints;
-    collect(&words[..], &ints[..], n.count, out);
+    let count = n.count;
+    Filed { words, ints, count }
+}
+
+// The answer of a call, without its records.
+fn traded_of(n: Numbers) -> Traded
+    ensures { λ r. ⌜ r ≡ n .traded ⌝ }
+{
     n.traded
+}
+
+// Stores the records of a call into a run.
+fn store_filed<'a>(f: Filed, out: &'a mut [ExecutionRecord])
+    ensures { λ _. ⌜ now (out .exit) ≡ collected (f .words) (f .ints) (f .count) (now (out .entry)) ⌝ }
+{
+    let words = f.words;
+    let ints = f.ints;
+    collect(&words[..], &ints[..], f.count, out);
+}
+
+// Stores the records of a call into a run, and answers what the call answers.
+fn hand_over<'a>(n: Numbers, out: &'a mut [ExecutionRecord]) -> Traded
+    ensures { λ r. ⌜ (r ≡ n .traded) × (now (out .exit) ≡ collected (n .words) (n .ints) (n .count) (now (out .entry))) ⌝ }
+{
+    store_filed(filed_of(n), out);
+    traded_of(n)
 }
 
 // `close_position_at` with its records in a lent run of structs.

@@ -85,14 +85,11 @@ module _ {M : Type 1} (𝓤 : URA M) (H : Heap 𝓤) (A : Atoms 𝓤) (mem : Mem
       → ent 𝓤 (ensured 𝓤 H A within.ended (within.clauses 𝓤 H A mem run) tt (p, (c, (z, (d, (k, (room, tt)))))) tt r) (fact 𝓤 (Written r (closed p c z d k room) room))
   within-of p c z d k room r = exE 𝓤 _ (λ ws. snd∗ 𝓤 (sem 𝓤 H A (lasts within.ended tt (p, (c, (z, (d, (k, (room, tt)))))) ws)) (fact 𝓤 (Written r (closed p c z d k room) room)))
 
-module _ {M : Type 1} (𝓤 : URA M) (H : Heap 𝓤) (A : Atoms 𝓤) (W : Given 𝓤 H A) (mem : Memory → SProp 𝓤) (run : Routine → Fun 𝓤) (κ : Lft) (q : Share) (p : Account) (c : ℕ) (z : ℤ) (d : ℕ) (k : ExecutionKind) (b o : ℕ) (γ : GName) (ys : List ExecutionRecord) where
+module _ {M : Type 1} (𝓤 : URA M) (H : Heap 𝓤) (A : Atoms 𝓤) (W : Given 𝓤 H A) (mem : Memory → SProp 𝓤) (run : Routine → Fun 𝓤) (κ : Lft) (q : Share) (p : Account) (pv : Val) (c : ℕ) (z : ℤ) (d : ℕ) (k : ExecutionKind) (b o : ℕ) (γ : GName) (ys : List ExecutionRecord) where
   abbrev x : RefT (List ExecutionRecord)
   x = record { ptr = (b, o); name = γ; now = ys }
 
-  -- the machine values of the account, the price, the kind and the run
-  abbrev pv : Val
-  pv = LL.tuple-val P.the-type P′.the-laws (P.the-type .to p)
-
+  -- the machine values of the price, the kind and the run; the account's is left open, so that no step of the walk holds it
   abbrev zv : Val
   zv = vint w64 (ofZ w64 z)
 
@@ -190,7 +187,7 @@ module _ {M : Type 1} (𝓤 : URA M) (H : Heap 𝓤) (A : Atoms 𝓤) (W : Given
       (λ κs. (LL.vals P.the-type P′.the-laws, (uint-vals w64, (sint-vals w64, (uint-vals w64, (EL.vals K.the-type K′.the-laws, (slice-vals, tt)))))))
       (λ κs. (LL.tells P.the-type P′.the-laws, (uint-tells w64, (sint-tells w64, (uint-tells w64, (EL.tells K.the-type K′.the-laws, (mut-slice-tells (named 0) (κs .0) R.the-row, tt)))))))
       (λ κs qs bounds a g are. via 𝓤 _ (fst∗ 𝓤 _ (emp 𝓤))
-      (walk 𝓤 H A W mem run (κs .0) (qs .0) (a .0) (a .1 .0) (a .1 .1 .0) (a .1 .1 .1 .0) (a .1 .1 .1 .1 .0) (a .1 .1 .1 .1 .1 .0 .ptr .0) (a .1 .1 .1 .1 .1 .0 .ptr .1) (a .1 .1 .1 .1 .1 .0 .name) (a .1 .1 .1 .1 .1 .0 .now)
+      (walk 𝓤 H A W mem run (κs .0) (qs .0) (a .0) (LL.tuple-val P.the-type P′.the-laws (P.the-type .to (a .0))) (a .1 .0) (a .1 .1 .0) (a .1 .1 .1 .0) (a .1 .1 .1 .1 .0) (a .1 .1 .1 .1 .1 .0 .ptr .0) (a .1 .1 .1 .1 .1 .0 .ptr .1) (a .1 .1 .1 .1 .1 .0 .name) (a .1 .1 .1 .1 .1 .0 .now)
       (are .0) (are .1 .0) (are .1 .1 .0) (are .1 .1 .1 .0) (are .1 .1 .1 .1 .0) (are .1 .1 .1 .1 .1 .0 .0 .1) C Λ fm known-within known-over))
 
 close-position-into-meets : {M : Type 1} (𝓤 : URA M) (H : Heap 𝓤) (A : Atoms 𝓤) → Given 𝓤 H A → (mem : Memory → SProp 𝓤) (run : Routine → Fun 𝓤) (𝓣 : Tables 𝓤 H)

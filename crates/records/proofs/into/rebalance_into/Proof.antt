@@ -116,14 +116,11 @@ module _ {M : Type 1} (𝓤 : URA M) (H : Heap 𝓤) (A : Atoms 𝓤) (mem : Mem
       → ent 𝓤 (ensured 𝓤 H A within.ended (within.clauses 𝓤 H A mem run) (κt, (κw, (κs, (κp, tt)))) (gives p ls d k room) tt r) (fact 𝓤 (Written r (outcome p ls d k room) room))
   within-of κt κw κs κp p ls d k room r = exE 𝓤 _ (λ ws. snd∗ 𝓤 (sem 𝓤 H A (lasts within.ended (κt, (κw, (κs, (κp, tt)))) (gives p ls d k room) ws)) (fact 𝓤 (Written r (outcome p ls d k room) room)))
 
-module _ {M : Type 1} (𝓤 : URA M) (H : Heap 𝓤) (A : Atoms 𝓤) (W : Given 𝓤 H A) (mem : Memory → SProp 𝓤) (run : Routine → Fun 𝓤) (κt κw κs κp κ : Lft) (qt qw qs qp q : Share) (p : Account) (ls : Lists) (d : ℕ) (k : ExecutionKind) (b o : ℕ) (γ : GName) (ys : List ExecutionRecord) where
+module _ {M : Type 1} (𝓤 : URA M) (H : Heap 𝓤) (A : Atoms 𝓤) (W : Given 𝓤 H A) (mem : Memory → SProp 𝓤) (run : Routine → Fun 𝓤) (κt κw κs κp κ : Lft) (qt qw qs qp q : Share) (p : Account) (pv : Val) (ls : Lists) (d : ℕ) (k : ExecutionKind) (b o : ℕ) (γ : GName) (ys : List ExecutionRecord) where
   abbrev x : RefT (List ExecutionRecord)
   x = record { ptr = (b, o); name = γ; now = ys }
 
-  -- the machine values of the account, the lists, the kind and the run
-  abbrev pv : Val
-  pv = LL.tuple-val P.the-type P′.the-laws (P.the-type .to p)
-
+  -- the machine values of the lists, the kind and the run; the account's is left open, so that no step of the walk holds it
   abbrev tv : Val
   tv = sliceVal (ls .targets .ptr) (length (ls .targets .now))
 
@@ -284,7 +281,7 @@ module _ {M : Type 1} (𝓤 : URA M) (H : Heap 𝓤) (A : Atoms 𝓤) (W : Given
       ))
       (λ κs qs bounds a g are. let u = a .1 .1 .1 .1 .1 .1 .1 .0 in via 𝓤 _ (fst∗ 𝓤 _ (emp 𝓤))
       (walk 𝓤 H A W mem run (κs .0) (κs .1 .0) (κs .1 .1 .0) (κs .1 .1 .1 .0) (κs .1 .1 .1 .1 .0) (qs .0) (qs .1 .0) (qs .1 .1 .0) (qs .1 .1 .1 .0) (qs .1 .1 .1 .1 .0)
-      (a .0) (record { targets = a .1 .0; weights = a .1 .1 .0; symbols = a .1 .1 .1 .0; prices = a .1 .1 .1 .1 .0 }) (a .1 .1 .1 .1 .1 .0) (a .1 .1 .1 .1 .1 .1 .0) (u .ptr .0) (u .ptr .1) (u .name) (u .now)
+      (a .0) (LL.tuple-val P.the-type P′.the-laws (P.the-type .to (a .0))) (record { targets = a .1 .0; weights = a .1 .1 .0; symbols = a .1 .1 .1 .0; prices = a .1 .1 .1 .1 .0 }) (a .1 .1 .1 .1 .1 .0) (a .1 .1 .1 .1 .1 .1 .0) (u .ptr .0) (u .ptr .1) (u .name) (u .now)
       (are .0) (are .1 .0 .0 .1) (are .1 .1 .0 .0 .1) (are .1 .1 .1 .0 .0 .1) (are .1 .1 .1 .1 .0 .0 .1) (are .1 .1 .1 .1 .1 .0) (are .1 .1 .1 .1 .1 .1 .0) (are .1 .1 .1 .1 .1 .1 .1 .0 .0 .1) C Λ fm known-within known-over))
 
 rebalance-into-meets : {M : Type 1} (𝓤 : URA M) (H : Heap 𝓤) (A : Atoms 𝓤) → Given 𝓤 H A → (mem : Memory → SProp 𝓤) (run : Routine → Fun 𝓤) (𝓣 : Tables 𝓤 H)
