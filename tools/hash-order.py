@@ -4,7 +4,7 @@ The two files (or pipes) have the same scenarios as nanobook played them, over a
 map. The calls of a scenario are read side by side for as long as both plays hold the same account. Each play is held to the
 model of document 01 (tools/model), which here walks the positions in the order in which that play's map has them; so what
 the model did on the way tells why two plays end otherwise. Exit status 1 where a play is not the model's, where a difference
-has no cause that is known, where condition 3 speaks and cash or positions differ, or where scenarios are missing.
+has no cause that is known, where a half of condition 3 speaks and does not hold, or where scenarios are missing.
 """
 import sys
 from collections import Counter
@@ -136,11 +136,21 @@ def whole(ran):
     return all(filled == order.quantity for order, filled in ran)
 
 
+def taken(costs, order):
+    """How much cash an order that fills whole takes, exact; below 0 where it brings some."""
+    price = costs.effective_price(order.price, 1.0 if order.quantity > 0 else -1.0)
+    return model.value(order.quantity, price) + costs.commission(model.notional(order.quantity, price))
+
+
 def raised(costs, order):
     """How much cash an order that fills whole brings."""
-    price = costs.effective_price(order.price, 1.0 if order.quantity > 0 else -1.0)
-    cost = costs.commission(model.notional(order.quantity, price))
-    return max(0, -model.clamp(model.value(order.quantity, price) + cost))
+    return max(0, -model.clamp(taken(costs, order)))
+
+
+def lowers_last(costs, ran):
+    """Whether behind an order that lowers cash stand only such."""
+    lowering = [taken(costs, order) > 0 for order, _ in ran]
+    return lowering == sorted(lowering)
 
 
 def orders_of(ran):
@@ -151,10 +161,22 @@ def cash_in_range(account, ran):
     return account.cash + sum(raised(account.settings.costs, order) for order, _ in ran) <= model.TOP
 
 
-def condition_3(account, runs):
-    """Whether condition 3 says that both runs leave the same: the same orders, each filled whole, and cash in its range."""
+def one_batch(account, runs):
+    """Whether both runs are running orders of one batch as condition 3 asks for it: the same orders, and cash in its range."""
     one, other = runs
-    return orders_of(one) == orders_of(other) and whole(one) and whole(other) and cash_in_range(account, one)
+    return orders_of(one) == orders_of(other) and cash_in_range(account, one)
+
+
+def says_same(account, runs):
+    """Whether condition 3 says that both runs leave the same: the same orders, each filled whole in both, cash in its range."""
+    return all(map(whole, runs)) and one_batch(account, runs)
+
+
+def says_whole(account, runs):
+    """The runs that condition 3 says fill each whole, since the other run does and this one has those that lower cash last."""
+    if not any(map(whole, runs)) or not one_batch(account, runs):
+        return []
+    return [ran for ran, other in (runs, runs[::-1]) if whole(other) and lowers_last(account.settings.costs, ran)]
 
 
 def cause(call, accounts, runs):
@@ -304,20 +326,31 @@ class Count:
         return why
 
     def rebalance(self, name, call, accounts, after, runs):
-        """Condition 3, held to both plays of a rebalance from the same account."""
+        """Condition 3, each half, held to both plays of a rebalance from the same account."""
         one, other = runs
         self.rebalances["read"] += 1
         reordered = [order.symbol for order, _ in one] != [order.symbol for order, _ in other]
         self.rebalances["in another order"] += reordered
         same = after[0].cash == after[1].cash and dict(after[0].held()) == dict(after[1].held())
-        if condition_3(accounts[0], runs):
-            self.rebalances["within condition 3"] += 1
-            self.rebalances["within condition 3, in another order"] += reordered
+        if reordered:
+            self.first_half(name, call, accounts[0], runs)
+        if says_same(accounts[0], runs):
+            self.rebalances["said the same"] += 1
+            self.rebalances["said the same, in another order"] += reordered
             if not same:
-                self.rebalances["within condition 3, other cash or positions"] += 1
-                self.fault(name, call, "condition 3 speaks, and cash or positions differ")
+                self.rebalances["said the same, other cash or positions"] += 1
+                self.fault(name, call, "condition 3 says that both leave the same, and cash or positions differ")
         elif reordered:
-            self.rebalances["outside, in another order, the same left" if same else "outside, in another order, another left"] += 1
+            self.rebalances["others, in another order, the same left" if same else "others, in another order, another left"] += 1
+
+    def first_half(self, name, call, account, runs):
+        """Where one run fills each whole, a run of the same orders that has those that lower cash last does so too."""
+        self.rebalances["whole in one alone"] += one_batch(account, runs) and whole(runs[0]) != whole(runs[1])
+        said = says_whole(account, runs)
+        self.rebalances["said whole"] += len(said) > 0
+        if not all(map(whole, said)):
+            self.rebalances["said whole, and not"] += 1
+            self.fault(name, call, "condition 3 says that each order fills whole, and one does not")
 
     def cut_short(self, name, plays, accounts):
         """The Rust's search would run for ever in one play's next call, not in the other's."""
@@ -343,11 +376,15 @@ class Count:
         for why in CAUSES:
             print(f"{why:<34}{self.otherwise[why]:>10}{self.calls[why]:>10}{self.parted[why]:>20}")
         r = self.rebalances
-        print(f"condition 3: of {r['read']} rebalances from the same account {r['within condition 3']} are within it, "
-              f"{r['within condition 3, in another order']} of them run in another order; "
-              f"{r['within condition 3, other cash or positions']} leave other cash or positions")
-        print(f"outside it, run in another order: {r['outside, in another order, the same left']} leave the same cash and positions, "
-              f"{r['outside, in another order, another left']} do not")
+        print(f"condition 3: of {r['read']} rebalances from the same account {r['said the same']} are such that it says both leave "
+              f"the same, {r['said the same, in another order']} of them run in another order; "
+              f"{r['said the same, other cash or positions']} leave other cash or positions")
+        print(f"  the others, run in another order: {r['others, in another order, the same left']} leave the same cash and positions, "
+              f"{r['others, in another order, another left']} do not")
+        print(f"  run in another order, and such that it says a play fills each whole, since the other does: {r['said whole']}; "
+              f"{r['said whole, and not']} do not")
+        print(f"  filled whole in one play alone, the same orders and cash in its range: {r['whole in one alone']}; "
+              f"{r['said whole, and not']} of them have those that lower cash last in the other")
         for why in CAUSES:
             if why in self.examples:
                 print("\n" + "\n  ".join(self.examples[why][1]))
