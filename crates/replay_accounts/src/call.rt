@@ -20,7 +20,7 @@ use word_bytes::pattern;
 use word_bytes::signed;
 use word_bytes::unsigned;
 
-fn opened(r: Row) -> Changed {
+fn opened(r: Row, equity: &mut [i64]) -> Changed {
     let costs = CostModel {
         commission_bps: float(head(r, 3)),
         slippage_bps: float(head(r, 4)),
@@ -30,8 +30,7 @@ fn opened(r: Row) -> Changed {
         let mut none = [0i64; 0];
         return account::open(signed(head(r, 2)), costs, &mut none[..]);
     }
-    let mut equity = [0i64; 1];
-    account::open(signed(head(r, 2)), costs, &mut equity[..])
+    account::open(signed(head(r, 2)), costs, equity)
 }
 
 fn set(a: Account, number: u64, word: u64, other: u64) -> Changed {
@@ -47,17 +46,22 @@ fn set(a: Account, number: u64, word: u64, other: u64) -> Changed {
     }
 }
 
-fn changed(r: Row, a: Account) -> Changed {
-    let number = head(r, 0);
-    if number == 0 {
-        return opened(r);
-    }
-    set(a, number, head(r, 2), head(r, 3))
+// "Opening writes the cash as the first equity"; refused, it writes nothing.
+fn open(r: Row, told: &[u8]) -> bool {
+    let mut equity = [0i64; 1];
+    let c = opened(r, &mut equity[..]);
+    let first = unsigned(equity[0]);
+    let given = c.answer;
+    same_told(r, answer::number(given), first, 0, 0, 0) && same_account(told, c.account)
 }
 
 // Opening and the setters.
 pub(crate) fn change(r: Row, a: Account, told: &[u8]) -> bool {
-    let c = changed(r, a);
+    let number = head(r, 0);
+    if number == 0 {
+        return open(r, told);
+    }
+    let c = set(a, number, head(r, 2), head(r, 3));
     let given = c.answer;
     same_told(r, answer::number(given), 0, 0, 0, 0) && same_account(told, c.account)
 }
@@ -194,6 +198,73 @@ fn longer_prices(r: Row, a: Account, words: &mut [u64], ints: &mut [i64]) -> Tra
     )
 }
 
+// One target and one price more, of no good symbol.
+fn longer_bad(r: Row, a: Account, words: &mut [u64], ints: &mut [i64]) -> Traded {
+    let targets = [0u64; 65];
+    let weights = [0.0f64; 65];
+    let symbols = [0u64; 129];
+    let prices = [1i64; 129];
+    let period = head(r, 2);
+    let why = kind(head(r, 3));
+    portfolio::rebalance_simple(
+        a,
+        &targets[..],
+        &weights[..],
+        &symbols[..],
+        &prices[..],
+        period,
+        why,
+        words,
+        ints,
+    )
+}
+
+// A weight less than targets.
+fn fewer_weights(r: Row, a: Account, words: &mut [u64], ints: &mut [i64]) -> Traded {
+    let mut targets = [0u64; 2];
+    let weights = [0.0f64; 1];
+    let mut symbols = [0u64; 2];
+    let prices = [1i64; 2];
+    put_symbols(&mut targets[..]);
+    put_symbols(&mut symbols[..]);
+    let period = head(r, 2);
+    let why = kind(head(r, 3));
+    portfolio::rebalance_simple(
+        a,
+        &targets[..],
+        &weights[..],
+        &symbols[..],
+        &prices[..],
+        period,
+        why,
+        words,
+        ints,
+    )
+}
+
+// A price less than symbols.
+fn fewer_prices(r: Row, a: Account, words: &mut [u64], ints: &mut [i64]) -> Traded {
+    let mut targets = [0u64; 1];
+    let weights = [0.0f64; 1];
+    let mut symbols = [0u64; 2];
+    let prices = [1i64; 1];
+    put_symbols(&mut targets[..]);
+    put_symbols(&mut symbols[..]);
+    let period = head(r, 2);
+    let why = kind(head(r, 3));
+    portfolio::rebalance_simple(
+        a,
+        &targets[..],
+        &weights[..],
+        &symbols[..],
+        &prices[..],
+        period,
+        why,
+        words,
+        ints,
+    )
+}
+
 fn traded(r: Row, a: Account, words: &mut [u64], ints: &mut [i64]) -> Traded {
     let number = head(r, 0);
     if number == 10 {
@@ -207,6 +278,15 @@ fn traded(r: Row, a: Account, words: &mut [u64], ints: &mut [i64]) -> Traded {
     }
     if number == 15 {
         return longer_prices(r, a, words, ints);
+    }
+    if number == 16 {
+        return longer_bad(r, a, words, ints);
+    }
+    if number == 17 {
+        return fewer_weights(r, a, words, ints);
+    }
+    if number == 18 {
+        return fewer_prices(r, a, words, ints);
     }
     let price = signed(head(r, 3));
     portfolio::close_position_at(

@@ -189,6 +189,8 @@ fn account(row: &mut Row, v: &View) -> Option<()> {
 fn opening(o: &Opening, opened: &View) -> Option<Row> {
     let mut row = [0; WORDS];
     row[13] = o.equity_places;
+    // "Opening writes the cash as the first equity".
+    row[9] = o.cash as u64;
     put(
         &mut row,
         2,
@@ -233,6 +235,9 @@ fn sample() -> Option<Vec<u8>> {
         kept.push(rows(&scenario, &oracle::play(&scenario)?));
     }
     kept.push(refusals::refusals()?);
+    for scenario in points::ranks() {
+        kept.push(rows(&scenario, &oracle::play(&scenario)?));
+    }
     Some(kept.iter().flatten().flatten().flat_map(|word| word.to_le_bytes()).collect())
 }
 

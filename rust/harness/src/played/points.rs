@@ -183,6 +183,17 @@ fn caps(k: i64) -> Vec<Scenario> {
     ]
 }
 
+/// Of two orders over the order maximum the one of the larger drift is drawn, though cut it is the smaller: 9,999 at a price of 300.
+pub fn ranks() -> Vec<Scenario> {
+    let settings = [MaxOrderValue(10_000), MaxTrades(Some(1))].map(set);
+    let at = [(b'A', 100), (b'B', 300)];
+    let of = |k: i64| {
+        let both = rebalance(&[(b'A', 0.2), (b'B', 0.3)], &at);
+        by_hand(100_000 * k, 0, settings.iter().cloned().chain([both]).collect())
+    };
+    (1..=3).map(of).collect()
+}
+
 fn fills(k: i64) -> Vec<Scenario> {
     let floor = |min_commission| Costs { min_commission, ..FREE };
     vec![

@@ -1,7 +1,7 @@
 //! Calls that document 01's table refuses, by hand, since the Rust refuses nothing: each on an account as the Rust left it, with the
 //! number that the table gives it and the same account after it. Beside them calls at the bounds, which are done.
 
-use super::points::{FREE, close, opened, prices, rebalance, set, symbol};
+use super::points::{FREE, close, opened, prices, rebalance, recorded, set, symbol};
 use super::{COUNT, Row, SCALARS_FROM, account, asked, rows};
 use scenario::{Costs, Held, Scenario, Setting::*, Step, Symbol, View};
 
@@ -10,10 +10,14 @@ use scenario::{Costs, Held, Scenario, Setting::*, Step, Symbol, View};
 const LONG: u64 = 13;
 const LONGER_TARGETS: u64 = 14;
 const LONGER_PRICES: u64 = 15;
+/// The longer lists of no good symbol; a weight less than targets, and a price less than symbols.
+const LONGER_BAD: u64 = 16;
+const FEWER_WEIGHTS: u64 = 17;
+const FEWER_PRICES: u64 = 18;
 const STATE: u64 = 30;
 
 pub fn refusals() -> Option<Vec<Row>> {
-    (1..=3).map(of_account).collect::<Option<Vec<_>>>().map(|each| each.concat())
+    (1..=3).map(of_account).chain((1..=3).map(asked_first)).collect::<Option<Vec<_>>>().map(|each| each.concat())
 }
 
 /// The Rust's rows of a scenario, and the account that they end with.
@@ -37,12 +41,17 @@ fn refused(step: &Step, answer: u64, view: &View) -> Row {
     row
 }
 
-fn of_account(k: i64) -> Option<Vec<Row>> {
+/// An account with a long, a short and a flat position, which records.
+fn three_held(k: i64) -> Option<(Vec<Row>, View)> {
     let held = [set(Recording(true)), rebalance(&[(b'A', 0.5), (b'B', -0.1), (b'C', 0.1)], &AT), close(b'C', 100)];
-    let (mut all, view) = played(&opened(1_000_000 * k, FREE, held.to_vec()))?;
+    played(&opened(1_000_000 * k, FREE, held.to_vec()))
+}
+
+fn of_account(k: i64) -> Option<Vec<Row>> {
+    let (mut all, view) = three_held(k)?;
     all.extend(listed(k).iter().map(|(answer, step)| refused(step, *answer, &view)));
     all.push(row(LONG, 8, 63, &view));
-    all.extend(unsound(k, &view));
+    all.extend(unsound(k, &view, &[Step::TotalEquity(prices(&AT))]));
     all.extend(at_bounds(k)?);
     all.extend(openings(k)?);
     Some(all)
@@ -51,14 +60,20 @@ fn of_account(k: i64) -> Option<Vec<Row>> {
 const AT: [(u8, i64); 3] = [(b'A', 100), (b'B', 100), (b'C', 100)];
 const NAN: f64 = f64::NAN;
 
-fn listed(k: i64) -> Vec<(u64, Step)> {
-    let bad =
-        [b" \0\0\0\0\0\0\0", b"A\x7f\0\0\0\0\0\0", b"\0\0\0\0\0\0\0\0", b"A\0B\0\0\0\0\0"].map(|bytes| Symbol(*bytes));
-    let places = |step: Step, room: u64| match step {
+fn bad_symbols() -> [Symbol; 4] {
+    [b" \0\0\0\0\0\0\0", b"A\x7f\0\0\0\0\0\0", b"\0\0\0\0\0\0\0\0", b"A\0B\0\0\0\0\0"].map(|bytes| Symbol(*bytes))
+}
+
+/// A call that is lent so many places of records.
+fn places(step: Step, room: u64) -> Step {
+    match step {
         Step::Rebalance { targets, prices, context, .. } => Step::Rebalance { targets, prices, context, places: room },
         Step::Close { symbol, price, context, .. } => Step::Close { symbol, price, context, places: room },
         other => other,
-    };
+    }
+}
+
+fn listed(k: i64) -> Vec<(u64, Step)> {
     let named = |s: Symbol, in_targets: bool| {
         let Step::Rebalance { mut targets, mut prices, context, places } = rebalance(&[(b'A', 0.1)], &AT) else {
             unreachable!("a rebalance")
@@ -99,16 +114,44 @@ fn listed(k: i64) -> Vec<(u64, Step)> {
         (4, close(b'D', 0)),
         (8, places(close(b'D', 100), 0)),
     ];
-    for s in bad {
+    for s in bad_symbols() {
         let twice = Step::TotalEquity(vec![(s, k), (s, k)]);
         calls.extend([(2, named(s, true)), (2, named(s, false)), (2, Step::Position(s)), (2, twice)]);
     }
     calls
 }
 
-/// Accounts that are not sound, each asked for its equity.
-fn unsound(k: i64, view: &View) -> Vec<Row> {
-    let asked = Step::TotalEquity(prices(&AT));
+/// What is asked before what else: closes, returns and setters as `listed` has rebalances, and whether the account is sound before all of it.
+fn asked_first(k: i64) -> Option<Vec<Row>> {
+    let (_, view) = three_held(k)?;
+    let mut calls = vec![
+        (4, places(close(b'A', 0), 0)),
+        (4, places(close(b'A', -k), 0)),
+        (4, Step::RecordReturn { prices: prices(&[(b'A', 0)]), equity_places: 1, return_places: 100 }),
+    ];
+    for symbol in bad_symbols() {
+        for price in [100, 0] {
+            let Step::Close { context, places, .. } = close(b'A', price) else { unreachable!("a close") };
+            calls.push((2, Step::Close { symbol, price, context, places }));
+        }
+    }
+    let mut all = vec![row(STATE, 0, 0, &view)];
+    all.extend(calls.iter().map(|(answer, step)| refused(step, *answer, &view)));
+    all.extend([LONGER_BAD, FEWER_WEIGHTS, FEWER_PRICES].map(|call| row(call, 6, 64, &view)));
+    let any = [
+        rebalance(&[(b'A', 0.1)], &AT),
+        close(b'A', 100),
+        recorded(&AT),
+        set(QuantityStep(0)),
+        set(MinOrderValue(k)),
+        Step::Position(symbol(b'A')),
+    ];
+    all.extend(unsound(k, &view, &any));
+    Some(all)
+}
+
+/// Accounts that are not sound, each asked for the calls.
+fn unsound(k: i64, view: &View, calls: &[Step]) -> Vec<Row> {
     let position = |change: fn(&mut Held, i64)| {
         let mut spoiled = view.clone();
         change(&mut spoiled.positions[0], k);
@@ -129,9 +172,12 @@ fn unsound(k: i64, view: &View) -> Vec<Row> {
         position(|p, k| p.total_cost -= k),
         position(|p, _| p.avg_entry_price = -1),
     ];
-    let mut all: Vec<Row> = views.iter().flat_map(|v| [row(STATE, 0, 0, v), refused(&asked, 11, v)]).collect();
+    let told = |v: &View| -> Vec<Row> {
+        std::iter::once(row(STATE, 0, 0, v)).chain(calls.iter().map(|step| refused(step, 11, v))).collect()
+    };
+    let mut all: Vec<Row> = views.iter().flat_map(told).collect();
     // A place past the last position that is not zero.
-    let mut unused = [row(STATE, 0, 0, view), refused(&asked, 11, view)];
+    let mut unused = told(view);
     for row in &mut unused {
         row[SCALARS_FROM + COUNT] -= 1;
         let last = SCALARS_FROM + COUNT + 1 + 5 * (view.positions.len() - 1);
