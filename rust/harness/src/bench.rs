@@ -149,9 +149,7 @@ impl Ours {
                     + direct_rebalance(first, &self.target_bytes[1], prices, HALF, second)
             }
             Call::Return => direct_return(found, prices, 2 * HALF, first),
-            Call::Snapshot => {
-                direct_snapshot(found, prices, 2 * HALF, &mut first[..32], &mut second[..WEIGHTS_SIZE])
-            }
+            Call::Snapshot => direct_snapshot(found, prices, 2 * HALF, &mut first[..32], &mut second[..WEIGHTS_SIZE]),
         };
         assert_eq!(answers, 0);
         after
