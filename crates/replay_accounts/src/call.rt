@@ -130,6 +130,30 @@ fn put_symbols(column: &mut [u64]) {
     }
 }
 
+// A rebalance to these lists, with the row's period and kind.
+fn at_lists<'a>(
+    r: Row,
+    a: Account,
+    targets: &'a [u64],
+    weights: &'a [f64],
+    symbols: &'a [u64],
+    prices: &'a [i64],
+    words: &mut [u64],
+    ints: &mut [i64],
+) -> Traded {
+    portfolio::rebalance_simple(
+        a,
+        targets,
+        weights,
+        symbols,
+        prices,
+        head(r, 2),
+        kind(head(r, 3)),
+        words,
+        ints,
+    )
+}
+
 // Targets of weight 0 and prices of 1, as many as lists may have.
 fn long_lists(r: Row, a: Account, words: &mut [u64], ints: &mut [i64]) -> Traded {
     let mut targets = [0u64; 64];
@@ -138,16 +162,13 @@ fn long_lists(r: Row, a: Account, words: &mut [u64], ints: &mut [i64]) -> Traded
     let prices = [1i64; 128];
     put_symbols(&mut targets[..]);
     put_symbols(&mut symbols[..]);
-    let period = head(r, 2);
-    let why = kind(head(r, 3));
-    portfolio::rebalance_simple(
+    at_lists(
+        r,
         a,
         &targets[..],
         &weights[..],
         &symbols[..],
         &prices[..],
-        period,
-        why,
         words,
         ints,
     )
@@ -161,16 +182,13 @@ fn longer_targets(r: Row, a: Account, words: &mut [u64], ints: &mut [i64]) -> Tr
     let prices = [1i64; 128];
     put_symbols(&mut targets[..]);
     put_symbols(&mut symbols[..]);
-    let period = head(r, 2);
-    let why = kind(head(r, 3));
-    portfolio::rebalance_simple(
+    at_lists(
+        r,
         a,
         &targets[..],
         &weights[..],
         &symbols[..],
         &prices[..],
-        period,
-        why,
         words,
         ints,
     )
@@ -183,16 +201,13 @@ fn longer_prices(r: Row, a: Account, words: &mut [u64], ints: &mut [i64]) -> Tra
     let prices = [1i64; 129];
     put_symbols(&mut targets[..]);
     put_symbols(&mut symbols[..]);
-    let period = head(r, 2);
-    let why = kind(head(r, 3));
-    portfolio::rebalance_simple(
+    at_lists(
+        r,
         a,
         &targets[..],
         &weights[..],
         &symbols[..],
         &prices[..],
-        period,
-        why,
         words,
         ints,
     )
@@ -204,16 +219,13 @@ fn longer_bad(r: Row, a: Account, words: &mut [u64], ints: &mut [i64]) -> Traded
     let weights = [0.0f64; 65];
     let symbols = [0u64; 129];
     let prices = [1i64; 129];
-    let period = head(r, 2);
-    let why = kind(head(r, 3));
-    portfolio::rebalance_simple(
+    at_lists(
+        r,
         a,
         &targets[..],
         &weights[..],
         &symbols[..],
         &prices[..],
-        period,
-        why,
         words,
         ints,
     )
@@ -227,16 +239,13 @@ fn fewer_weights(r: Row, a: Account, words: &mut [u64], ints: &mut [i64]) -> Tra
     let prices = [1i64; 2];
     put_symbols(&mut targets[..]);
     put_symbols(&mut symbols[..]);
-    let period = head(r, 2);
-    let why = kind(head(r, 3));
-    portfolio::rebalance_simple(
+    at_lists(
+        r,
         a,
         &targets[..],
         &weights[..],
         &symbols[..],
         &prices[..],
-        period,
-        why,
         words,
         ints,
     )
@@ -250,16 +259,13 @@ fn fewer_prices(r: Row, a: Account, words: &mut [u64], ints: &mut [i64]) -> Trad
     let prices = [1i64; 1];
     put_symbols(&mut targets[..]);
     put_symbols(&mut symbols[..]);
-    let period = head(r, 2);
-    let why = kind(head(r, 3));
-    portfolio::rebalance_simple(
+    at_lists(
+        r,
         a,
         &targets[..],
         &weights[..],
         &symbols[..],
         &prices[..],
-        period,
-        why,
         words,
         ints,
     )
