@@ -50,5 +50,5 @@ pub extern "C" fn tc_effective_price(
     ensures { λ r. ⌜ r ≡ effective (model «commission_bps» «slippage_bps» «min_commission») (isPositive quantity) price ⌝ }
 {
     let costs = costs_of(commission_bps, slippage_bps, min_commission);
-    costs.effective_price(Shares(quantity), price)
+    costs.effective_price(Shares::from_raw(quantity), price)
 }

@@ -22,7 +22,7 @@ fn position_of(symbol: u64, quantity: i64, average: i64, realized: i64, total: i
 {
     Position {
         symbol: Symbol(symbol),
-        quantity: Shares(quantity),
+        quantity: Shares::from_raw(quantity),
         avg_entry_price: average,
         realized_pnl: realized,
         total_cost: total,
@@ -79,7 +79,7 @@ fn put(numbers: &mut [i64], p: Position)
     ensures { λ r. ⌜ now (numbers .exit) ≡ numbersOf p ⌝ }
 {
     let quantity = p.quantity;
-    let held = quantity.0;
+    let held = quantity.raw();
     let average = p.avg_entry_price;
     let realized = p.realized_pnl;
     let total = p.total_cost;
@@ -98,14 +98,8 @@ pub extern "C" fn tc_apply_fill(symbol: u64, numbers: &mut [i64], quantity: i64,
     if numbers.len() != 4 {
         return answer::number(answer::Answer::Unsound);
     }
-    let position = Position {
-        symbol: Symbol(symbol),
-        quantity: Shares(numbers[0]),
-        avg_entry_price: numbers[1],
-        realized_pnl: numbers[2],
-        total_cost: numbers[3],
-    };
-    let filled = position.apply_fill(Shares(quantity), price);
+    let position = position_of(symbol, numbers[0], numbers[1], numbers[2], numbers[3]);
+    let filled = position.apply_fill(Shares::from_raw(quantity), price);
     let after = filled.position;
     put(numbers, after);
     let given = filled.answer;

@@ -9,39 +9,35 @@ use position::Shares;
 pub extern "C" fn tc_shares_add(a: i64, b: i64) -> i64
     ensures { λ r. ⌜ r ≡ satAdd a b ⌝ }
 {
-    let sum = Shares(a).add(Shares(b));
-    sum.0
+    Shares::from_raw(a).add(Shares::from_raw(b)).raw()
 }
 
 #[no_mangle]
 pub extern "C" fn tc_shares_sub(a: i64, b: i64) -> i64
     ensures { λ r. ⌜ r ≡ satSub a b ⌝ }
 {
-    let difference = Shares(a).sub(Shares(b));
-    difference.0
+    Shares::from_raw(a).sub(Shares::from_raw(b)).raw()
 }
 
 #[no_mangle]
 pub extern "C" fn tc_shares_neg(a: i64) -> i64
     ensures { λ r. ⌜ r ≡ satNeg a ⌝ }
 {
-    let opposite = Shares(a).neg();
-    opposite.0
+    Shares::from_raw(a).neg().raw()
 }
 
 #[no_mangle]
 pub extern "C" fn tc_shares_abs(a: i64) -> i64
     ensures { λ r. ⌜ r ≡ satAbs a ⌝ }
 {
-    let size = Shares(a).abs();
-    size.0
+    Shares::from_raw(a).abs().raw()
 }
 
 #[no_mangle]
 pub extern "C" fn tc_shares_unsigned_abs(a: i64) -> u64
     ensures { λ r. ⌜ r ≡ natAbs a ⌝ }
 {
-    Shares(a).unsigned_abs()
+    Shares::from_raw(a).unsigned_abs()
 }
 
 // "`from_whole` saturates here": the Rust's wraps.
@@ -49,20 +45,19 @@ pub extern "C" fn tc_shares_unsigned_abs(a: i64) -> u64
 pub extern "C" fn tc_shares_from_whole(n: i64) -> i64
     ensures { λ r. ⌜ r ≡ fromWhole n ⌝ }
 {
-    let shares = Shares::from_whole(n);
-    shares.0
+    Shares::from_whole(n).raw()
 }
 
 #[no_mangle]
 pub extern "C" fn tc_shares_whole(a: i64) -> i64
     ensures { λ r. ⌜ r ≡ wholeShares a ⌝ }
 {
-    Shares(a).whole()
+    Shares::from_raw(a).whole()
 }
 
 #[no_mangle]
 pub extern "C" fn tc_shares_to_f64(a: i64) -> f64
     ensures { λ r. ⌜ r ≡ toF64 a ⌝ }
 {
-    Shares(a).to_f64()
+    Shares::from_raw(a).to_f64()
 }

@@ -11,7 +11,7 @@ use position::Shares;
 pub extern "C" fn tc_notional_of(quantity: i64, price: i64) -> i64
     ensures { λ r. ⌜ r ≡ notional quantity price ⌝ }
 {
-    sizing::notional_of(Shares(quantity), price)
+    sizing::notional_of(Shares::from_raw(quantity), price)
 }
 
 // "the gap becomes shares, truncated, snapped toward zero to the step, then clamped"
@@ -19,8 +19,7 @@ pub extern "C" fn tc_notional_of(quantity: i64, price: i64) -> i64
 pub extern "C" fn tc_size_qty(gap: i64, price: i64, step: i64) -> i64
     ensures { λ r. ⌜ r ≡ sized gap price step ⌝ }
 {
-    let sized = sizing::size_qty(gap, price, step);
-    sized.0
+    sizing::size_qty(gap, price, step).raw()
 }
 
 // "the quantity keeps its sign and becomes maximum × SCALE / price, truncated and snapped to the step"
@@ -33,8 +32,7 @@ pub extern "C" fn tc_truncate_qty_to_max_value(
 ) -> i64
     ensures { λ r. ⌜ r ≡ cutTo quantity price step «max_value» ⌝ }
 {
-    let cut = sizing::truncate_qty_to_max_value(Shares(quantity), price, step, max_value);
-    cut.0
+    sizing::truncate_qty_to_max_value(Shares::from_raw(quantity), price, step, max_value).raw()
 }
 
 // "Drift is (absolute value / equity) × 10,000, divided first."
@@ -57,7 +55,7 @@ pub extern "C" fn tc_buy_cash_required(
     ensures { λ r. ⌜ r ≡ need (model «commission_bps» «slippage_bps» «min_commission») quantity price ⌝ }
 {
     let costs = costs_of(commission_bps, slippage_bps, min_commission);
-    sizing::buy_cash_required(Shares(quantity), price, costs)
+    sizing::buy_cash_required(Shares::from_raw(quantity), price, costs)
 }
 
 // "the largest step multiple, not above the request, whose need fits cash (a zero fill needs 0); at cash 0 it is nothing"
@@ -74,6 +72,5 @@ pub extern "C" fn tc_largest_affordable_buy_qty(
     ensures { λ r. ⌜ r ≡ affordable (model «commission_bps» «slippage_bps» «min_commission») step cash requested price ⌝ }
 {
     let costs = costs_of(commission_bps, slippage_bps, min_commission);
-    let fill = sizing::largest_affordable_buy_qty(Shares(requested), cash, step, price, costs);
-    fill.0
+    sizing::largest_affordable_buy_qty(Shares::from_raw(requested), cash, step, price, costs).raw()
 }

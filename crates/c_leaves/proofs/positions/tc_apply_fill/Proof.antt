@@ -23,17 +23,23 @@ returns c =
     let no = ne-eqb (length (c .before .before .args .numbers .now)) 4 (c .before .if1 .taken) in
     (c .number .ensures ∙ simp no, simp no)
 
-slice-copy-out-t14 : tie.Need-slice-copy-out-t14
-slice-copy-out-t14 c = search needs
+slice-copy-out-position-of : tie.Need-slice-copy-out-position-of
+slice-copy-out-position-of c = search needs
 
-slice-copy-out-t17 : tie.Need-slice-copy-out-t17
-slice-copy-out-t17 c = search needs
+slice-copy-out-position-of-2 : tie.Need-slice-copy-out-position-of-2
+slice-copy-out-position-of-2 c = search needs
 
-slice-copy-out-t19 : tie.Need-slice-copy-out-t19
-slice-copy-out-t19 c = search needs
+slice-copy-out-position-of-3 : tie.Need-slice-copy-out-position-of-3
+slice-copy-out-position-of-3 c = search needs
 
-slice-copy-out-t21 : tie.Need-slice-copy-out-t21
-slice-copy-out-t21 c = search needs
+slice-copy-out-position-of-4 : tie.Need-slice-copy-out-position-of-4
+slice-copy-out-position-of-4 c = search needs
+
+position-of-requires : tie.Need-position-of-requires
+position-of-requires c κs = search needs
+
+from-raw-requires : tie.Need-from-raw-requires
+from-raw-requires c κs = search needs
 
 apply-fill-requires : tie.Need-apply-fill-requires
 apply-fill-requires c κs = search needs
@@ -51,15 +57,16 @@ returns-2 : tie.Need-returns-2
 unfolding answerToFill afterFill
 returns-2 c =
     let r = c .before .before .before .before .before in
-    let e = r .before .before .before .before .before in
+    let p = r .before .before in
+    let e = p .before .before .before .before .before in
     let s = e .before in
     let yes = eq-eqb (length (s .args .numbers .now)) 4 (e .if1 .left) in
     let ns = s .args .numbers .now in
-    let held : SFits w64 (getD ns 0 (pos 0)) = record { sfits = r .before .before .before .before .t14 .given } in
-    let average : SFits w64 (getD ns 1 (pos 0)) = record { sfits = r .before .before .before .t17 .given } in
-    let realized : SFits w64 (getD ns 2 (pos 0)) = record { sfits = r .before .before .t19 .given } in
-    let total : SFits w64 (getD ns 3 (pos 0)) = record { sfits = r .before .t21 .given } in
-    let f : r .apply-fill .result ≡ applyFill (positionOf (s .args .symbol) ns) (s .args .quantity) (s .args .price) = simp (toZ-ofZ held, toZ-ofZ average, toZ-ofZ realized, toZ-ofZ total, toZ-ofZ (s .fits .quantity), toZ-ofZ (s .fits .price)) at (r .apply-fill .ensures) in
+    let held : SFits w64 (getD ns 0 (pos 0)) = record { sfits = p .before .before .before .before .position-of-arg .given } in
+    let average : SFits w64 (getD ns 1 (pos 0)) = record { sfits = p .before .before .before .position-of-arg2 .given } in
+    let realized : SFits w64 (getD ns 2 (pos 0)) = record { sfits = p .before .before .position-of-arg3 .given } in
+    let total : SFits w64 (getD ns 3 (pos 0)) = record { sfits = p .before .position-of-arg4 .given } in
+    let f : r .apply-fill .result ≡ applyFill (positionOf (s .args .symbol) ns) (s .args .quantity) (s .args .price) = simp (p .position-of .ensures, r .before .from-raw .ensures, toZ-ofZ held, toZ-ofZ average, toZ-ofZ realized, toZ-ofZ total, toZ-ofZ (s .fits .quantity), toZ-ofZ (s .fits .price)) at (r .apply-fill .ensures) in
     (c .number2 .ensures ∙ ap (λ (x : Filled). numberOf (x .answer)) f ∙ simp yes, c .before .before .put .ensures ∙ ap (λ (x : Filled). numbersOf (x .position)) f ∙ simp yes)
 
 pub tc-apply-fill-spec : {M : Type 1} → statement M
@@ -68,10 +75,12 @@ tc-apply-fill-spec =
     (tie.spec
     number-requires
     returns
-    slice-copy-out-t14
-    slice-copy-out-t17
-    slice-copy-out-t19
-    slice-copy-out-t21
+    slice-copy-out-position-of
+    slice-copy-out-position-of-2
+    slice-copy-out-position-of-3
+    slice-copy-out-position-of-4
+    position-of-requires
+    from-raw-requires
     apply-fill-requires
     put-requires
     number-requires-2

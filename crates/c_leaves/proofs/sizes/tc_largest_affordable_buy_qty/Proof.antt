@@ -7,11 +7,20 @@ use Rattle.c_leaves.proofs.sizes.tc_largest_affordable_buy_qty.Tie as t
 costs-of-requires : tie.Need-costs-of-requires
 costs-of-requires c κs = tt
 
+from-raw-requires : tie.Need-from-raw-requires
+from-raw-requires c κs = tt
+
 largest-affordable-buy-qty-requires : tie.Need-largest-affordable-buy-qty-requires
 largest-affordable-buy-qty-requires c κs = tt
 
+raw-requires : tie.Need-raw-requires
+raw-requires c κs = tt
+
 returns : tie.Need-returns
-returns c = toZ-ofZ (record { sfits = c .struct-told .given .0 .1 }) ∙ c .before .largest-affordable-buy-qty .ensures ∙ simp (c .before .before .costs-of .ensures, toZ-ofZ (c .before .before .before .fits .min-commission), toZ-ofZ (c .before .before .before .fits .requested), toZ-ofZ (c .before .before .before .fits .cash), toZ-ofZ (c .before .before .before .fits .step), toZ-ofZ (c .before .before .before .fits .price))
+returns c =
+    let q = c .before .before in
+    let s = q .before .before in
+    toZ-ofZ (record { sfits = c .raw .ok }) ∙ c .raw .ensures ∙ simp (c .before .largest-affordable-buy-qty .ensures, q .from-raw .ensures, q .before .costs-of .ensures, toZ-ofZ (s .fits .min-commission), toZ-ofZ (s .fits .requested), toZ-ofZ (s .fits .cash), toZ-ofZ (s .fits .step), toZ-ofZ (s .fits .price))
 
 pub tc-largest-affordable-buy-qty-spec : {M : Type 1} → statement M
-tc-largest-affordable-buy-qty-spec = tie.close (tie.spec costs-of-requires largest-affordable-buy-qty-requires returns)
+tc-largest-affordable-buy-qty-spec = tie.close (tie.spec costs-of-requires from-raw-requires largest-affordable-buy-qty-requires raw-requires returns)

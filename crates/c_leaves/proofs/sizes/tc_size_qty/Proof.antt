@@ -7,8 +7,13 @@ use Rattle.c_leaves.proofs.sizes.tc_size_qty.Tie as tie
 size-qty-requires : tie.Need-size-qty-requires
 size-qty-requires c κs = tt
 
+raw-requires : tie.Need-raw-requires
+raw-requires c κs = tt
+
 returns : tie.Need-returns
-returns c = toZ-ofZ (record { sfits = c .struct-told .given .0 .1 }) ∙ c .before .size-qty .ensures ∙ simp (toZ-ofZ (c .before .before .fits .gap), toZ-ofZ (c .before .before .fits .price), toZ-ofZ (c .before .before .fits .step))
+returns c =
+    let s = c .before .before in
+    toZ-ofZ (record { sfits = c .raw .ok }) ∙ c .raw .ensures ∙ simp (c .before .size-qty .ensures, toZ-ofZ (s .fits .gap), toZ-ofZ (s .fits .price), toZ-ofZ (s .fits .step))
 
 pub tc-size-qty-spec : {M : Type 1} → statement M
-tc-size-qty-spec = tie.close (tie.spec size-qty-requires returns)
+tc-size-qty-spec = tie.close (tie.spec size-qty-requires raw-requires returns)

@@ -4,11 +4,19 @@ use mir.Facts.{toZ-ofZ}
 use Rattle.c_leaves.proofs.sizes.tc_truncate_qty_to_max_value.Statement.{statement}
 use Rattle.c_leaves.proofs.sizes.tc_truncate_qty_to_max_value.Tie as tie
 
+from-raw-requires : tie.Need-from-raw-requires
+from-raw-requires c κs = tt
+
 truncate-qty-to-max-value-requires : tie.Need-truncate-qty-to-max-value-requires
 truncate-qty-to-max-value-requires c κs = tt
 
+raw-requires : tie.Need-raw-requires
+raw-requires c κs = tt
+
 returns : tie.Need-returns
-returns c = toZ-ofZ (record { sfits = c .struct-told .given .0 .1 }) ∙ c .before .truncate-qty-to-max-value .ensures ∙ simp (toZ-ofZ (c .before .before .fits .quantity), toZ-ofZ (c .before .before .fits .price), toZ-ofZ (c .before .before .fits .step), toZ-ofZ (c .before .before .fits .max-value))
+returns c =
+    let s = c .before .before .before in
+    toZ-ofZ (record { sfits = c .raw .ok }) ∙ c .raw .ensures ∙ simp (c .before .truncate-qty-to-max-value .ensures, c .before .before .from-raw .ensures, toZ-ofZ (s .fits .quantity), toZ-ofZ (s .fits .price), toZ-ofZ (s .fits .step), toZ-ofZ (s .fits .max-value))
 
 pub tc-truncate-qty-to-max-value-spec : {M : Type 1} → statement M
-tc-truncate-qty-to-max-value-spec = tie.close (tie.spec truncate-qty-to-max-value-requires returns)
+tc-truncate-qty-to-max-value-spec = tie.close (tie.spec from-raw-requires truncate-qty-to-max-value-requires raw-requires returns)
