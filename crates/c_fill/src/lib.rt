@@ -119,7 +119,7 @@ fn position_in(symbol: u64, money: &[i64]) -> Position
     let total = money[5];
     Position {
         symbol: Symbol(symbol),
-        quantity: Shares(held),
+        quantity: Shares::from_raw(held),
         avg_entry_price: average,
         realized_pnl: realized,
         total_cost: total,
@@ -224,7 +224,7 @@ fn fill_alone(a: Ask, b: Book, p: Position) -> Seen
     let t = terms_of(a);
     let o = Order {
         symbol: Symbol(a.symbol),
-        quantity: Shares(a.quantity),
+        quantity: Shares::from_raw(a.quantity),
         price: a.price,
     };
     let filled = fills::fill_one(
@@ -249,7 +249,7 @@ fn put_money(money: &mut [i64], b: Book, p: Position)
 {
     let cash = b.cash;
     let shortfall = b.shortfall;
-    let held = p.quantity.0;
+    let held = p.quantity.raw();
     let average = p.avg_entry_price;
     let realized = p.realized_pnl;
     let total = p.total_cost;

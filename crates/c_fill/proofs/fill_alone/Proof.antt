@@ -23,8 +23,11 @@ quantity-fits s = search needs
 price-fits : (s : tie.Start) → SFits w64 (s .args .a .price)
 price-fits s = search needs
 
+abbrev sized : tie.After-fill-one → tie.After-from-raw
+sized c = c .before .before .before .before .before .before .before .before .before
+
 abbrev entered : tie.After-fill-one → tie.After-enter
-entered c = c .before .before .before .before .before .before .before .before .before .before .before
+entered c = sized c .before .before .before
 
 abbrev began : tie.After-fill-one → tie.Start
 began c = entered c .before .before .before .before .before .before
@@ -42,14 +45,18 @@ fills : (c : tie.After-fill-one) → let e = entered c in let x = began c .args 
     → Fills (termsOf (x .a)) (orderOf (x .a)) (withCount (e .enter .result) (x .b)) (columns e) (c .fill-one .result) (columns-after c)
 fills c =
     let s = began c in
-    let t = c .before .before .before .before .before .before .before .before .before .before in
-    simp (toZ-ofZ (cash-fits s), toZ-ofZ (shortfall-fits s), toZ-ofZ (quantity-fits s), toZ-ofZ (price-fits s), t .terms-of .ensures) at (c .fill-one .ensures)
+    let q = sized c in
+    let t = q .before .before in
+    simp (toZ-ofZ (cash-fits s), toZ-ofZ (shortfall-fits s), toZ-ofZ (quantity-fits s), toZ-ofZ (price-fits s), q .from-raw .ensures, t .terms-of .ensures) at (c .fill-one .ensures)
 
 enter-requires : tie.Need-enter-requires
 enter-requires c κs = search needs
 
 terms-of-requires : tie.Need-terms-of-requires
 terms-of-requires c κs = search needs
+
+from-raw-requires : tie.Need-from-raw-requires
+from-raw-requires c κs = search needs
 
 fill-one-requires : tie.Need-fill-one-requires
 fill-one-requires c κs = search needs
@@ -80,6 +87,7 @@ fill-alone-spec =
     (tie.spec
     enter-requires
     terms-of-requires
+    from-raw-requires
     fill-one-requires
     slice-aggregate-find
     find-requires
