@@ -89,7 +89,7 @@ fn held_words(h: Held) -> [u64; 6]
     [
         flag_word(h.present),
         text_of(p.symbol.0),
-        unsigned(p.quantity.0),
+        unsigned(p.quantity.raw()),
         unsigned(p.avg_entry_price),
         unsigned(p.realized_pnl),
         unsigned(p.total_cost),

@@ -2,13 +2,10 @@
 use mir.Val.{SFits}
 use mir.Syntax.{w64}
 use borrow.Author.Needs.{needs}
-use Rattle.position.specs.Rows.{held, avg, realized, total}
+use Rattle.position.specs.Rows.{avg, realized, total}
 use Rattle.account_bytes.proofs.Runs.{stored}
 use Rattle.c_accounts.proofs.query.held_words.Statement.{statement}
 use Rattle.c_accounts.proofs.query.held_words.Tie as tie
-
-quantity-fits : (s : tie.Start) → SFits w64 (held (s .args .h .position))
-quantity-fits s = search needs
 
 average-fits : (s : tie.Start) → SFits w64 (avg (s .args .h .position))
 average-fits s = search needs
@@ -25,6 +22,9 @@ flag-word-requires c κs = search needs
 text-of-requires : tie.Need-text-of-requires
 text-of-requires c κs = search needs
 
+raw-requires : tie.Need-raw-requires
+raw-requires c κs = search needs
+
 unsigned-requires : tie.Need-unsigned-requires
 unsigned-requires c κs = search needs
 
@@ -39,12 +39,15 @@ unsigned-requires-4 c κs = search needs
 
 returns : tie.Need-returns
 returns c =
-    let t = c .before .before .before .before .before .before .before .before in
+    let u = c .before .before .before .before .before .before in
+    let q = u .before in
+    let t = q .before in
     let s = t .before .before .before in
     simp (
       t .before .flag-word .ensures,
       t .text-of .ensures,
-      stored (quantity-fits s) (c .before .before .before .before .before .before .unsigned .ensures),
+      stored {z = q .raw .result} (record { sfits = q .raw .ok }) (u .unsigned .ensures),
+      q .raw .ensures,
       stored (average-fits s) (c .before .before .before .before .unsigned2 .ensures),
       stored (realized-fits s) (c .before .before .unsigned3 .ensures),
       stored (total-fits s) (c .unsigned4 .ensures),
@@ -56,6 +59,7 @@ held-words-spec =
     (tie.spec
     flag-word-requires
     text-of-requires
+    raw-requires
     unsigned-requires
     unsigned-requires-2
     unsigned-requires-3
