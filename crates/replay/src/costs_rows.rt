@@ -4,8 +4,8 @@ use crate::row::float;
 use crate::row::int;
 use crate::row::same_bool;
 use crate::row::same_int;
+use crate::row::shares;
 use cost_model::CostModel;
-use position::Shares;
 
 pub(crate) fn costs_of(commission_bps: u64, slippage_bps: u64, min_commission: u64) -> CostModel {
     CostModel {
@@ -21,7 +21,7 @@ pub(crate) fn agrees(r: Row) -> bool {
     match leaf {
         41 => same_bool(costs.is_good(), r.answer),
         42 => same_int(costs.compute_cost(int(r.d)), r.answer),
-        43 => same_int(costs.effective_price(Shares(int(r.d)), int(r.e)), r.answer),
+        43 => same_int(costs.effective_price(shares(r.d), int(r.e)), r.answer),
         _ => false,
     }
 }

@@ -3,14 +3,14 @@ use crate::row::Row;
 use crate::row::int;
 use crate::row::same_bool;
 use crate::row::same_int;
+use crate::row::shares;
 use position::Position;
-use position::Shares;
 use position::Symbol;
 
 fn position_of(r: Row) -> Position {
     Position {
         symbol: Symbol(r.a),
-        quantity: Shares(int(r.b)),
+        quantity: shares(r.b),
         avg_entry_price: int(r.c),
         realized_pnl: int(r.d),
         total_cost: int(r.e),
@@ -19,7 +19,7 @@ fn position_of(r: Row) -> Position {
 
 fn fill_agrees(r: Row) -> bool {
     let leaf = r.leaf;
-    let filled = position_of(r).apply_fill(Shares(int(r.f)), int(r.g));
+    let filled = position_of(r).apply_fill(shares(r.f), int(r.g));
     let given = filled.answer;
     let after = filled.position;
     let quantity = after.quantity;

@@ -1,5 +1,6 @@
 // A row of the sample, nine words of eight bytes with the lowest byte first, and what a word stands for.
 ghost use Prim.Native.Nat.{_+_, _≤_};
+use position::Shares;
 
 pub struct Row {
     pub leaf: u64,
@@ -49,6 +50,10 @@ pub(crate) fn int(w: u64) -> i64 {
     } else {
         !((!w) as i64)
     }
+}
+
+pub(crate) fn shares(w: u64) -> Shares {
+    Shares::from_raw(int(w))
 }
 
 // The double of a pattern; each NaN's pattern is the one NaN.

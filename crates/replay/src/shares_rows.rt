@@ -1,14 +1,14 @@
 // The leaves on share counts.
 use crate::row::Row;
-use crate::row::int;
 use crate::row::same_float;
 use crate::row::same_int;
+use crate::row::shares;
 use position::Shares;
 
 pub(crate) fn agrees(r: Row) -> bool {
     let leaf = r.leaf;
-    let a = Shares(int(r.a));
-    let b = Shares(int(r.b));
+    let a = shares(r.a);
+    let b = shares(r.b);
     match leaf {
         1 => same_int(a.add(b).raw(), r.answer),
         2 => same_int(a.sub(b).raw(), r.answer),
