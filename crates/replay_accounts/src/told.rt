@@ -24,7 +24,7 @@ fn position(r: Row, a: Account) -> bool {
     same_told(
         r,
         answer::number(given),
-        unsigned(quantity.0),
+        unsigned(quantity.raw()),
         unsigned(p.avg_entry_price),
         unsigned(p.realized_pnl),
         unsigned(p.total_cost),
