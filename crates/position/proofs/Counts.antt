@@ -1,10 +1,9 @@
 -- Laws of share counts.
-use Prim.Native.Nat.{ℕ, zero, suc, _-_, _*_, _/_, _^_}
+use Prim.Native.Nat.{ℕ, zero, suc, _-_, _*_, _^_}
 use mathlib.Core.Path.{_≡_, refl, sym, ap}
 use mathlib.Core.Bool.{true, false}
 use native.Mathlib.Omega.{arith}
-use native.Mathlib.Nat.{div-le-self}
-use lib.IntN.{ℤ, pos, negsuc, _*ℤ_, negℤ}
+use lib.IntN.{ℤ, pos, negsuc, _*ℤ_}
 use lib.Signed.{ltZ, leZ}
 use lib.Dec.{eqb}
 use borrow.Author.Tests.{eqb-true, ne-eqb}
@@ -12,7 +11,7 @@ use mir.Syntax.{w64}
 use mir.Val.{SFits, ofZ}
 use Rattle.sums.specs.Sums.{SCALE}
 use Rattle.sums.proofs.Ints.{P, N, P-neg, N-neg, fits-of, lt-yes, lt-no, le-is, gt-is, clamp-top, clamp-low, clamp-same}
-use Rattle.position.specs.Shares.{fromWhole, wholeShares, isZero}
+use Rattle.position.specs.Shares.{fromWhole, isZero}
 
 -- ---- zero
 pub zero-bits : (z : ℤ) → SFits w64 z → eqb (ofZ w64 z) 0 ≡ isZero z
@@ -59,8 +58,3 @@ module _ (n : ℤ) (fits : SFits w64 n) where
   pub from-whole-same : SFits w64 (n *ℤ pos SCALE) → n *ℤ pos SCALE ≡ fromWhole n
   unfolding fromWhole
   from-whole-same f = sym (clamp-same (n *ℤ pos SCALE) f)
-
-pub whole-fits : (n : ℤ) → SFits w64 n → SFits w64 (wholeShares n)
-unfolding wholeShares P N
-whole-fits (pos n) f = record { sfits = omega (arith, f .sfits, div-le-self n SCALE) }
-whole-fits (negsuc n) f = fits-of (negℤ (pos (suc n / SCALE))) (omega (arith, P-neg (pos (suc n / SCALE)))) (omega (arith, N-neg (pos (suc n / SCALE)), f .sfits))

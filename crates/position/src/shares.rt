@@ -58,7 +58,7 @@ impl Shares {
     pub fn whole(self) -> i64
         ensures { λ r. ⌜ r ≡ wholeShares (self .0) ⌝ }
     {
-        self.0 / Shares::SCALE
+        sums::whole(self.0)
     }
 
     pub fn is_zero(self) -> bool

@@ -1,8 +1,8 @@
 // Sums on 64-bit words: document 01, 'Sums'. Every public function is total and says by one equation what it answers.
 ghost use mathlib.Core.Path.{_≡_};
 ghost use Prim.Native.Nat.{_+_, _*_, _/_, _^_, _≤_, _<_, min};
-ghost use lib.IntN.{natAbs};
-ghost use lib.Signed.{nonNeg};
+ghost use lib.IntN.{pos, natAbs};
+ghost use lib.Signed.{nonNeg, quotZ};
 ghost use mathlib.Core.Bool.{xor};
 ghost use Rattle.sums.specs.Sums.{clamp64, satAdd, satSub, satNeg, satAbs, value, notional, priceAt, signed, snap, SCALE};
 ghost use Rattle.sums.specs.Wide.{valueOf, wide};
@@ -248,6 +248,13 @@ pub fn magnitude(quantity: i64, price: i64) -> i64
     ensures { λ r. ⌜ r ≡ notional quantity price ⌝ }
 {
     clamped(false, scaled(unsigned_abs(quantity), unsigned_abs(price)))
+}
+
+// The whole units in n millionths, truncated toward zero.
+pub fn whole(n: i64) -> i64
+    ensures { λ r. ⌜ r ≡ quotZ n (pos SCALE) ⌝ }
+{
+    n / 1_000_000
 }
 
 // The price at which the quantity has this value, truncated toward zero and clamped; 0 for quantity 0.
