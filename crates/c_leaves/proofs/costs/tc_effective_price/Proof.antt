@@ -16,7 +16,7 @@ effective-price-requires c κs = tt
 returns : tie.Need-returns
 returns c =
     let s = c .before .before .before in
-    toZ-ofZ (record { sfits = c .effective-price .ok }) ∙ c .effective-price .ensures ∙ rw (c .before .from-raw .ensures, c .before .before .costs-of .ensures, toZ-ofZ (s .fits .min-commission), toZ-ofZ (s .fits .quantity), toZ-ofZ (s .fits .price))
+    toZ-ofZ (record { sfits = c .effective-price .ok }) ∙ c .effective-price .ensures ∙ simp (c .before .from-raw .ensures, c .before .before .costs-of .ensures, toZ-ofZ (s .fits .min-commission), toZ-ofZ (s .fits .quantity), toZ-ofZ (s .fits .price))
 
 pub tc-effective-price-spec : {M : Type 1} → statement M
 tc-effective-price-spec = tie.close (tie.spec costs-of-requires from-raw-requires effective-price-requires returns)
