@@ -15,6 +15,8 @@ use mir.Val.{SFits}
 use Rattle.sums.specs.Sums.{notional}
 use Rattle.sums.proofs.Ints.{P-sub, fits-of, one-sided, lt-no, P-fits, N-fits}
 use Rattle.sums.proofs.Laws.{N-notional}
+use Rattle.position.specs.declared.shares.Shares.{Shares}
+use Rattle.position.specs.Rows.{shares}
 use Rattle.position.proofs.Counts.{not-lt-ge}
 use Rattle.table.specs.Keyed.{pick}
 use Rattle.table.specs.Places.{shorter}
@@ -37,7 +39,7 @@ use Rattle.admission.proofs.Laying.{taken, front-is, front-set}
 module _ (s : Settings) (n : ℕ) (left : ℤ) (o : PlannedOrder) (os : List PlannedOrder) where
   abbrev pub follows : Offered → List PlannedOrder
   follows (Whole rest) = o ∷ admittedFrom s (n + 1) rest os
-  follows (Part cut) = planned (o .symbol .0) cut (o .price) (o .«drift_bps») ∷ []
+  follows (Part cut) = planned (o .symbol .0) (cut .0) (o .price) (o .«drift_bps») ∷ []
   follows Ends = []
 
   last-follows : lastAdmitted s left o ≡ follows (partOffered s left (o .quantity .0) (o .price))
@@ -50,7 +52,7 @@ module _ (s : Settings) (n : ℕ) (left : ℤ) (o : PlannedOrder) (os : List Pla
       kept : PlannedOrder
       kept = planned (o .symbol .0) cut (o .price) (o .«drift_bps»)
 
-      go : (z b : Bool) → pick z [] (pick b [] (kept ∷ [])) ≡ follows (pick z Ends (pick b Ends (Part cut)))
+      go : (z b : Bool) → pick z [] (pick b [] (kept ∷ [])) ≡ follows (pick z Ends (pick b Ends (Part (shares cut))))
       go true b = refl
       go false true = refl
       go false false = refl
@@ -94,7 +96,7 @@ module _ (s : Settings) (left q p cut : ℤ) (e : cut ≡ cutTo q p (s .«quanti
   unfolding partOffered
   part-small z h = rw (← e) (rw (z, h))
 
-  pub part-kept : isZero cut ≡ false → ltZ (notional cut p) (s .«min_order_value») ≡ false → Part cut ≡ partOffered s left q p
+  pub part-kept : isZero cut ≡ false → ltZ (notional cut p) (s .«min_order_value») ≡ false → Part (shares cut) ≡ partOffered s left q p
   unfolding partOffered
   part-kept z h = rw (← e) (rw (z, h))
 
@@ -147,7 +149,7 @@ module _ (s : Settings) (n m i : ℕ) (left : ℤ) (f : ℕ → PlannedOrder) (a
   pub admit-ends : offered s i left (f i .quantity .0) (f i .price) ≡ Ends → from f 0 i ≡ all
   admit-ends e = sym (append-nil _) ∙ next Ends e
 
-  pub admit-part : (cut : ℤ) → offered s i left (f i .quantity .0) (f i .price) ≡ Part cut → from f 0 i ++ (planned (f i .symbol .0) cut (f i .price) (f i .«drift_bps») ∷ []) ≡ all
+  pub admit-part : (cut : Shares) → offered s i left (f i .quantity .0) (f i .price) ≡ Part cut → from f 0 i ++ (planned (f i .symbol .0) (cut .0) (f i .price) (f i .«drift_bps») ∷ []) ≡ all
   admit-part cut e = next (Part cut) e
 
 pub admit-start : (s : Settings) (n m : ℕ) (c : Cols) → m ≡ shorter n 64 → from (orderAt c) 0 0 ++ admittedFrom s 0 (s .«max_rebalance_notional») (from (orderAt c) 0 (m - 0)) ≡ admitted s (plans n c)
@@ -198,7 +200,7 @@ module _ (s : Settings) {A : Type 0} (f : PlannedOrder → A) (kept : (o : Plann
     where
       go : (r : Offered) → ((rest : ℤ) → map f (admittedFrom s (n + 1) rest l) ≡ take (length (admittedFrom s (n + 1) rest l)) (map f l)) → map f (follows s n left o l r) ≡ take (length (follows s n left o l r)) (map f (o ∷ l))
       go (Whole rest) h = ap (λ t. f o ∷ t) (h rest)
-      go (Part cut) h = ap (λ y. y ∷ []) (kept o cut)
+      go (Part cut) h = ap (λ y. y ∷ []) (kept o (cut .0))
       go Ends h = refl
 
   kept-admitted : (l : List PlannedOrder) → map f (admitted s l) ≡ take (length (admitted s l)) (map f l)

@@ -5,6 +5,7 @@ use lib.ListN.{length, drop}
 use lib.IntN.{ℤ, pos, _-ℤ_}
 use lib.Signed.{ltZ, leZ}
 use Rattle.sums.specs.Sums.{notional}
+use Rattle.position.specs.Rows.{shares}
 use Rattle.table.specs.Keyed.{pick}
 use Rattle.table.specs.Rows.{isZero}
 use Rattle.sizing.specs.Sizing.{cutTo}
@@ -18,7 +19,7 @@ use Rattle.admission.specs.Columns.{cols, plans, Counted, counted}
 unfoldable pub partOffered : Settings → ℤ → ℤ → ℤ → Offered
 partOffered s left quantity price =
     let cut = cutTo quantity price (s .«quantity_step») left in
-    pick (isZero cut) Ends (pick (ltZ (notional cut price) (s .«min_order_value»)) Ends (Part cut))
+    pick (isZero cut) Ends (pick (ltZ (notional cut price) (s .«min_order_value»)) Ends (Part (shares cut)))
 
 -- the order after n admitted ones, with `left` of the notional cap
 unfoldable pub offered : Settings → ℕ → ℤ → ℤ → ℤ → Offered

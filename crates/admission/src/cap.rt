@@ -17,7 +17,7 @@ pub(crate) enum Offered {
     // Admitted whole, with what remains of the notional cap.
     Whole(i64),
     // Cut to what remains: the last order.
-    Part(i64),
+    Part(Shares),
     // Not admitted, nor any after it.
     Ends,
 }
@@ -59,13 +59,13 @@ fn offer_part(s: Settings, left: i64, quantity: Shares, price: i64) -> Offered
     ensures { λ r. ⌜ r ≡ partOffered s left (quantity .0) price ⌝ }
 {
     let cut = sizing::truncate_qty_to_max_value(quantity, price, s.quantity_step, left);
-    if cut.0 == 0 {
+    if cut.is_zero() {
         return Offered::Ends;
     }
     if sizing::notional_of(cut, price) < s.min_order_value {
         return Offered::Ends;
     }
-    Offered::Part(cut.0)
+    Offered::Part(cut)
 }
 
 // The order after n admitted ones, with left of the notional cap.
@@ -102,13 +102,13 @@ pub fn admit(quantity: &mut [i64; 64], price: &[i64; 64], n: usize, s: Settings)
     while i < m {
         let q = quantity[i];
         let p = price[i];
-        let o = offer(s, i, left, Shares(q), p);
+        let o = offer(s, i, left, Shares::from_raw(q), p);
         match o {
             Offered::Whole(rest) => {
                 left = rest;
             }
             Offered::Part(cut) => {
-                quantity[i] = cut;
+                quantity[i] = cut.raw();
                 return i + 1;
             }
             Offered::Ends => {

@@ -39,7 +39,7 @@ fn dealt(t: Terms, quantity: Shares, price: i64, cash: i64, trimmed: bool, lost:
 {
     let notional = sizing::notional_of(quantity, price);
     let cost = t.costs.compute_cost(notional);
-    let taken = sums::saturating_add(sums::value(quantity.0, price), cost);
+    let taken = sums::saturating_add(sums::value(quantity.raw(), price), cost);
     let cash_after = sums::saturating_sub(cash, taken);
     Deal {
         quantity,

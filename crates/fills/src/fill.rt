@@ -147,7 +147,7 @@ fn order_at(os: &[u64; 64], oq: &[i64; 64], op: &[i64; 64], k: usize) -> Order
     let p = op[k];
     Order {
         symbol: Symbol(s),
-        quantity: Shares(q),
+        quantity: Shares::from_raw(q),
         price: p,
     }
 }

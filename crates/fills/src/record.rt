@@ -105,7 +105,7 @@ fn store_ints(ints: &mut [i64], at: usize, r: ExecutionRecord)
     ensures { λ u. ⌜ now (ints .exit) ≡ sets (now (ints .entry)) (at * 8) (intsOf r) ⌝ }
 {
     let i = at * 8;
-    let q = r.quantity.0;
+    let q = r.quantity.raw();
     let p = r.price;
     let rp = r.reference_price;
     let n = r.notional;

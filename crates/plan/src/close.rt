@@ -60,7 +60,7 @@ pub fn plan_closes<'a>(
         if !is_target(k, targets, i) {
             let q = quote(symbols, prices, k, hint);
             hint = q.next;
-            let o = planned_close(s, equity, Symbol(k), Shares(h), q.price, false);
+            let o = planned_close(s, equity, Symbol(k), Shares::from_raw(h), q.price, false);
             count = add_order(symbol, quantity, price, drift, count, o, capped);
         }
         count = used(count, most);

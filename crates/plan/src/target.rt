@@ -76,7 +76,7 @@ pub fn plan_targets<'a>(
         let q = quote(symbols, prices, k, hint);
         hint = q.next;
         let h = quantity_of(key, held, n, k, i);
-        let o = planned_target(s, equity, Symbol(k), Shares(h), q.price, w);
+        let o = planned_target(s, equity, Symbol(k), Shares::from_raw(h), q.price, w);
         count = add_order(symbol, quantity, price, drift, count, o, capped);
         count = used(count, most);
         i += 1;

@@ -62,7 +62,7 @@ pub fn close_on(
     }
     let p = holding_of(symbol, quantity, average, realized, total, h.count, s);
     let q = p.quantity.neg();
-    let shares = q.0;
+    let shares = q.raw();
     let mut os = [0u64; 64];
     let mut oq = [0i64; 64];
     let mut op = [0i64; 64];

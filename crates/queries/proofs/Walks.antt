@@ -1,19 +1,18 @@
 -- A walk over positions: what each is for the sums, the count and the search, and the prices beside them.
-use Prim.Native.Nat.{ℕ, zero, suc, _+_, _≤_, _<_}
+use Prim.Native.Nat.{ℕ, _+_, _≤_, _<_}
 use mathlib.Core.Path.{_≡_, refl, sym, ap, _∙_}
 use mathlib.Core.Bool.{Bool, true, false}
 use mathlib.Core.List.{List, _∷_}
 use mathlib.Core.Option.{none, some}
 use native.Mathlib.Omega.{arith}
-use borrow.Author.Tests.{ne-eqb, ltb-true, ltb-false}
+use borrow.Author.Tests.{ltb-true, ltb-false}
 use lib.Dec.{ltb}
 use lib.ListN.{length, drop, getD, set}
 use lib.Seq.{getD-set-same, getD-set-other}
-use lib.IntN.{ℤ, pos, negsuc}
+use lib.IntN.{ℤ, pos}
 use Rattle.sums.specs.Sums.{satAdd, value}
 use Rattle.position.specs.declared.position.Position.{Position}
 use Rattle.position.specs.Rows.{fresh, keyOf}
-use Rattle.position.specs.Shares.{isZero as isZeroShares}
 use Rattle.table.specs.Keyed.{pick}
 use Rattle.table.specs.Rows.{Cols, isZero, rows, Ordered}
 use Rattle.call_lists.proofs.Lists.{from-place, from-end}
@@ -21,12 +20,6 @@ use Rattle.account.proofs.Columns.{rows-length, row-of}
 use Rattle.wanted.specs.Equity.{worth, worthFrom}
 use Rattle.queries.specs.Queries.{openOnes, unpriced, firstUnpriced, profitFrom}
 use Rattle.queries.specs.Places.{PricesOf, Priced}
-
-pub zero-same : (x : ℤ) → isZeroShares x ≡ isZero x
-unfolding isZeroShares
-zero-same (pos zero) = refl
-zero-same (pos (suc n)) = ne-eqb (suc n) 0 (λ e. omega arith)
-zero-same (negsuc n) = refl
 
 -- ---- the position at place i, and those after it
 module _ (ps : List Position) (i : ℕ) (h : i < length ps) where

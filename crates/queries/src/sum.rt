@@ -42,7 +42,7 @@ pub(crate) fn summed<'a>(
     let mut i = 0usize;
     while i < n {
         let p = held(symbol, quantity, average, realized, total, Found::At(i), 0);
-        let v = sums::value(p.quantity.0, price[i]);
+        let v = sums::value(p.quantity.raw(), price[i]);
         worth = sums::saturating_add(worth, v);
         profit = sums::saturating_add(profit, p.realized_pnl);
         open_count += open_one(p.quantity);

@@ -26,7 +26,7 @@ fn add_weight(
         return n;
     }
     let key = p.symbol.0;
-    let v = sums::value(p.quantity.0, price);
+    let v = sums::value(p.quantity.raw(), price);
     symbol[n] = key;
     weight[n] = doubles::i64_to_f64(v) / equity;
     n + 1

@@ -24,7 +24,7 @@ fn above(x: i64) -> u64
 pub fn notional_of(quantity: Shares, price: i64) -> i64
     ensures { λ r. ⌜ r ≡ notional (quantity .0) price ⌝ }
 {
-    sums::magnitude(quantity.0, price)
+    sums::magnitude(quantity.raw(), price)
 }
 
 // n over the price, snapped to the step, by one division: by the price of a step, which takes one word.
@@ -68,7 +68,7 @@ pub fn truncate_qty_to_max_value(quantity: Shares, price: i64, step: i64, max_va
 {
     let snapped = shares_for(above(max_value), sums::unsigned_abs(price), above(step));
     let most = sums::clamped(false, snapped);
-    if quantity.0 < 0 {
+    if quantity.is_negative() {
         return Shares::from_raw(0 - most);
     }
     Shares::from_raw(most)
@@ -85,7 +85,7 @@ pub fn drift_bps_of(value: i64, equity: i64) -> f64
 pub fn buy_cash_required(quantity: Shares, price: i64, costs: CostModel) -> i64
     ensures { λ r. ⌜ r ≡ need costs (quantity .0) price ⌝ }
 {
-    if quantity.0 <= 0 {
+    if quantity.raw() <= 0 {
         return 0;
     }
     if price <= 0 {
@@ -168,7 +168,7 @@ fn affordable_steps(most: u64, cash: i64, step: u64, price: i64, costs: CostMode
     while lo < hi {
         let mid = probe(lo, hi, hint);
         hint = after(mid, over);
-        if buy_cash_required(Shares((mid * step) as i64), price, costs) <= cash {
+        if buy_cash_required(Shares::from_raw((mid * step) as i64), price, costs) <= cash {
             lo = mid;
         } else {
             hi = mid - 1;
@@ -199,6 +199,6 @@ pub fn largest_affordable_buy_qty(
     if unit == 0 {
         return Shares::ZERO;
     }
-    let count = affordable_steps(above(requested.0) / unit, cash, unit, price, costs);
+    let count = affordable_steps(above(requested.raw()) / unit, cash, unit, price, costs);
     Shares::from_raw((count * unit) as i64)
 }

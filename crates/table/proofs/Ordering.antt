@@ -13,6 +13,7 @@ use mir.Syntax.{w64}
 use mir.Val.{SFits, ofZ}
 use borrow.Author.Tests.{eqb-true, leb-true, le-leb, ne-eqb}
 use Rattle.position.specs.Rows.{row, fresh, keyOf}
+use Rattle.position.specs.Shares.{isZero as isZeroShares}
 use Rattle.position.specs.declared.position.Position.{Position}
 use Rattle.table.specs.Keyed.{both, all, ascending}
 use Rattle.table.specs.Rows.{Cols, zipped, rowAt, Full, Ordered, isZero, zeros, zerosZ, unused, ordered}
@@ -50,6 +51,13 @@ pub zero-bits : (x : ℤ) → SFits w64 x → eqb (ofZ w64 x) 0 ≡ isZero x
 zero-bits (pos zero) f = refl
 zero-bits (pos (suc n)) f = ne-eqb (suc n) 0 (λ e. omega (arith, e))
 zero-bits (negsuc n) f = ne-eqb (ofZ w64 (negsuc n)) 0 (λ e. omega (arith, e, f .sfits))
+
+-- the test of a share count is the same
+pub zero-same : (x : ℤ) → isZeroShares x ≡ isZero x
+unfolding isZeroShares
+zero-same (pos zero) = refl
+zero-same (pos (suc n)) = ne-eqb (suc n) 0 (λ e. omega arith)
+zero-same (negsuc n) = refl
 
 pub is-zero : (x : ℤ) → isZero x ≡ true → x ≡ pos 0
 is-zero (pos zero) e = refl

@@ -61,7 +61,7 @@ pub fn held<'a>(
             let t = total[i];
             return Position {
                 symbol: Symbol(k),
-                quantity: Shares(q),
+                quantity: Shares::from_raw(q),
                 avg_entry_price: a,
                 realized_pnl: g,
                 total_cost: t,
@@ -86,7 +86,7 @@ fn replace(
         ≡ setAll i p (cols (now (symbol .entry)) (now (quantity .entry)) (now (average .entry)) (now (realized .entry)) (now (total .entry))) ⌝ }
 {
     let s = p.symbol.0;
-    let q = p.quantity.0;
+    let q = p.quantity.raw();
     let a = p.avg_entry_price;
     let g = p.realized_pnl;
     let t = p.total_cost;
@@ -113,7 +113,7 @@ fn insert(
         ≡ openAll i (n - i) p (cols (now (symbol .entry)) (now (quantity .entry)) (now (average .entry)) (now (realized .entry)) (now (total .entry))) ⌝ }
 {
     open_symbol(symbol, i, n, p.symbol.0);
-    open_number(quantity, i, n, p.quantity.0);
+    open_number(quantity, i, n, p.quantity.raw());
     open_number(average, i, n, p.avg_entry_price);
     open_number(realized, i, n, p.realized_pnl);
     open_number(total, i, n, p.total_cost);

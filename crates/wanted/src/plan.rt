@@ -72,7 +72,7 @@ pub fn planned_close(
     if price < 1 {
         return passed_over(symbol);
     }
-    let drift = drift_bps_of(sums::value(quantity.0, price), equity);
+    let drift = drift_bps_of(sums::value(quantity.raw(), price), equity);
     ordered(s, symbol, quantity.neg(), price, drift)
 }
 
@@ -81,7 +81,7 @@ fn gap_of(equity: i64, held: Shares, price: i64, weight: f64) -> i64
     ensures { λ r. ⌜ r ≡ gapOf equity (held .0) price weight ⌝ }
 {
     let target = doubles::to_i64(doubles::i64_to_f64(equity) * weight);
-    sums::saturating_sub(target, sums::value(held.0, price))
+    sums::saturating_sub(target, sums::value(held.raw(), price))
 }
 
 // "the gap becomes shares"; "an unpriced one is passed over". Within the band the gap need not become shares, so the band is tested here before

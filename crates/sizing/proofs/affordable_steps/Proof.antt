@@ -58,11 +58,14 @@ module _ (c : tie.After-after Inv-loop μ-loop) where
       let s = c .before .before .before .before .before in
       part-small (s .args .step) (s .args .most) (s .pre .0) (s .pre .1) _ (omega arith)
 
-mul-t13 : tie.Need-mul-t13 Inv-loop μ-loop
-mul-t13 c = record { fits = omega (arith, steps-small c) }
+mul-from-raw : tie.Need-mul-from-raw Inv-loop μ-loop
+mul-from-raw c = record { fits = omega (arith, steps-small c) }
 
-cast-t14 : tie.Need-cast-t14 Inv-loop μ-loop
-cast-t14 c = record { sfits = steps-small c }
+cast-from-raw : tie.Need-cast-from-raw Inv-loop μ-loop
+cast-from-raw c = record { sfits = steps-small c }
+
+from-raw-requires : tie.Need-from-raw-requires Inv-loop μ-loop
+from-raw-requires c κs = search needs
 
 buy-cash-required-requires : tie.Need-buy-cash-required-requires Inv-loop μ-loop
 buy-cash-required-requires c κs = search needs
@@ -73,13 +76,13 @@ loop-less c = omega arith
 loop-again : tie.Need-loop-again Inv-loop μ-loop
 unfolding fits
 loop-again c =
-    let i = c .before .before .before .before .before .loop .inv in
+    let i = c .before .before .before .before .before .before .loop .inv in
     let n = c .before .buy-cash-required in
-    let d = c .before .before in
+    let d = c .before .before .before in
     record {
       ends = omega arith;
       within = i .within;
-      low = inr (rw (read-back (n .result) (n .ok), n .ensures, read-back (pos _) (steps-small d)) at (c .if1 .taken));
+      low = inr (rw (read-back (n .result) (n .ok), n .ensures, c .before .before .from-raw .ensures, read-back (pos _) (steps-small d)) at (c .if1 .taken));
       high = i .high;
     }
 
@@ -92,11 +95,11 @@ loop-less-2 c = omega arith
 loop-again-2 : tie.Need-loop-again-2 Inv-loop μ-loop
 unfolding fits
 loop-again-2 c =
-    let i = c .before .before .before .before .before .loop .inv in
+    let i = c .before .before .before .before .before .before .loop .inv in
     let n = c .before .buy-cash-required in
-    let d = c .before .before in
+    let d = c .before .before .before in
     let m = d .before .probe .result in
-    let s = c .before .before .before .before .before .before .before in
+    let s = d .before .before .before .before .before in
     let a = s .args in
     let p = fits (a .costs) (a .step) (toZ w64 (ofZ w64 (a .cash))) (toZ w64 (ofZ w64 (a .price))) in
     let falls = fits-falls (a .costs) (s .pre .2) (a .step) (toZ w64 (ofZ w64 (a .cash))) (toZ w64 (ofZ w64 (a .price))) in
@@ -106,7 +109,7 @@ loop-again-2 c =
       low = i .low;
       high =
           end-moves p falls _ m (omega arith) (omega arith)
-          (rw (read-back (n .result) (n .ok), n .ensures, read-back (pos _) (steps-small d)) at (c .if1 .left))
+          (rw (read-back (n .result) (n .ok), n .ensures, c .before .before .from-raw .ensures, read-back (pos _) (steps-small d)) at (c .if1 .left))
           ∙ i .high;
     }
 
@@ -127,8 +130,9 @@ affordable-steps-spec =
     loop-holds
     probe-requires
     after-requires
-    mul-t13
-    cast-t14
+    mul-from-raw
+    cast-from-raw
+    from-raw-requires
     buy-cash-required-requires
     loop-less
     loop-again

@@ -1,6 +1,6 @@
 -- The request in whole steps bounds the search, and so many steps are no more than the request.
 use Prim.Native.Nat.{_*_, _/_, _≤_, _<_, _^_}
-use mathlib.Core.Path.{_≡_, sym, _∙_}
+use mathlib.Core.Path.{_≡_, sym, subst, _∙_}
 use mathlib.Core.Bool.{true, false}
 use mathlib.Core.Logic.{⊎-elim}
 use native.Mathlib.Omega.{arith}
@@ -10,6 +10,7 @@ use borrow.Author.Tests.{not-true, not-false}
 use lib.IntN.{pos}
 use lib.Signed.{leZ}
 use mir.Syntax.{w64}
+use mir.Val.{SFits}
 use mir.ValLaws.{toZ-pos}
 use Rattle.sums.proofs.Ints.{P-fits}
 use Rattle.cost_model.specs.Costs.{goodCosts}
@@ -63,6 +64,9 @@ returns-3 c =
     let z = sym (unit-is (c .before)) ∙ c .if4 .taken in
     simp (some-cash (d .before .before), some-price (d .before .before), good d, z, mul-zero)
 
+raw-requires : tie.Need-raw-requires
+raw-requires c κs = search needs
+
 above-requires-2 : tie.Need-above-requires-2
 above-requires-2 c κs = search needs
 
@@ -72,12 +76,12 @@ div-affordable-steps c = search needs
 module _ (d : tie.After-above2) where
   request-is : d .above2 .result ≡ above (d .before .before .before .before .before .before .before .before .args .requested .0)
   request-is =
-      rw (d .above2 .ensures, read-back (d .before .before .before .before .before .before .before .before .args .requested .0) (d .before .struct-told .given .0 .1))
+      rw (d .above2 .ensures, read-back (d .before .raw .result) (d .before .raw .ok), d .before .raw .ensures)
 
   steps-within : d .above2 .result / d .before .before .before .above .result * d .before .before .before .above .result < 2 ^ 63
   steps-within =
       let z = d .before .before .before .before .before .before .before .before .args .requested .0 in
-      omega (arith, div-mul-le-self (d .above2 .result) (d .before .before .before .above .result), request-is, above-is-P z, P-fits z (record { sfits = d .before .struct-told .given .0 .1 }))
+      omega (arith, div-mul-le-self (d .above2 .result) (d .before .before .before .above .result), request-is, above-is-P z, P-fits z (subst (SFits w64) (d .before .raw .ensures) (record { sfits = d .before .raw .ok })))
 
 affordable-steps-requires : tie.Need-affordable-steps-requires
 affordable-steps-requires c κs = (omega arith, steps-within c, good (c .before .before .before .before))
@@ -117,6 +121,7 @@ largest-affordable-buy-qty-spec =
     returns-2
     above-requires
     returns-3
+    raw-requires
     above-requires-2
     div-affordable-steps
     affordable-steps-requires

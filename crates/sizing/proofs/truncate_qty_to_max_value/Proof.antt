@@ -1,7 +1,7 @@
 -- What is clamped is not below zero, so it has a negative.
 use borrow.Author.Needs.{needs}
 use Prim.Native.Nat.{ℕ, _-_, _^_, min}
-use mathlib.Core.Path.{_≡_, refl}
+use mathlib.Core.Path.{_≡_, refl, sym, _∙_}
 use mathlib.Core.Bool.{true, false}
 use native.Mathlib.Omega.{arith}
 use lib.IntN.{pos, negℤ, natAbs, _-ℤ_, +ℤ-idl}
@@ -30,6 +30,9 @@ shares-for-requires c κs = search needs
 clamped-requires : tie.Need-clamped-requires
 clamped-requires c κs = search needs
 
+is-negative-requires : tie.Need-is-negative-requires
+is-negative-requires c κs = search needs
+
 clamped-up : (n : ℕ) → clamp64 (signed false n) ≡ pos (min n (2 ^ 63 - 1))
 unfolding clamp64 signed
 clamped-up n = refl
@@ -55,7 +58,7 @@ opposite-fits : (s : tie.Start) → SFits w64 (signed true (cut s))
 opposite-fits s = signed-fits true (cut s) (omega arith)
 
 sub-from-raw : tie.Need-sub-from-raw
-sub-from-raw c = rw (most (c .before .before .before), below-zero) (opposite-fits (c .before .before .before .before .before .before .before .before))
+sub-from-raw c = rw (most (c .before .before), below-zero) (opposite-fits (c .before .before .before .before .before .before .before))
 
 from-raw-requires : tie.Need-from-raw-requires
 from-raw-requires c κs = search needs
@@ -63,9 +66,9 @@ from-raw-requires c κs = search needs
 returns : tie.Need-returns
 unfolding cutTo
 returns c =
-    let d = c .before .before .before .before in
+    let d = c .before .before .before in
     let s = d .before .before .before .before .before in
-    let e = rw (read-back (s .args .quantity .0) (c .before .before .struct-told .given .0 .1)) at (c .before .if1 .taken) in
+    let e = sym (c .before .before .is-negative .ensures) ∙ c .before .if1 .taken in
     simp e (rw (c .from-raw .ensures, most d, below-zero) (read-back (signed true (cut s)) (opposite-fits s .sfits)))
 
 from-raw-requires-2 : tie.Need-from-raw-requires-2
@@ -74,9 +77,9 @@ from-raw-requires-2 c κs = search needs
 returns-2 : tie.Need-returns-2
 unfolding cutTo signed
 returns-2 c =
-    let d = c .before .before .before .before in
+    let d = c .before .before .before in
     let s = d .before .before .before .before .before in
-    let e = rw (read-back (s .args .quantity .0) (c .before .before .struct-told .given .0 .1)) at (c .before .if1 .left) in
+    let e = sym (c .before .before .is-negative .ensures) ∙ c .before .if1 .left in
     simp e (rw (c .from-raw2 .ensures, most d))
 
 pub truncate-qty-to-max-value-spec : {M : Type 1} → statement M
@@ -88,6 +91,7 @@ truncate-qty-to-max-value-spec =
     above-requires-2
     shares-for-requires
     clamped-requires
+    is-negative-requires
     sub-from-raw
     from-raw-requires
     returns

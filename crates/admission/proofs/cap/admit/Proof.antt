@@ -31,7 +31,7 @@ fit-most : (s : tie.Start Inv-loop μ-loop) → SFits w64 (s .args .s .«max_reb
 fit-most s = search needs
 
 abbrev at-loop : tie.After-offer Inv-loop μ-loop → tie.At-loop Inv-loop μ-loop
-at-loop d = d .before .before .before .before
+at-loop d = d .before .before .before .before .before
 
 abbrev start : tie.At-loop Inv-loop μ-loop → tie.Start Inv-loop μ-loop
 start l = l .before .before .before .before .before
@@ -45,7 +45,7 @@ offer-is d =
     let x : SFits w64 (getD (l .loop .quantity) (l .loop .i) (pos 0)) = search needs in
     let y : SFits w64 (getD (a .price .now) (l .loop .i) (pos 0)) = search needs in
     ap (λ q. offered (a .s) (l .loop .i) (toZ w64 (l .loop .left)) (getD q (l .loop .i) (pos 0)) (getD (a .price .now) (l .loop .i) (pos 0))) (sym (l .loop .inv .3))
-    ∙ sym (simp (toZ-ofZ x, toZ-ofZ y) at (d .offer .ensures))
+    ∙ sym (simp (d .before .from-raw .ensures, toZ-ofZ x, toZ-ofZ y) at (d .offer .ensures))
 
 whole-numbers-requires : tie.Need-whole-numbers-requires Inv-loop μ-loop
 whole-numbers-requires c κs = search needs
@@ -77,6 +77,9 @@ mul-p c = omega arith
 element-copy-out-p : tie.Need-element-copy-out-p Inv-loop μ-loop
 element-copy-out-p c = omega arith
 
+from-raw-requires : tie.Need-from-raw-requires Inv-loop μ-loop
+from-raw-requires c κs = search needs
+
 offer-requires : tie.Need-offer-requires Inv-loop μ-loop
 offer-requires c κs = search needs
 
@@ -86,30 +89,35 @@ enum-known-o c = search needs
 enum-known-o-2 : tie.Need-enum-known-o-2 Inv-loop μ-loop
 enum-known-o-2 c = search needs
 
-mul-cut : tie.Need-mul-cut Inv-loop μ-loop
-mul-cut c = omega arith
+raw-requires : tie.Need-raw-requires Inv-loop μ-loop
+raw-requires c κs = search needs
 
-element-set-from-cut : tie.Need-element-set-from-cut Inv-loop μ-loop
-element-set-from-cut c = omega arith
+mul-t24 : tie.Need-mul-t24 Inv-loop μ-loop
+mul-t24 c = omega arith
+
+element-set-from-quantity : tie.Need-element-set-from-quantity Inv-loop μ-loop
+element-set-from-quantity c = omega arith
 
 add-result : tie.Need-add-result Inv-loop μ-loop
 add-result c = omega arith
 
 returns : tie.Need-returns Inv-loop μ-loop
 returns c =
-    let d = c .before .before .before in
+    let w = c .raw in
+    let o = c .before .before .o2 in
+    let d = c .before .before .before .before in
     let l = at-loop d in
     let a = start l .args in
     let m = l .before .before .used .result in
     let i = l .loop .i in
-    let t = d .before .before .before .loop-test .taken in
-    let cut = c .before .o2 .given .0 .0 in
-    let x : SFits w64 cut = search needs in
+    let t = d .before .before .before .before .loop-test .taken in
+    let cut = o .given .0 .0 in
+    let x : SFits w64 (w .result) = record { sfits = w .ok } in
     λ k e.
-    ap (λ q. counted (i + 1) (cols k (set q i (toZ w64 (ofZ w64 cut))) (a .price .now) e)) (l .loop .inv .3)
-    ∙ ap (λ z. counted (i + 1) (cols k (set (a .quantity .now) i z) (a .price .now) e)) (toZ-ofZ x)
-    ∙ cut-part (a .s) (a .n) k (a .quantity .now) (a .price .now) e i (l .loop .inv .2) cut (omega (arith, t))
-    (admit-part (a .s) (a .n) m i (toZ w64 (l .loop .left)) (orderAt (cols k (a .quantity .now) (a .price .now) e)) _ t (l .loop .inv .4 k e) cut (offer-is d ∙ c .before .o2 .given .1))
+    ap (λ q. counted (i + 1) (cols k (set q i (toZ w64 (ofZ w64 (w .result)))) (a .price .now) e)) (l .loop .inv .3)
+    ∙ ap (λ z. counted (i + 1) (cols k (set (a .quantity .now) i z) (a .price .now) e)) (toZ-ofZ x ∙ w .ensures)
+    ∙ cut-part (a .s) (a .n) k (a .quantity .now) (a .price .now) e i (l .loop .inv .2) (cut .0) (omega (arith, t))
+    (admit-part (a .s) (a .n) m i (toZ w64 (l .loop .left)) (orderAt (cols k (a .quantity .now) (a .price .now) e)) _ t (l .loop .inv .4 k e) cut (offer-is d ∙ o .given .1))
 
 enum-told : tie.Need-enum-told Inv-loop μ-loop
 enum-told c = search needs
@@ -121,7 +129,7 @@ returns-2 c =
     let a = start l .args in
     let m = l .before .before .used .result in
     let i = l .loop .i in
-    let t = d .before .before .before .loop-test .taken in
+    let t = d .before .before .before .before .loop-test .taken in
     λ k e.
     ap (λ q. counted i (cols k q (a .price .now) e)) (l .loop .inv .3)
     ∙ cut-whole (a .s) (a .n) k (a .quantity .now) (a .price .now) e i (l .loop .inv .2) (omega (arith, t))
@@ -140,7 +148,7 @@ loop-again c =
     let a = start l .args in
     let m = l .before .before .used .result in
     let i = l .loop .i in
-    let t = d .before .before .before .loop-test .taken in
+    let t = d .before .before .before .before .loop-test .taken in
     let rest = c .before .o .given .0 .0 in
     let x : SFits w64 rest = search needs in (
       omega (arith, t),
@@ -178,11 +186,13 @@ admit-spec =
     element-copy-out-q
     mul-p
     element-copy-out-p
+    from-raw-requires
     offer-requires
     enum-known-o
     enum-known-o-2
-    mul-cut
-    element-set-from-cut
+    raw-requires
+    mul-t24
+    element-set-from-quantity
     add-result
     returns
     enum-told

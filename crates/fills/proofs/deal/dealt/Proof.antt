@@ -15,6 +15,9 @@ notional-of-requires c κs = search needs
 compute-cost-requires : tie.Need-compute-cost-requires
 compute-cost-requires c κs = search needs
 
+raw-requires : tie.Need-raw-requires
+raw-requires c κs = search needs
+
 value-requires : tie.Need-value-requires
 value-requires c κs = search needs
 
@@ -32,7 +35,8 @@ returns c =
     let k = v .before .before in
     let n = k .before in
     let s = n .before in
-    let fq : SFits w64 (s .args .quantity .0) = search needs in
+    let q = v .before .raw in
+    let fq : SFits w64 (q .result) = search needs in
     let fn : SFits w64 (n .notional-of .result) = search needs in
     let fk : SFits w64 (k .compute-cost .result) = search needs in
     let fv : SFits w64 (v .value .result) = search needs in
@@ -42,7 +46,7 @@ returns c =
     let bn = toZ-ofZ fn ∙ en in
     let ek = simp bn at (k .compute-cost .ensures) in
     let bk = toZ-ofZ fk ∙ ek in
-    let ev = simp (toZ-ofZ fq, toZ-ofZ (s .fits .price)) at (v .value .ensures) in
+    let ev = simp (toZ-ofZ fq ∙ q .ensures, toZ-ofZ (s .fits .price)) at (v .value .ensures) in
     let bv = toZ-ofZ fv ∙ ev in
     let ea = simp (bv, bk) at (sa .saturating-add .ensures) in
     let ba = toZ-ofZ fa ∙ ea in
@@ -56,6 +60,7 @@ dealt-spec =
     (tie.spec
     notional-of-requires
     compute-cost-requires
+    raw-requires
     value-requires
     saturating-add-requires
     saturating-sub-requires

@@ -1,6 +1,7 @@
 -- Eight stores in a row.
 use Prim.Native.Nat.{_*_}
 use mathlib.Core.List.{[], _∷_}
+use mathlib.Core.Path.{_∙_}
 use native.Mathlib.Omega.{arith}
 use lib.ListN.{length-set}
 use mir.Syntax.{w64}
@@ -10,9 +11,6 @@ use Rattle.fills.proofs.Storing.{stores-are-sets}
 use borrow.Author.Needs.{needs}
 use Rattle.fills.proofs.record.store_ints.Statement.{statement}
 use Rattle.fills.proofs.record.store_ints.Tie as tie
-
-quantity-fits : (s : tie.Start) → SFits w64 (s .args .r .quantity .0)
-quantity-fits s = search needs
 
 price-fits : (s : tie.Start) → SFits w64 (s .args .r .price)
 price-fits s = search needs
@@ -37,6 +35,9 @@ after-fits s = search needs
 
 mul-i : tie.Need-mul-i
 mul-i c = search needs
+
+raw-requires : tie.Need-raw-requires
+raw-requires c κs = search needs
 
 mul-q : tie.Need-mul-q
 mul-q c = search needs
@@ -114,7 +115,9 @@ returns : tie.Need-returns
 returns c =
     let s = c .before .before .before .before .before .before .before .before in
     let r = s .args .r in
-    simp (toZ-ofZ (quantity-fits s), toZ-ofZ (price-fits s), toZ-ofZ (listed-fits s), toZ-ofZ (notional-fits s), toZ-ofZ (listed-notional-fits s), toZ-ofZ (cost-fits s), toZ-ofZ (change-fits s), toZ-ofZ (after-fits s))
+    let q = c .before .before .before .before .before .before .before .raw in
+    let fq : SFits w64 (q .result) = search needs in
+    simp (toZ-ofZ fq ∙ q .ensures, toZ-ofZ (price-fits s), toZ-ofZ (listed-fits s), toZ-ofZ (notional-fits s), toZ-ofZ (listed-notional-fits s), toZ-ofZ (cost-fits s), toZ-ofZ (change-fits s), toZ-ofZ (after-fits s))
     (stores-are-sets (s .args .ints .now) (s .args .at * 8) (r .quantity .0)
     (r .price ∷ r .«reference_price» ∷ r .notional ∷ r .«reference_notional» ∷ r .cost ∷ r .«cash_delta» ∷ r .«cash_after» ∷ []))
 
@@ -123,6 +126,7 @@ store-ints-spec =
     tie.close
     (tie.spec
     mul-i
+    raw-requires
     mul-q
     slice-set-from-q
     add-p

@@ -65,6 +65,9 @@ is-target-requires c κs = search needs
 quote-requires : tie.Need-quote-requires Inv-loop μ-loop
 quote-requires c κs = search needs
 
+from-raw-requires : tie.Need-from-raw-requires Inv-loop μ-loop
+from-raw-requires c κs = search needs
+
 planned-close-requires : tie.Need-planned-close-requires Inv-loop μ-loop
 planned-close-requires c κs = search needs
 
@@ -83,7 +86,7 @@ loop-less c = omega arith
 fit-held : (d : tie.After-h Inv-loop μ-loop) → SFits w64 (getD (d .before .before .before .before .before .before .before .before .before .args .held .now) (d .before .before .before .loop .i) (pos 0))
 fit-held d = search needs
 
-fit-price : (d : tie.After-struct-told Inv-loop μ-loop) → SFits w64 (d .before .quote .result .price)
+fit-price : (d : tie.After-struct-told Inv-loop μ-loop) → SFits w64 (d .before .before .quote .result .price)
 fit-price d = search needs
 
 -- a holding that is a target adds nothing; any other adds its close
@@ -102,12 +105,12 @@ stepped c r =
     let x = counted (l .loop .count) (cols (l .loop .symbol) (l .loop .quantity) (l .loop .price) (l .loop .drift)) in
     ⊎-elim
     (λ w.
-    let fp = fit-price (record { before = record { before = record { before = c .before; if1 = w .0 }; quote = w .1 }; struct-told = w .2 }) in
+    let fp = fit-price (record { before = record { before = record { before = record { before = c .before; if1 = w .0 }; quote = w .1 }; from-raw = w .2 }; struct-told = w .3 }) in
     let e : among k (a .targets .now) ≡ false = sym (c .before .is-target .ensures) ∙ not-true _ (w .0 .taken) in
-    counted-same (w .13) (w .9) (w .10) (w .11) (w .12)
-    ∙ w .8 .ensures
-    ∙ ap (λ b. addedTo b (w .3 .result) x) (l .before .before .is-capped .ensures)
-    ∙ ap (λ o. addedTo (capped (a .s)) o x) (w .3 .ensures ∙ simp (toZ-ofZ (fit-held h), toZ-ofZ fp) (simp (w .1 .ensures .settled r, e))))
+    counted-same (w .14) (w .10) (w .11) (w .12) (w .13)
+    ∙ w .9 .ensures
+    ∙ ap (λ b. addedTo b (w .4 .result) x) (l .before .before .is-capped .ensures)
+    ∙ ap (λ o. addedTo (capped (a .s)) o x) (w .4 .ensures ∙ simp (w .2 .ensures, toZ-ofZ (fit-held h), toZ-ofZ fp) (simp (w .1 .ensures .settled r, e))))
     (λ w.
     let e : among k (a .targets .now) ≡ true = sym (c .before .is-target .ensures) ∙ not-false _ (w .0 .left) in
     counted-same (w .5) (w .1) (w .2) (w .3) (w .4) ∙ sym (added-none _ (capped (a .s)) x (wanted-none (a .s) _ _ _ _ _ e)))
@@ -152,6 +155,7 @@ plan-closes-spec =
     element-copy-out-h
     is-target-requires
     quote-requires
+    from-raw-requires
     planned-close-requires
     add-order-requires
     used-requires-2

@@ -67,6 +67,9 @@ quote-requires c κs = search needs
 quantity-of-requires : tie.Need-quantity-of-requires Inv-loop μ-loop
 quantity-of-requires c κs = search needs
 
+from-raw-requires : tie.Need-from-raw-requires Inv-loop μ-loop
+from-raw-requires c κs = search needs
+
 planned-target-requires : tie.Need-planned-target-requires Inv-loop μ-loop
 planned-target-requires c κs = search needs
 
@@ -78,22 +81,23 @@ used-requires-2 c κs = search needs
 
 add-i : tie.Need-add-i Inv-loop μ-loop
 add-i c =
-    let w = c .before .before .before .before .before .before .before .before .before .before .before .before in
+    let w = c .before .before .before .before .before .before .before .before .before .before .before .before .before in
     omega (arith, w .loop-test .taken, w .before .before .before .before .used .ok)
 
 loop-less : tie.Need-loop-less Inv-loop μ-loop
 loop-less c = omega arith
 
-fit-price : (d : tie.After-struct-told Inv-loop μ-loop) → SFits w64 (d .before .before .quote .result .price)
+fit-price : (d : tie.After-struct-told Inv-loop μ-loop) → SFits w64 (d .before .before .before .quote .result .price)
 fit-price d = search needs
 
 loop-again : tie.Need-loop-again Inv-loop μ-loop
 loop-again c =
     let j = c .before in
     let o = j .before .before .before .before .before .planned-target in
-    let h = j .before .before .before .before .before .before .before .quantity-of in
-    let q = j .before .before .before .before .before .before .before .before .quote in
-    let w = j .before .before .before .before .before .before .before .before .before .before .before in
+    let z = j .before .before .before .before .before .before .before .from-raw in
+    let h = j .before .before .before .before .before .before .before .before .quantity-of in
+    let q = j .before .before .before .before .before .before .before .before .before .quote in
+    let w = j .before .before .before .before .before .before .before .before .before .before .before .before in
     let l = w .before in
     let a = l .before .before .before .before .before .before .before .args in
     let t = w .loop-test .taken in
@@ -109,7 +113,7 @@ loop-again c =
           (kept-with (a .s) (f (l .loop .i)) x (j .add-order .result) (l .before .most-of .result) _ _
           (j .add-order .ensures
           ∙ ap (λ b. addedTo b (o .result) x) (l .before .before .is-capped .ensures)
-          ∙ ap (λ o. addedTo (capped (a .s)) o x) (o .ensures ∙ simp (toZ-ofZ fh, toZ-ofZ fp) (simp (q .ensures .settled r, h .ensures .settled k))))
+          ∙ ap (λ o. addedTo (capped (a .s)) o x) (o .ensures ∙ simp (z .ensures, toZ-ofZ fh, toZ-ofZ fp) (simp (q .ensures .settled r, h .ensures .settled k))))
           (l .before .most-of .ensures)
           (c .used2 .ensures))
           (l .loop .inv .3 r k),
@@ -137,6 +141,7 @@ plan-targets-spec =
     shared-slice-read-w
     quote-requires
     quantity-of-requires
+    from-raw-requires
     planned-target-requires
     add-order-requires
     used-requires-2

@@ -4,7 +4,7 @@ use mathlib.Core.Path.{_≡_, refl, _∙_, sym, ap}
 use mathlib.Core.Bool.{true}
 use lib.ListN.{length}
 use mir.Syntax.{w64}
-use mir.Val.{SFits}
+use mir.Val.{SFits, toZ, ofZ}
 use mir.Facts.{toZ-ofZ}
 use borrow.Author.Needs.{needs}
 use borrow.Author.Tests.{not-true, not-false}
@@ -60,8 +60,8 @@ closing c = close-done _ _ _ _ (is-done c)
 notional-fits : (s : tie.Start) → SFits w64 (s .args .h .counters .«last_rebalance_notional»)
 notional-fits s = search needs
 
-quantity-fits : (c : tie.After-neg) → SFits w64 (c .neg .result .0)
-quantity-fits c = search needs
+shares-are : (c : tie.After-raw) → toZ w64 (ofZ w64 (c .raw .result)) ≡ c .before .neg .result .0
+shares-are c = let f : SFits w64 (c .raw .result) = record { sfits = c .raw .ok } in toZ-ofZ f ∙ c .raw .ensures
 
 whole-columns-requires : tie.Need-whole-columns-requires
 whole-columns-requires c κs = search needs
@@ -89,6 +89,9 @@ holding-of-requires c κs = search needs
 
 neg-requires : tie.Need-neg-requires
 neg-requires c κs = search needs
+
+raw-requires : tie.Need-raw-requires
+raw-requires c κs = search needs
 
 array-write-os : tie.Need-array-write-os
 array-write-os c = search needs
@@ -121,12 +124,13 @@ quantity-is n =
 returns-2 : tie.Need-returns-2
 returns-2 c =
     let r = c .before .before .before in
-    let n = r .before .before .before .before .before .before .before .before .before .before .before .before .before in
+    let q = r .before .before .before .before .before .before .before .before .before .before .before .before in
+    let n = q .before in
     let o = unrefused n in
     let s = accepted o in
     let x = s .args in
     let k = closing o in
-    let e = simp (toZ-ofZ (quantity-fits n), toZ-ofZ (s .fits .price), toZ-ofZ (notional-fits s)) at (r .run .ensures (record { sound = k .sound; roomy = k .roomy; full = full-at (o .before .before); symbols = refl; quantities = refl; prices = refl })) in
+    let e = simp (shares-are q, toZ-ofZ (s .fits .price), toZ-ofZ (notional-fits s)) at (r .run .ensures (record { sound = k .sound; roomy = k .roomy; full = full-at (o .before .before); symbols = refl; quantities = refl; prices = refl })) in
     e ∙ ap (λ k. filed k (x .words .now) (x .ints .now)) (closed-by-run (account-at s) (x .s) (x .price) (x .period) (x .kind) (room-at s) (is-done o) (n .neg .result .0) (quantity-is n))
 
 pub close-on-spec : {M : Type 1} → statement M
@@ -140,6 +144,7 @@ close-on-spec =
     returns
     holding-of-requires
     neg-requires
+    raw-requires
     array-write-os
     array-set-from-oq
     array-set-from-op

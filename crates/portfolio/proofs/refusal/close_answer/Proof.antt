@@ -1,17 +1,15 @@
 -- Each test in turn is one of the definition's.
-use mathlib.Core.Path.{_≡_, refl, _∙_, sym, ap}
+use mathlib.Core.Path.{_≡_, _∙_, sym, ap}
 use mathlib.Core.Bool.{true}
-use lib.IntN.{ℤ, pos, negsuc}
-use Prim.Native.Nat.{zero, suc}
+use lib.IntN.{pos}
 use lib.Signed.{leZ}
 use mir.Facts.{toZ-ofZ}
 use borrow.Author.Needs.{needs}
-use native.Mathlib.Omega.{arith}
-use borrow.Author.Tests.{not-true, not-false, ne-eqb}
-use Rattle.position.specs.Shares.{isZero as isZeroShares}
+use borrow.Author.Tests.{not-true, not-false}
 use Rattle.position.specs.Symbols.{goodSymbol}
 use Rattle.position.proofs.Counts.{lt-not-ge, not-lt-ge}
 use Rattle.table.specs.Rows.{Cols, cols, holding, isZero, Full}
+use Rattle.table.proofs.Ordering.{zero-same}
 use Rattle.account.specs.declared.account.Account.{Account}
 use Rattle.account.specs.Account.{accountWith, soundAccount, heldIn}
 use Rattle.account.proofs.SoundAccounts.{account-ordered}
@@ -83,12 +81,6 @@ holding-of-requires c κs = search needs
 
 is-zero-requires : tie.Need-is-zero-requires
 is-zero-requires c κs = search needs
-
-zero-same : (x : ℤ) → isZeroShares x ≡ isZero x
-unfolding isZeroShares
-zero-same (pos zero) = refl
-zero-same (pos (suc n)) = ne-eqb (suc n) 0 (λ e. omega arith)
-zero-same (negsuc n) = refl
 
 held-zero : (c : tie.After-is-zero) → let s = start (c .before .before .before .before .before) in
     Full (columns-at s) → c .is-zero .result ≡ isZero (holding (s .args .s) (heldIn (account-at s .positions)) .quantity .0)

@@ -1,7 +1,7 @@
 -- By the test of the quantity.
 use mathlib.Core.Path.{sym, _∙_}
 use borrow.Author.Needs.{needs}
-use Rattle.queries.proofs.Walks.{zero-same}
+use Rattle.table.proofs.Ordering.{zero-same}
 use Rattle.queries.proofs.sum.open_one.Statement.{statement}
 use Rattle.queries.proofs.sum.open_one.Tie as tie
 

@@ -47,6 +47,9 @@ loop-holds c = (omega arith, omega arith, λ listed e. refl, omega arith, refl)
 held-requires : tie.Need-held-requires Inv-loop μ-loop
 held-requires c κs = search needs
 
+raw-requires : tie.Need-raw-requires Inv-loop μ-loop
+raw-requires c κs = search needs
+
 mul-value : tie.Need-mul-value Inv-loop μ-loop
 mul-value c = search needs
 
@@ -77,13 +80,10 @@ add-i c = search needs
 loop-less : tie.Need-loop-less Inv-loop μ-loop
 loop-less c = search needs
 
-quantity-fits : (d : tie.After-struct-told Inv-loop μ-loop) → SFits w64 (d .before .before .held .result .quantity .0)
-quantity-fits d = search needs
-
-profit-fits : (d : tie.After-struct-told2 Inv-loop μ-loop) → SFits w64 (d .before .before .before .before .before .held .result .«realized_pnl»)
+profit-fits : (d : tie.After-struct-told Inv-loop μ-loop) → SFits w64 (d .before .before .before .before .before .held .result .«realized_pnl»)
 profit-fits d = search needs
 
-price-fits : (d : tie.After-value-arg Inv-loop μ-loop) → let l = d .before .before .before in SFits w64 (getD (l .before .args .price .now) (l .loop .i) (pos 0))
+price-fits : (d : tie.After-value-arg Inv-loop μ-loop) → let l = d .before .before .before .before in SFits w64 (getD (l .before .args .price .now) (l .loop .i) (pos 0))
 price-fits d = search needs
 
 loop-again : tie.Need-loop-again Inv-loop μ-loop
@@ -102,10 +102,11 @@ loop-again c =
     let fg : SFits w64 (g .result) = record { sfits = g .ok } in
     let fw : SFits w64 (w .result) = record { sfits = w .ok } in
     let fv : SFits w64 (v .result) = record { sfits = v .ok } in
-    let fq = quantity-fits (c .before .before .before .before .before) in
+    let q = c .before .before .before .before .before .before .raw in
+    let fq : SFits w64 (q .result) = record { sfits = q .ok } in
     let fr = profit-fits (c .before .before) in
-    let fp = price-fits (c .before .before .before .before .before .before) in
-    let ev = simp (toZ-ofZ fq, toZ-ofZ fp) at (v .ensures) in
+    let fp = price-fits (c .before .before .before .before .before) in
+    let ev = simp (toZ-ofZ fq ∙ q .ensures, toZ-ofZ fp) at (v .ensures) in
     let ew = (simp (toZ-ofZ fv) at (w .ensures)) ∙ ap (satAdd (toZ w64 (l .loop .worth))) ev in
     let eg = simp (toZ-ofZ fr) at (g .ensures) in (
       omega arith,
@@ -134,6 +135,7 @@ summed-spec =
     μ-loop
     loop-holds
     held-requires
+    raw-requires
     mul-value
     element-copy-out-value
     value-requires

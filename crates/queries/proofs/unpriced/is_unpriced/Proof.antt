@@ -3,7 +3,7 @@ use mathlib.Core.Path.{sym, _∙_}
 use mir.Facts.{toZ-ofZ}
 use borrow.Author.Needs.{needs}
 use Rattle.queries.specs.Queries.{unpriced}
-use Rattle.queries.proofs.Walks.{zero-same}
+use Rattle.table.proofs.Ordering.{zero-same}
 use Rattle.queries.proofs.unpriced.is_unpriced.Statement.{statement}
 use Rattle.queries.proofs.unpriced.is_unpriced.Tie as tie
 

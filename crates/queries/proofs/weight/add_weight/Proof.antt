@@ -6,7 +6,7 @@ use mir.Facts.{toZ-ofZ}
 use borrow.Author.Needs.{needs}
 use Rattle.doubles.specs.Doubles.{ofI64}
 use Rattle.queries.specs.Places.{addedTo}
-use Rattle.queries.proofs.Walks.{zero-same}
+use Rattle.table.proofs.Ordering.{zero-same}
 use Rattle.queries.proofs.weight.add_weight.Statement.{statement}
 use Rattle.queries.proofs.weight.add_weight.Tie as tie
 
@@ -16,6 +16,9 @@ is-zero-requires c κs = search needs
 returns : tie.Need-returns
 unfolding addedTo
 returns c = let e = sym (c .before .is-zero .ensures ∙ zero-same _) ∙ c .if1 .taken in rw e
+
+raw-requires : tie.Need-raw-requires
+raw-requires c κs = search needs
 
 value-requires : tie.Need-value-requires
 value-requires c κs = search needs
@@ -38,9 +41,6 @@ element-write-weight c = search needs
 add-result : tie.Need-add-result
 add-result c = search needs
 
-quantity-fits : (d : tie.After-struct-told) → SFits w64 (d .before .before .before .args .p .quantity .0)
-quantity-fits d = search needs
-
 returns-2 : tie.Need-returns-2
 unfolding addedTo
 returns-2 c =
@@ -50,8 +50,9 @@ returns-2 c =
     let e = sym (o .before .is-zero .ensures ∙ zero-same _) ∙ o .if1 .left in
     let fv : SFits w64 (v .result) = record { sfits = v .ok } in
     let s = o .before .before in
-    let fq = quantity-fits (f .before) in
-    let ev = simp (toZ-ofZ fq, toZ-ofZ (s .fits .price)) at (v .ensures) in
+    let q = f .before .raw in
+    let fq : SFits w64 (q .result) = record { sfits = q .ok } in
+    let ev = simp (toZ-ofZ fq ∙ q .ensures, toZ-ofZ (s .fits .price)) at (v .ensures) in
     let ef = (simp (toZ-ofZ fv) at (c .i64-to-f64 .ensures)) ∙ ap ofI64 ev in
     rw e (simp ef)
 
@@ -61,6 +62,7 @@ add-weight-spec =
     (tie.spec
     is-zero-requires
     returns
+    raw-requires
     value-requires
     mul-symbol
     element-write-symbol

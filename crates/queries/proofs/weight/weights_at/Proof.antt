@@ -5,7 +5,7 @@ use borrow.Author.Needs.{needs}
 use borrow.Author.Tests.{eq-eqb, ne-eqb}
 use Rattle.position.proofs.Counts.{zero-bits}
 use Rattle.queries.specs.Queries.{weightsOf}
-use Rattle.queries.proofs.Walks.{zero-same}
+use Rattle.table.proofs.Ordering.{zero-same}
 use Rattle.queries.proofs.weight.weights_at.Statement.{statement}
 use Rattle.queries.proofs.weight.weights_at.Tie as tie
 

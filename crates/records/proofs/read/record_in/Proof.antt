@@ -52,11 +52,14 @@ mul-t16 c = search needs
 shared-slice-read-t18 : tie.Need-shared-slice-read-t18
 shared-slice-read-t18 c = search needs
 
-mul-t20 : tie.Need-mul-t20
-mul-t20 c = search needs
+mul-from-raw : tie.Need-mul-from-raw
+mul-from-raw c = search needs
 
-shared-slice-copy-out-t22 : tie.Need-shared-slice-copy-out-t22
-shared-slice-copy-out-t22 c = search needs
+shared-slice-copy-out-from-raw : tie.Need-shared-slice-copy-out-from-raw
+shared-slice-copy-out-from-raw c = search needs
+
+from-raw-requires : tie.Need-from-raw-requires
+from-raw-requires c κs = search needs
 
 add-t24 : tie.Need-add-t24
 add-t24 c = search needs
@@ -124,7 +127,8 @@ shared-slice-copy-out-t51 c = search needs
 returns : tie.Need-returns
 unfolding recordIn
 returns c =
-    let k = c .before .before .before .before .before .before .before .before .before .before .before in
+    let z = c .before .before .before .before .before .before .before in
+    let k = z .before .before .before .before .before in
     let s = k .before .before .before in
     let is = s .args .ints .now in
     let n = s .args .i * 8 in
@@ -136,7 +140,7 @@ returns c =
     let c′ : SFits w64 (getD is (n + 5) (pos 0)) = search needs in
     let d : SFits w64 (getD is (n + 6) (pos 0)) = search needs in
     let a : SFits w64 (getD is (n + 7) (pos 0)) = search needs in
-    simp (k .kind-of .ensures, toZ-ofZ q, toZ-ofZ p, toZ-ofZ rp, toZ-ofZ v, toZ-ofZ rv, toZ-ofZ c′, toZ-ofZ d, toZ-ofZ a)
+    simp (k .kind-of .ensures, z .from-raw .ensures, toZ-ofZ q, toZ-ofZ p, toZ-ofZ rp, toZ-ofZ v, toZ-ofZ rv, toZ-ofZ c′, toZ-ofZ d, toZ-ofZ a)
 
 pub record-in-spec : {M : Type 1} → statement M
 record-in-spec =
@@ -156,8 +160,9 @@ record-in-spec =
     add-t15
     mul-t16
     shared-slice-read-t18
-    mul-t20
-    shared-slice-copy-out-t22
+    mul-from-raw
+    shared-slice-copy-out-from-raw
+    from-raw-requires
     add-t24
     mul-t25
     shared-slice-copy-out-t27

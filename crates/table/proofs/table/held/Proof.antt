@@ -62,16 +62,19 @@ mul-t c = search needs
 element-copy-out-t : tie.Need-element-copy-out-t
 element-copy-out-t c = search needs
 
+from-raw-requires : tie.Need-from-raw-requires
+from-raw-requires c κs = search needs
+
 returns : tie.Need-returns
 returns c =
-    let b = c .before .before .before .before .before .before .before in
+    let b = c .before .before .before .before .before .before .before .before in
     let a = b .before .before .args in
     let i = b .f .given .0 .0 in
     let fq : SFits w64 (getD (a .quantity .now) i (pos 0)) = search needs in
     let fa : SFits w64 (getD (a .average .now) i (pos 0)) = search needs in
     let fg : SFits w64 (getD (a .realized .now) i (pos 0)) = search needs in
     let ft : SFits w64 (getD (a .total .now) i (pos 0)) = search needs in
-    simp (toZ-ofZ fq, toZ-ofZ fa, toZ-ofZ fg, toZ-ofZ ft) (sym (held-at _ i (a .s) (columns (b .before .before)) (b .f .given .1) (c .before .before .before .before .before .if1 .taken)))
+    simp (c .from-raw .ensures, toZ-ofZ fq, toZ-ofZ fa, toZ-ofZ fg, toZ-ofZ ft) (sym (held-at _ i (a .s) (columns (b .before .before)) (b .f .given .1) (c .before .before .before .before .before .before .if1 .taken)))
 
 enum-told : tie.Need-enum-told
 enum-told c = search needs
@@ -99,6 +102,7 @@ held-spec =
     element-copy-out-g
     mul-t
     element-copy-out-t
+    from-raw-requires
     returns
     enum-told
     new-requires

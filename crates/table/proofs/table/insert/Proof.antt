@@ -1,5 +1,5 @@
 -- Each column is opened at the same place by its own call.
-use mathlib.Core.Path.{_≡_}
+use mathlib.Core.Path.{_≡_, _∙_}
 use mathlib.Core.List.{List}
 use Prim.Native.Nat.{ℕ}
 use lib.IntN.{ℤ}
@@ -16,9 +16,6 @@ same-cols ek eq ea eg et = rw (ek, eq, ea, eg, et)
 
 -- the signed fields fit
 module _ (s : tie.Start) where
-  fit-q : SFits w64 (s .args .p .quantity .0)
-  fit-q = search needs
-
   fit-a : SFits w64 (s .args .p .«avg_entry_price»)
   fit-a = search needs
 
@@ -30,6 +27,9 @@ module _ (s : tie.Start) where
 
 open-symbol-requires : tie.Need-open-symbol-requires
 open-symbol-requires c κs = search needs
+
+raw-requires : tie.Need-raw-requires
+raw-requires c κs = search needs
 
 open-number-requires : tie.Need-open-number-requires
 open-number-requires c κs = search needs
@@ -50,9 +50,10 @@ returns c =
     let c1 = c2 .before .before .before in
     let c0 = c1 .before .before .before in
     let s = c0 .before .before in
+    let fq : SFits w64 (c1 .before .raw .result) = search needs in
     same-cols
     (c0 .open-symbol .ensures)
-    (simp (toZ-ofZ (fit-q s)) at (c1 .open-number .ensures))
+    (simp (toZ-ofZ fq ∙ c1 .before .raw .ensures) at (c1 .open-number .ensures))
     (simp (toZ-ofZ (fit-a s)) at (c2 .open-number2 .ensures))
     (simp (toZ-ofZ (fit-g s)) at (c3 .open-number3 .ensures))
     (simp (toZ-ofZ (fit-t s)) at (c .open-number4 .ensures))
@@ -62,6 +63,7 @@ insert-spec =
     tie.close
     (tie.spec
     open-symbol-requires
+    raw-requires
     open-number-requires
     open-number-requires-2
     open-number-requires-3

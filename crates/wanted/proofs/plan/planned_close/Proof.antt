@@ -27,6 +27,9 @@ returns-2 c =
     let e = below-one (s .args .price) ∙ ap not (simp (toZ-ofZ (s .fits .price)) at (c .before .if2 .taken)) in
     simp (c .before .before .if1 .left, e) (c .passed-over2 .ensures)
 
+raw-requires : tie.Need-raw-requires
+raw-requires c κs = search needs
+
 value-requires : tie.Need-value-requires
 value-requires c κs = search needs
 
@@ -45,12 +48,13 @@ returns-3 c =
     let n = c .before .neg in
     let d = c .before .before .drift-bps-of in
     let v = c .before .before .before .value in
+    let q = c .before .before .before .before .raw in
     let p = c .before .before .before .before .before in
     let s = p .before .before in
     let e = below-one (s .args .price) ∙ ap not (simp (toZ-ofZ (s .fits .price)) at (p .if2 .left)) in
     let fv : SFits w64 (v .result) = record { sfits = v .ok } in
-    let fq : SFits w64 (s .args .quantity .0) = record { sfits = c .before .before .before .before .struct-told .given .0 .1 } in
-    simp (p .before .if1 .left, e) (c .ordered .ensures ∙ simp (n .ensures, d .ensures, toZ-ofZ (s .fits .price)) (simp (toZ-ofZ fv, toZ-ofZ (s .fits .equity)) (simp (v .ensures, toZ-ofZ (s .fits .price), toZ-ofZ fq))))
+    let fq : SFits w64 (q .result) = record { sfits = q .ok } in
+    simp (p .before .if1 .left, e) (c .ordered .ensures ∙ simp (n .ensures, d .ensures, toZ-ofZ (s .fits .price)) (simp (toZ-ofZ fv, toZ-ofZ (s .fits .equity)) (simp (v .ensures, toZ-ofZ (s .fits .price), toZ-ofZ fq ∙ q .ensures))))
 
 pub planned-close-spec : {M : Type 1} → statement M
 planned-close-spec =
@@ -60,6 +64,7 @@ planned-close-spec =
     returns
     passed-over-requires-2
     returns-2
+    raw-requires
     value-requires
     drift-bps-of-requires
     neg-requires
