@@ -7,7 +7,7 @@ ghost use Rattle.position.specs.Shares.{fromWhole, toF64, wholeShares, i
 
 // A share count in fixed-point micro-shares: 1 unit is 0.000001 share.
 // A type of its own, so that a share count never stands for a price or a value.
-pub struct Shares(i64);
+pub struct Shares(pub(crate) i64);
 
 // The largest count of whole shares whose micro-shares fit.
 const MOST_WHOLE: i64 = 9_223_372_036_854;
