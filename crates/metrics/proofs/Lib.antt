@@ -3,5 +3,6 @@ pub mod Answered
 pub mod Double
 pub mod EverySeries
 pub mod Gathering
+pub mod NothingAdded
 pub mod OnePass
 pub mod SumStart
