@@ -15,12 +15,17 @@ use Rattle.metrics.specs.Tally.{wins, loses, counted, noReturns, tallyAf
 use Rattle.metrics.specs.Gathered.{gathered}
 use Rattle.metrics.specs.declared.curve.Curve.{Curve}
 use Rattle.metrics.specs.declared.tally.Tally.{Tally}
+use Rattle.metrics.proofs.FiniteEquity.{equity-finite}
 
-pub record Gathering (rs : List Float) (f : Bool) (c : Curve) (t : Tally) (i : ℕ) : Type 0 where
+-- f says whether all before the place are finite
+pub record Looking (rs : List Float) (f : Bool) (i : ℕ) : Type 0 where
+  pub inside : i ≤ length rs
+  pub all-finite : (f && allFinite (drop i rs)) ≡ allFinite rs
+
+pub record Gathering (rs : List Float) (c : Curve) (t : Tally) (i : ℕ) : Type 0 where
   pub inside : i ≤ length rs
   pub won : t .«winning_periods» ≤ i
   pub lost : t .«losing_periods» ≤ i
-  pub all-finite : (f && allFinite (drop i rs)) ≡ allFinite rs
   pub whole-curve : foldl curveAfter c (drop i rs) ≡ foldl curveAfter flat rs
   pub whole-tally : foldl tallyAfter t (drop i rs) ≡ foldl tallyAfter noReturns rs
 
@@ -28,38 +33,61 @@ and-assoc : (a b c : Bool) → ((a && b) && c) ≡ (a && (b && c))
 and-assoc true b c = refl
 and-assoc false b c = refl
 
+and-true : (a : Bool) → (a && true) ≡ a
+and-true true = refl
+and-true false = refl
+
 counted-one : (n i : ℕ) (b : Bool) → n ≤ i → counted n b ≤ i + 1
 counted-one n i true l = omega arith
 counted-one n i false l = omega arith
 
 module _ (rs : List Float) where
-  pub gather-first : Gathering rs true flat noReturns 0
-  gather-first = record { inside = omega arith; won = omega arith; lost = omega arith; all-finite = refl; whole-curve = refl; whole-tally = refl }
+  next : (i : ℕ) (d : Float) → i < length rs → drop i rs ≡ getD rs i d ∷ drop (i + 1) rs
+  next i d l = rw add-one (drop-cons rs i d l)
 
-  pub gather-on : (f : Bool) (c : Curve) (t : Tally) (i : ℕ) (d : Float) → i < length rs → Gathering rs f c t i
-      → Gathering rs (f && finite (getD rs i d)) (curveAfter c (getD rs i d)) (tallyAfter t (getD rs i d)) (i + 1)
-  unfolding allFinite tallyAfter
-  gather-on f c t i d l g =
+  -- ---- whether all are finite
+  pub finite-first : Looking rs true 0
+  finite-first = record { inside = omega arith; all-finite = refl }
+
+  pub finite-on : (f : Bool) (i : ℕ) (d : Float) → i < length rs → Looking rs f i → Looking rs (f && finite (getD rs i d)) (i + 1)
+  unfolding allFinite
+  finite-on f i d l g =
+      record {
+        inside = omega arith;
+        all-finite = and-assoc f (finite (getD rs i d)) (allFinite (drop (i + 1) rs)) ∙ sym (ap (λ l. f && allFinite l) (next i d l)) ∙ g .all-finite;
+      }
+
+  pub finite-last : (f : Bool) (i : ℕ) → length rs ≤ i → Looking rs f i → f ≡ allFinite rs
+  unfolding allFinite
+  finite-last f i l g = sym (and-true f) ∙ sym (ap (λ l. f && allFinite l) (drop-of-length-le rs l)) ∙ g .all-finite
+
+  -- ---- curve and tally
+  pub gather-first : Gathering rs flat noReturns 0
+  gather-first = record { inside = omega arith; won = omega arith; lost = omega arith; whole-curve = refl; whole-tally = refl }
+
+  pub gather-on : (c : Curve) (t : Tally) (i : ℕ) (d : Float) → i < length rs → Gathering rs c t i
+      → Gathering rs (curveAfter c (getD rs i d)) (tallyAfter t (getD rs i d)) (i + 1)
+  unfolding tallyAfter
+  gather-on c t i d l g =
       let r = getD rs i d in
-      let next : drop i rs ≡ r ∷ drop (i + 1) rs = rw add-one (drop-cons rs i d l) in
       record {
         inside = omega arith;
         won = counted-one (t .«winning_periods») i (wins r) (g .won);
         lost = counted-one (t .«losing_periods») i (loses r) (g .lost);
-        all-finite = and-assoc f (finite r) (allFinite (drop (i + 1) rs)) ∙ sym (ap (λ l. f && allFinite l) next) ∙ g .all-finite;
-        whole-curve = sym (ap (foldl curveAfter c) next) ∙ g .whole-curve;
-        whole-tally = sym (ap (foldl tallyAfter t) next) ∙ g .whole-tally;
+        whole-curve = sym (ap (foldl curveAfter c) (next i d l)) ∙ g .whole-curve;
+        whole-tally = sym (ap (foldl tallyAfter t) (next i d l)) ∙ g .whole-tally;
       }
 
-  pub gather-last : (f : Bool) (c : Curve) (t : Tally) (i : ℕ) → length rs ≤ i → Gathering rs f c t i → record { finite = f; curve = c; tally = t } ≡ gathered rs
-  unfolding gathered allFinite
-  gather-last f c t i l g =
-      let none : drop i rs ≡ [] = drop-of-length-le rs l in
-      let e : f ≡ allFinite rs = sym (and-true f) ∙ sym (ap (λ l. f && allFinite l) none) ∙ g .all-finite in
-      let d : c ≡ foldl curveAfter flat rs = sym (ap (foldl curveAfter c) none) ∙ g .whole-curve in
-      let u : t ≡ foldl tallyAfter noReturns rs = sym (ap (foldl tallyAfter t) none) ∙ g .whole-tally in
+  last-curve : (c : Curve) (t : Tally) (i : ℕ) → length rs ≤ i → Gathering rs c t i → c ≡ foldl curveAfter flat rs
+  last-curve c t i l g = sym (ap (foldl curveAfter c) (drop-of-length-le rs l)) ∙ g .whole-curve
+
+  -- a finite equity settles whether all are finite
+  pub equity-settles : (c : Curve) (t : Tally) (i : ℕ) → length rs ≤ i → Gathering rs c t i → finite (c .equity) ≡ true → true ≡ allFinite rs
+  equity-settles c t i l g h = sym (equity-finite flat rs (ap (λ c. finite (c .equity)) (sym (last-curve c t i l g)) ∙ h) .1)
+
+  pub gather-last : (f : Bool) (c : Curve) (t : Tally) (i : ℕ) → length rs ≤ i → Gathering rs c t i → f ≡ allFinite rs → record { finite = f; curve = c; tally = t } ≡ gathered rs
+  unfolding gathered
+  gather-last f c t i l g e =
+      let d : c ≡ foldl curveAfter flat rs = last-curve c t i l g in
+      let u : t ≡ foldl tallyAfter noReturns rs = sym (ap (foldl tallyAfter t) (drop-of-length-le rs l)) ∙ g .whole-tally in
       cc
-    where
-      and-true : (a : Bool) → (a && true) ≡ a
-      and-true true = refl
-      and-true false = refl

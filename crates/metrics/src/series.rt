@@ -2,6 +2,7 @@
 ghost use mathlib.Core.Path.{_≡_};
 ghost use Prim.Native.Nat.{_≤_};
 ghost use lib.ListN.{length};
+ghost use Rattle.metrics.specs.Double.{allFinite};
 ghost use Rattle.metrics.specs.Tally.{mostReturns};
 ghost use Rattle.metrics.specs.Gathered.{gathered};
 use crate::curve::Curve;
@@ -15,22 +16,40 @@ pub(crate) struct Gathered {
     pub(crate) tally: Tally,
 }
 
-// The figures' passes over the series in one: each reads the returns in the same order.
+// Whether every return is finite.
+fn all_finite(returns: &[f64]) -> bool
+    ensures { λ r. ⌜ r ≡ allFinite (now (returns .entry)) ⌝ }
+{
+    let mut finite = true;
+    let mut i = 0usize;
+    while i < returns.len() {
+        let r = returns[i];
+        finite = finite & is_finite(r);
+        i += 1;
+    }
+    finite
+}
+
+// The figures' passes over the series in one: each reads the returns in the same order. After a return that is not
+// finite no equity is, so the returns are looked at one by one only where the equity at the end is not finite.
 pub(crate) fn gather(returns: &[f64]) -> Gathered
     requires { ⌜ length (now returns) ≤ mostReturns ⌝ }
     ensures { λ r. ⌜ r ≡ gathered (now (returns .entry)) ⌝ }
 {
-    let mut finite = true;
     let mut curve = Curve::start();
     let mut tally = Tally::start();
     let mut i = 0usize;
     while i < returns.len() {
         let r = returns[i];
-        finite = finite & is_finite(r);
         curve = curve.after(r);
         tally = tally.after(r);
         i += 1;
     }
+    let finite = if is_finite(curve.equity) {
+        true
+    } else {
+        all_finite(returns)
+    };
     Gathered {
         finite,
         curve,

@@ -18,11 +18,13 @@ fn counted(n: u64, counts: bool) -> u64
     if counts { n + 1 } else { n }
 }
 
-// The sum with the return where it counts.
+// The sum with the return where it counts. Else -0.0 is added, which leaves every double as it is: a sum that is
+// always taken needs no branch on the return's sign, which no processor can foretell.
 fn summed(sum: f64, counts: bool, r: f64) -> f64
     ensures { λ s. ⌜ s ≡ summed sum counts r ⌝ }
 {
-    if counts { sum + r } else { sum }
+    let added = if counts { r } else { -0.0 };
+    sum + added
 }
 
 impl Tally {
