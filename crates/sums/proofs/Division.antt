@@ -1,7 +1,7 @@
 -- Long division: a number's upper part is divided first, and what it leaves goes before the lower part.
-use Prim.Native.Nat.{ℕ, _+_, _*_, _/_, _%_, _<_}
+use Prim.Native.Nat.{ℕ, _+_, _*_, _/_, _%_, _^_, _<_}
 use mathlib.Core.Path.{_≡_, sym, ap, _∙_, subst}
-use native.Mathlib.Nat.{mod-lt, div-add-mod', add-mul, add-assoc, add-comm, mul-comm, mul-right-comm, add-mul-div-right, add-mul-mod-self-right, div-lt-iff-lt-mul}
+use native.Mathlib.Nat.{mod-lt, zero-add, div-add-mod', add-mul, add-assoc, add-comm, mul-comm, mul-right-comm, add-mul-div-right, add-mul-mod-self-right, div-lt-iff-lt-mul}
 use lib.Arith.{digits-lt}
 
 -- a number by the quotient and the remainder of its upper part
@@ -16,9 +16,17 @@ upper-quotient h l d B D = ap (λ (x : ℕ). x / d) (regroup h l d B) ∙ add-mu
 pub upper-rest : (h l d B : ℕ) → (h * B + l) % d ≡ (h % d * B + l) % d
 upper-rest h l d B = ap (λ (x : ℕ). x % d) (regroup h l d B) ∙ add-mul-mod-self-right (h % d * B + l) (h / d * B) d
 
--- the number of one step, and its quotient, which is one digit
+-- the quotient of one step is one digit
+pub quotient-lt : (r l d B : ℕ) → 0 < d → r < d → l < B → (r * B + l) / d < B
+quotient-lt r l d B D hr hl = div-lt-iff-lt-mul D .1 (subst (λ (x : ℕ). r * B + l < x) (mul-comm d B) (digits-lt hr hl))
+
+-- the number of one step, and its quotient, after a remainder
 pub step-lt : (h l d B : ℕ) → 0 < d → l < B → h % d * B + l < d * B
 step-lt h l d B D hl = digits-lt (mod-lt h D) hl
 
 pub digit-lt : (h l d B : ℕ) → 0 < d → l < B → (h % d * B + l) / d < B
-digit-lt h l d B D hl = div-lt-iff-lt-mul D .1 (subst (λ (x : ℕ). h % d * B + l < x) (mul-comm d B) (step-lt h l d B D hl))
+digit-lt h l d B D hl = quotient-lt (h % d) l d B D (mod-lt h D) hl
+
+-- a number with nothing above it
+pub alone : (n : ℕ) → 0 * 2 ^ 64 + n ≡ n
+alone n = zero-add n

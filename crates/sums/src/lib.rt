@@ -1,6 +1,6 @@
 // Sums on 64-bit words: document 01, 'Sums'. Every public function is total and says by one equation what it answers.
 ghost use mathlib.Core.Path.{_≡_};
-ghost use Prim.Native.Nat.{_+_, _*_, _/_, _^_, _≤_, _<_, min};
+ghost use Prim.Native.Nat.{_+_, _*_, _/_, _%_, _^_, _≤_, _<_, min};
 ghost use lib.IntN.{pos, natAbs};
 ghost use lib.Signed.{nonNeg, quotZ};
 ghost use mathlib.Core.Bool.{xor};
@@ -221,18 +221,57 @@ fn opposite(a: i64, b: i64) -> bool
     (a < 0) != (b < 0)
 }
 
+// A digit of a quotient by SCALE: what the digits above left, with the next one below it. SCALE stands here as a number and not
+// as an argument, so that a processor is given products and shifts.
+fn scale_digit(rest: u64, digit: u64) -> Quotient
+    requires { ⌜ (rest < SCALE) × (digit < 2 ^ 32) ⌝ }
+    ensures { λ r. ⌜ (r .quotient ≡ (rest * 2 ^ 32 + digit) / SCALE) × (r .rest ≡ (rest * 2 ^ 32 + digit) % SCALE) ⌝ }
+{
+    let n = rest * 0x1_0000_0000 + digit;
+    Quotient {
+        quotient: n / SCALE,
+        rest: n % SCALE,
+    }
+}
+
+// "Divide by the fixed 1,000,000 in 32-bit digits instead, with remainders carried": a word, below what the words above it left.
+fn scale_word(rest: u64, n: u64) -> Quotient
+    requires { ⌜ rest < SCALE ⌝ }
+    ensures { λ r. ⌜ (r .quotient ≡ (rest * 2 ^ 64 + n) / SCALE) × (r .rest ≡ (rest * 2 ^ 64 + n) % SCALE) ⌝ }
+{
+    let upper = scale_digit(rest, n / 0x1_0000_0000);
+    let lower = scale_digit(upper.rest, n % 0x1_0000_0000);
+    Quotient {
+        quotient: upper.quotient * 0x1_0000_0000 + lower.quotient,
+        rest: lower.rest,
+    }
+}
+
+// Two words over SCALE.
+fn over_scale(n: Wide) -> Wide
+    ensures { λ r. ⌜ r ≡ wide (valueOf n / SCALE) ⌝ }
+{
+    let upper = scale_word(0, n.hi);
+    let lower = scale_word(upper.rest, n.lo);
+    Wide {
+        hi: upper.quotient,
+        lo: lower.quotient,
+    }
+}
+
 // The exact product over SCALE. Most products take one word, and then so does their quotient.
 fn scaled(q: u64, p: u64) -> Wide
     ensures { λ r. ⌜ r ≡ wide (q * p / SCALE) ⌝ }
 {
     let product = mul_wide(q, p);
     if product.hi == 0 {
+        let one = scale_word(0, product.lo);
         return Wide {
             hi: 0,
-            lo: product.lo / SCALE,
+            lo: one.quotient,
         };
     }
-    div_digits(product, SCALE)
+    over_scale(product)
 }
 
 // "A value is quantity times price over SCALE, exact product, truncated toward zero, clamped to i64."
@@ -254,7 +293,14 @@ pub fn magnitude(quantity: i64, price: i64) -> i64
 pub fn whole(n: i64) -> i64
     ensures { λ r. ⌜ r ≡ quotZ n (pos SCALE) ⌝ }
 {
-    n / 1_000_000
+    let units = scale_word(0, unsigned_abs(n));
+    clamped(
+        n < 0,
+        Wide {
+            hi: 0,
+            lo: units.quotient,
+        },
+    )
 }
 
 // The price at which the quantity has this value, truncated toward zero and clamped; 0 for quantity 0.
