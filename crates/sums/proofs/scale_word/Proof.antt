@@ -2,6 +2,7 @@
 use borrow.Author.Needs.{needs}
 use Prim.Native.Nat.{ℕ, _+_, _*_, _/_, _%_, _^_, _<_}
 use mathlib.Core.Path.{_≡_, sym, ap, _∙_, subst}
+use native.Mathlib.Nat.{mod-lt}
 use native.Mathlib.Omega.{arith}
 use Rattle.sums.specs.Sums.{SCALE}
 use Rattle.sums.proofs.Division.{upper-quotient, upper-rest, quotient-lt}
@@ -30,6 +31,9 @@ module _ (r n q s p t : ℕ) (q-is : q ≡ (r * 2 ^ 32 + n / 2 ^ 32) / SCALE) (s
   rest : t ≡ (r * 2 ^ 64 + n) % SCALE
   rest = t-is ∙ ap (λ (x : ℕ). x % SCALE) below ∙ sym (upper-rest above (n % 2 ^ 32) SCALE (2 ^ 32)) ∙ ap (λ (x : ℕ). x % SCALE) (sym joined)
 
+rest-lt : (r x : ℕ) → r ≡ x % SCALE → r < SCALE
+rest-lt r x e = subst (λ (y : ℕ). y < SCALE) (sym e) (mod-lt x (omega arith))
+
 digit-is : (r l q : ℕ) → q ≡ (r * 2 ^ 32 + l) / SCALE → r < SCALE → l < 2 ^ 32 → q < 2 ^ 32
 digit-is r l q e hr hl = subst (λ (x : ℕ). x < 2 ^ 32) (sym e) (quotient-lt r l SCALE (2 ^ 32) (omega arith) hr hl)
 
@@ -45,7 +49,9 @@ module _ (c : tie.After-scale-digit2) where
   upper-digit = let s = c .before .before in digit-is _ _ _ (c .before .scale-digit .ensures .0) (s .pre) (omega (arith, s .good))
 
   lower-digit : c .scale-digit2 .result .quotient < 2 ^ 32
-  lower-digit = digit-is _ _ _ (c .scale-digit2 .ensures .0) (omega (arith, c .before .scale-digit .ensures .1)) (omega arith)
+  lower-digit =
+      let u = c .before .scale-digit in
+      digit-is (u .result .rest) (c .before .before .args .n % 2 ^ 32) _ (c .scale-digit2 .ensures .0) (rest-lt _ _ (u .ensures .1)) (mod-lt _ (omega arith))
 
 mul-t5 : tie.Need-mul-t5
 mul-t5 c = omega (arith, upper-digit (c .before))
