@@ -247,10 +247,30 @@ fn scale_word(rest: u64, n: u64) -> Quotient
     }
 }
 
-// Two words over SCALE.
+// One word over SCALE. An upper digit below SCALE gives no digit of the quotient: it is what stands before the lower one.
+fn word_over_scale(n: u64) -> u64
+    ensures { λ r. ⌜ r ≡ n / SCALE ⌝ }
+{
+    let upper = n / 0x1_0000_0000;
+    if upper < SCALE {
+        let one = scale_digit(upper, n % 0x1_0000_0000);
+        return one.quotient;
+    }
+    let both = scale_word(0, n);
+    both.quotient
+}
+
+// Two words over SCALE, and so with an upper word below SCALE.
 fn over_scale(n: Wide) -> Wide
     ensures { λ r. ⌜ r ≡ wide (valueOf n / SCALE) ⌝ }
 {
+    if n.hi < SCALE {
+        let one = scale_word(n.hi, n.lo);
+        return Wide {
+            hi: 0,
+            lo: one.quotient,
+        };
+    }
     let upper = scale_word(0, n.hi);
     let lower = scale_word(upper.rest, n.lo);
     Wide {
@@ -265,10 +285,9 @@ fn scaled(q: u64, p: u64) -> Wide
 {
     let product = mul_wide(q, p);
     if product.hi == 0 {
-        let one = scale_word(0, product.lo);
         return Wide {
             hi: 0,
-            lo: one.quotient,
+            lo: word_over_scale(product.lo),
         };
     }
     over_scale(product)
@@ -293,14 +312,8 @@ pub fn magnitude(quantity: i64, price: i64) -> i64
 pub fn whole(n: i64) -> i64
     ensures { λ r. ⌜ r ≡ quotZ n (pos SCALE) ⌝ }
 {
-    let units = scale_word(0, unsigned_abs(n));
-    clamped(
-        n < 0,
-        Wide {
-            hi: 0,
-            lo: units.quotient,
-        },
-    )
+    let units = word_over_scale(unsigned_abs(n));
+    clamped(n < 0, Wide { hi: 0, lo: units })
 }
 
 // The price at which the quantity has this value, truncated toward zero and clamped; 0 for quantity 0.

@@ -1,4 +1,4 @@
--- The upper word's quotient, and the lower word's below what the upper one leaves.
+-- The upper word's quotient, and the lower word's below what the upper one leaves; an upper word below SCALE leaves itself.
 use borrow.Author.Needs.{needs}
 use Prim.Native.Nat.{ℕ, _+_, _*_, _/_, _%_, _^_, _<_}
 use mathlib.Core.Path.{_≡_, sym, ap, _∙_, subst}
@@ -7,7 +7,7 @@ use native.Mathlib.Omega.{arith}
 use Rattle.sums.specs.Sums.{SCALE}
 use Rattle.sums.specs.Wide.{valueOf}
 use Rattle.sums.proofs.TwoWords.{words-of}
-use Rattle.sums.proofs.Division.{upper-quotient, digit-lt, alone}
+use Rattle.sums.proofs.Division.{upper-quotient, quotient-lt, digit-lt, alone}
 use Rattle.sums.proofs.over_scale.Statement.{statement}
 use Rattle.sums.proofs.over_scale.Tie as tie
 
@@ -30,12 +30,23 @@ scale-word-requires c κs = search needs
 scale-word-requires-2 : tie.Need-scale-word-requires-2
 scale-word-requires-2 c κs = search needs
 
+scale-word-requires-3 : tie.Need-scale-word-requires-3
+scale-word-requires-3 c κs = search needs
+
 returns : tie.Need-returns
 unfolding valueOf
 returns c =
-    let s = c .before .before in
-    let u = c .before .scale-word in
-    let l = c .scale-word2 in
+    let s = c .before .before .before in
+    let l : s .args .n .lo < 2 ^ 64 = omega (arith, s .good) in
+    let f = quotient-lt (s .args .n .hi) (s .args .n .lo) SCALE (2 ^ 64) (omega arith) (c .before .if1 .taken) l in
+    words-of 0 _ _ (subst (λ (x : ℕ). x < 2 ^ 64) (sym (c .scale-word .ensures .0)) f) (alone _ ∙ c .scale-word .ensures .0)
+
+returns-2 : tie.Need-returns-2
+unfolding valueOf
+returns-2 c =
+    let s = c .before .before .before .before in
+    let u = c .before .scale-word2 in
+    let l = c .scale-word3 in
     let q-is : u .result .quotient ≡ s .args .n .hi / SCALE = u .ensures .0 ∙ ap (λ (x : ℕ). x / SCALE) (alone (s .args .n .hi)) in
     let r-is : u .result .rest ≡ s .args .n .hi % SCALE = u .ensures .1 ∙ ap (λ (x : ℕ). x % SCALE) (alone (s .args .n .hi)) in
     let f : s .args .n .lo < 2 ^ 64 = omega (arith, s .good) in
@@ -44,4 +55,4 @@ returns c =
     (quotient (s .args .n .hi) (s .args .n .lo) (u .result .quotient) (u .result .rest) (l .result .quotient) f q-is r-is (l .ensures .0))
 
 pub over-scale-spec : {M : Type 1} → statement M
-over-scale-spec = tie.close (tie.spec scale-word-requires scale-word-requires-2 returns)
+over-scale-spec = tie.close (tie.spec scale-word-requires returns scale-word-requires-2 scale-word-requires-3 returns-2)

@@ -64,9 +64,10 @@ returns c =
     let d = c .before .before in
     let u = d .before .scale-digit in
     let l = d .scale-digit2 in
-    let s = d .before .before in
-    (quotient (s .args .rest) (s .args .n) (u .result .quotient) (u .result .rest) (l .result .quotient) (l .result .rest) (u .ensures .0) (u .ensures .1) (l .ensures .0) (l .ensures .1)
-    , rest (s .args .rest) (s .args .n) (u .result .quotient) (u .result .rest) (l .result .quotient) (l .result .rest) (u .ensures .0) (u .ensures .1) (l .ensures .0) (l .ensures .1))
+    let s = d .before .before in (
+      quotient (s .args .rest) (s .args .n) (u .result .quotient) (u .result .rest) (l .result .quotient) (l .result .rest) (u .ensures .0) (u .ensures .1) (l .ensures .0) (l .ensures .1),
+      rest (s .args .rest) (s .args .n) (u .result .quotient) (u .result .rest) (l .result .quotient) (l .result .rest) (u .ensures .0) (u .ensures .1) (l .ensures .0) (l .ensures .1),
+    )
 
 pub scale-word-spec : {M : Type 1} → statement M
 scale-word-spec = tie.close (tie.spec scale-digit-requires scale-digit-requires-2 mul-t5 add-t6 returns)

@@ -14,15 +14,15 @@ use Rattle.sums.proofs.scaled.Tie as tie
 mul-wide-requires : tie.Need-mul-wide-requires
 mul-wide-requires c κs = search needs
 
-scale-word-requires : tie.Need-scale-word-requires
-scale-word-requires c κs = search needs
+word-over-scale-requires : tie.Need-word-over-scale-requires
+word-over-scale-requires c κs = search needs
 
 returns : tie.Need-returns
 returns c =
     let m = c .before .before .before in
     let a = m .before .args in
     let w = one-word (m .mul-wide .result) (a .q * a .p) (m .mul-wide .ensures) (c .before .if1 .taken) in
-    let e : c .scale-word .result .quotient ≡ a .q * a .p / SCALE = c .scale-word .ensures .0 ∙ ap (λ (x : ℕ). x / SCALE) (alone _ ∙ w .0) in
+    let e : c .word-over-scale .result ≡ a .q * a .p / SCALE = c .word-over-scale .ensures ∙ ap (λ (x : ℕ). x / SCALE) (w .0) in
     words-of 0 _ _ (omega (arith, w .0, w .1, e, div-le-self (a .q * a .p) SCALE)) (alone _ ∙ e)
 
 over-scale-requires : tie.Need-over-scale-requires
@@ -34,4 +34,4 @@ returns-2 c =
     c .over-scale .ensures ∙ ap (λ (n : ℕ). wide (n / SCALE)) (ap valueOf (m .mul-wide .ensures) ∙ valueOf-wide _)
 
 pub scaled-spec : {M : Type 1} → statement M
-scaled-spec = tie.close (tie.spec mul-wide-requires scale-word-requires returns over-scale-requires returns-2)
+scaled-spec = tie.close (tie.spec mul-wide-requires word-over-scale-requires returns over-scale-requires returns-2)
