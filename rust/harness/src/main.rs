@@ -14,10 +14,11 @@ mod series;
 mod single;
 mod stack;
 mod table;
+mod values;
 
 const USAGE: &str =
     "usage: harness leaves [SEED [COUNT]] | fills [SEED [COUNT]] | single [SEED [COUNT]] | figures [SEED [COUNT]]
-    | accounts [SEED [COUNT]] | damage [SEED [COUNT]] | full | bench | bench figures | bench accounts
+    | accounts [SEED [COUNT]] | damage [SEED [COUNT]] | full | bench | bench values | bench figures | bench accounts
     | scenarios [SEED [COUNT]] | spoiled [SEED [COUNT]] | stack | table | sample write FILE | sample check FILE
     | sample accounts write FILE | sample accounts check FILE";
 
@@ -32,7 +33,8 @@ fn main() {
         ["single", ref rest @ ..] => seeded(rest, 2_000_000, single::run),
         ["figures", ref rest @ ..] => seeded(rest, 120_000, series::run),
         ["full"] => full(),
-        ["bench"] => series::bench(SEED) && bench::run(),
+        ["bench"] => values::bench(SEED) && series::bench(SEED) && bench::run(),
+        ["bench", "values"] => values::bench(SEED),
         ["bench", "figures"] => series::bench(SEED),
         ["bench", "accounts"] => bench::run(),
         ["accounts", ref rest @ ..] => seeded(rest, 8_000, account::run),
