@@ -86,7 +86,7 @@ loop-less c = omega arith
 fit-held : (d : tie.After-h Inv-loop μ-loop) → SFits w64 (getD (d .before .before .before .before .before .before .before .before .before .args .held .now) (d .before .before .before .loop .i) (pos 0))
 fit-held d = search needs
 
-fit-price : (d : tie.After-struct-told Inv-loop μ-loop) → SFits w64 (d .before .before .quote .result .price)
+fit-price : (d : tie.After-quote Inv-loop μ-loop) → SFits w64 (d .quote .result .price)
 fit-price d = search needs
 
 -- a holding that is a target adds nothing; any other adds its close
@@ -105,7 +105,7 @@ stepped c r =
     let x = counted (l .loop .count) (cols (l .loop .symbol) (l .loop .quantity) (l .loop .price) (l .loop .drift)) in
     ⊎-elim
     (λ w.
-    let fp = fit-price (record { before = record { before = record { before = record { before = c .before; if1 = w .0 }; quote = w .1 }; from-raw = w .2 }; struct-told = w .3 }) in
+    let fp = fit-price (record { before = record { before = c .before; if1 = w .0 }; quote = w .1 }) in
     let e : among k (a .targets .now) ≡ false = sym (c .before .is-target .ensures) ∙ not-true _ (w .0 .taken) in
     counted-same (w .14) (w .10) (w .11) (w .12) (w .13)
     ∙ w .9 .ensures

@@ -87,7 +87,7 @@ add-i c =
 loop-less : tie.Need-loop-less Inv-loop μ-loop
 loop-less c = omega arith
 
-fit-price : (d : tie.After-struct-told Inv-loop μ-loop) → SFits w64 (d .before .before .before .quote .result .price)
+fit-price : (d : tie.After-quote Inv-loop μ-loop) → SFits w64 (d .quote .result .price)
 fit-price d = search needs
 
 loop-again : tie.Need-loop-again Inv-loop μ-loop
@@ -96,14 +96,14 @@ loop-again c =
     let o = j .before .before .before .before .before .planned-target in
     let z = j .before .before .before .before .before .before .before .from-raw in
     let h = j .before .before .before .before .before .before .before .before .quantity-of in
-    let q = j .before .before .before .before .before .before .before .before .before .quote in
+    let q = j .before .before .before .before .before .before .before .before .before in
     let w = j .before .before .before .before .before .before .before .before .before .before .before .before in
     let l = w .before in
     let a = l .before .before .before .before .before .before .before .args in
     let t = w .loop-test .taken in
     let f = targetAt (a .s) (toZ w64 (ofZ w64 (a .equity))) (priceOf (a .symbols .now) (a .prices .now)) (take (a .n) (a .key .now)) (a .held .now) (a .targets .now) (a .weights .now) in
     let fh : SFits w64 (h .result) = record { sfits = h .ok } in
-    let fp = fit-price (j .before .before .before .before .before .before) in
+    let fp = fit-price q in
     let x = counted (l .loop .count) (cols (l .loop .symbol) (l .loop .quantity) (l .loop .price) (l .loop .drift)) in (
       omega (arith, t),
       l .loop .inv .1,
@@ -113,7 +113,7 @@ loop-again c =
           (kept-with (a .s) (f (l .loop .i)) x (j .add-order .result) (l .before .most-of .result) _ _
           (j .add-order .ensures
           ∙ ap (λ b. addedTo b (o .result) x) (l .before .before .is-capped .ensures)
-          ∙ ap (λ o. addedTo (capped (a .s)) o x) (o .ensures ∙ simp (z .ensures, toZ-ofZ fh, toZ-ofZ fp) (simp (q .ensures .settled r, h .ensures .settled k))))
+          ∙ ap (λ o. addedTo (capped (a .s)) o x) (o .ensures ∙ simp (z .ensures, toZ-ofZ fh, toZ-ofZ fp) (simp (q .quote .ensures .settled r, h .ensures .settled k))))
           (l .before .most-of .ensures)
           (c .used2 .ensures))
           (l .loop .inv .3 r k),
