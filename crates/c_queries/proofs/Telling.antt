@@ -18,13 +18,16 @@ use Rattle.list_bytes.specs.Records.{putAll}
 use Rattle.list_bytes.proofs.Puts.{put-all-fronts}
 use Rattle.portfolio.specs.Answers.{isDone, queryAnswer}
 use Rattle.portfolio.specs.Queries.{toldEquity}
+use Rattle.account.specs.declared.query.Cents.{Cents}
 use Rattle.queries.specs.declared.answered.Snapshot.{Snapshot}
+use Rattle.queries.specs.declared.answered.Unpriced.{Unpriced}
 use Rattle.queries.specs.declared.answered.Weights.{Weights}
 use Rattle.queries.specs.Queries.{Weight}
 use Rattle.queries.specs.Answers.{weighed, answeredWeights, weightsNow, toldUnpriced, toldWeights, toldSnapshot, noSnapshot}
 use Rattle.queries.proofs.Snapshots.{weights-told}
-use Rattle.c_queries.specs.Told.{refusing, refusingBoth}
+use Rattle.c_queries.specs.Told.{Told, tell, refusing, ToldBoth, tellBoth, refusingBoth}
 use Rattle.c_queries.specs.Reports.{equityTold, unpricedTold, weightsTold, snapshotTold}
+use Rattle.c_queries.proofs.Asking.{Query}
 
 -- ---- words over all of what is lent
 put-full : (ws l : List ℕ) → length l ≡ 8 * length ws → putAll l 0 ws ≡ bytesOf ws
@@ -75,7 +78,7 @@ module _ (a : Account) (ss : List ℕ) (vs : List ℤ) where
   pub few-in-snapshot : {r : Snapshot} → r ≡ toldSnapshot a ss vs → length (r .weights .symbol) ≡ 64 → r .weights .count ≤ 64
   few-in-snapshot {r} e n = few-weights {r = answeredWeights (r .answer) (r .weights)} (ap (λ (k : Snapshot). answeredWeights (k .answer) (k .weights)) e ∙ weights-told a ss vs) n
 
--- ---- "the account is not sound"
+-- ---- the queries, each of which tells "the account is not sound" itself
 module _ (out : List ℕ) (a : Account) (ss : List ℕ) (vs : List ℤ) (h : soundAccount a ≡ false) where
   pub equity-unsound : equityTold (toldEquity a ss vs) out ≡ refusing out Unsound
   unfolding equityTold toldEquity queryAnswer
@@ -89,6 +92,19 @@ module _ (out : List ℕ) (a : Account) (ss : List ℕ) (vs : List ℤ) (h : sou
   unfolding weightsTold toldWeights queryAnswer
   weights-unsound = simp h
 
-  pub snapshot-unsound : (figures : List ℕ) → snapshotTold (toldSnapshot a ss vs) figures out ≡ refusingBoth figures out Unsound
+  pub snapshot-unsound : (weights : List ℕ) → snapshotTold (toldSnapshot a ss vs) out weights ≡ refusingBoth out weights Unsound
   unfolding snapshotTold toldSnapshot noSnapshot queryAnswer
-  snapshot-unsound figures = simp h
+  snapshot-unsound weights = simp h
+
+abbrev pub equity-query : List ℕ → Query Cents Told
+equity-query out = record { gives = toldEquity; tells = λ c. equityTold c out; leaves = λ n. tell n out; unsound = equity-unsound out }
+
+abbrev pub unpriced-query : List ℕ → Query Unpriced Told
+unpriced-query out = record { gives = toldUnpriced; tells = λ u. unpricedTold u out; leaves = λ n. tell n out; unsound = unpriced-unsound out }
+
+abbrev pub weights-query : List ℕ → Query Weights Told
+weights-query out = record { gives = toldWeights; tells = λ w. weightsTold w out; leaves = λ n. tell n out; unsound = weights-unsound out }
+
+abbrev pub snapshot-query : List ℕ → List ℕ → Query Snapshot ToldBoth
+snapshot-query figures weights =
+    record { gives = toldSnapshot; tells = λ s. snapshotTold s figures weights; leaves = λ n. tellBoth n figures weights; unsound = λ a ss vs h. snapshot-unsound figures a ss vs h weights }
