@@ -44,17 +44,10 @@ pub two-puts : (l : List ℕ) (u v : ℕ) → length l ≡ 16 → putWord (putWo
 unfolding putAll
 two-puts l u v e = put-full (u ∷ v ∷ []) l e
 
-pub five-puts : (l : List ℕ) (u v x y z : ℕ) → length l ≡ 40 → putWord (putWord (putWord (putWord (putWord l 0 u) 1 v) 2 x) 3 y) 4 z ≡ bytesOf (u ∷ v ∷ x ∷ y ∷ z ∷ [])
+-- one word after those of the figures
+pub five-puts : (l : List ℕ) (u v x y z : ℕ) → length l ≡ 40 → putWord (putAll l 0 (u ∷ v ∷ x ∷ y ∷ [])) 4 z ≡ bytesOf (u ∷ v ∷ x ∷ y ∷ z ∷ [])
 unfolding putAll
 five-puts l u v x y z e = put-full (u ∷ v ∷ x ∷ y ∷ z ∷ []) l e
-
--- the same as code puts them
-pub five-written : (l : List ℕ) (u v x y z : ℕ) {a b c d e : List ℕ} → length l ≡ 40
-    → a ≡ putWord l 0 u → b ≡ putWord a 1 v → c ≡ putWord b 2 x → d ≡ putWord c 3 y → e ≡ putWord d 4 z → e ≡ bytesOf (u ∷ v ∷ x ∷ y ∷ z ∷ [])
-five-written l u v x y z n ea eb ec ed ee =
-    ee
-    ∙ ap (λ (k : List ℕ). putWord k 4 z) (ed ∙ ap (λ (k : List ℕ). putWord k 3 y) (ec ∙ ap (λ (k : List ℕ). putWord k 2 x) (eb ∙ ap (λ (k : List ℕ). putWord k 1 v) ea)))
-    ∙ five-puts l u v x y z n
 
 -- ---- weights that stand in columns of 64 places are no more than 64
 few-weighed : (l : List Weight) → length (weighed l .symbol) ≡ 64 → weighed l .count ≤ 64
