@@ -25,7 +25,7 @@ use Rattle.account.proofs.SoundAccounts.{zero-unsound}
 use Rattle.account_bytes.specs.Sizes.{accountLength}
 use Rattle.account_bytes.specs.Account.{gotAccount, noAccount, accountOf, holdAccount, readAccount, writtenAccount}
 use Rattle.account_bytes.proofs.AccountKept.{good-long}
-use Rattle.c_accounts.specs.Entries.{accountIn, soundIn, accountBytes, told, answering, unlessUnsound}
+use Rattle.c_accounts.specs.Entries.{accountIn, soundIn, accountBytes, Told, told, answering}
 use Rattle.c_accounts.specs.Setters.{setIn, filed}
 
 -- ---- bytes that hold no account
@@ -47,43 +47,44 @@ unfolding writtenAccount accountBytes
 written-sound a b e = simp (sound-length b e)
 
 -- ---- a setter's answer, filed
-set-by : (t g : Bool) (s : Settings) (b : List ℕ) → soundIn b ≡ t → goodSettings s ≡ g →
-    filed (pick t (pick g (answered Done (withSettings s (accountIn b))) (answered BadSetting (accountIn b))) (answered Unsound (accountIn b))) b
-    ≡ pick t (pick g (answering Done (accountBytes (withSettings s (accountIn b)))) (answering BadSetting b)) (answering Unsound b)
+set-by : (t k g : Bool) (s : Settings) (b : List ℕ) → soundIn b ≡ t →
+    filed k (pick t (pick g (answered Done (withSettings s (accountIn b))) (answered BadSetting (accountIn b))) (answered Unsound (accountIn b))) b
+    ≡ pick t (pick (both k g) (answering Done (accountBytes (withSettings s (accountIn b)))) (answering BadSetting b)) (answering Unsound b)
 unfolding filed
-set-by true true s b e f = ap (told 0) (written-sound (withSettings s (accountIn b)) b e)
-set-by true false s b e f = refl
-set-by false g s b e f = refl
+set-by true true true s b e = ap (told 0) (written-sound (withSettings s (accountIn b)) b e)
+set-by true true false s b e = refl
+set-by true false true s b e = refl
+set-by true false false s b e = refl
+set-by false k g s b e = refl
 
-pub set-filed : (given : Bool) (s : Settings) (b : List ℕ) → given ≡ true → filed (changed s (accountIn b)) b ≡ setIn given s b
+set-filed : (given : Bool) (s : Settings) (b : List ℕ) → filed given (changed s (accountIn b)) b ≡ setIn given s b
 unfolding changed setIn
-set-filed given s b k = simp (k, ← sound-in b) (set-by (soundIn b) (goodSettings s) s b refl refl)
+set-filed given s b = simp (← sound-in b) (set-by (soundIn b) given (goodSettings s) s b refl)
 
--- the same over what the calls gave
-pub set-done : (given : Bool) (f : Settings → Settings) (b : List ℕ) (a : Account) (c : Changed) → a ≡ accountIn b → c ≡ changed (f (a .settings)) a → given ≡ true → filed c b ≡ setIn given (f (accountIn b .settings)) b
-set-done given f b a c e h k = ap (λ (x : Changed). filed x b) (h ∙ ap (λ (x : Account). changed (f (x .settings)) x) e) ∙ set-filed given (f (accountIn b .settings)) b k
+-- the same over what the code of every setter has: the account that was read, what was made of it, and what was filed
+pub set-done : (f : Settings → Settings) (b : List ℕ) {k given : Bool} {a : Account} {c : Changed} {t : Told}
+    → a ≡ accountIn b → c ≡ changed (f (a .settings)) a → k ≡ given → t ≡ filed k c b → t ≡ setIn given (f (accountIn b .settings)) b
+set-done f b {k} {given} e h g w =
+    w
+    ∙ ap (λ (x : Changed). filed k x b) (h ∙ ap (λ (x : Account). changed (f (x .settings)) x) e)
+    ∙ ap (λ (x : Bool). filed x (changed (f (accountIn b .settings)) (accountIn b)) b) g
+    ∙ set-filed given (f (accountIn b .settings)) b
 
 -- where a signed number is given, through the bits that hold it
-pub set-number-done : (f : ℤ → Settings → Settings) (z : ℤ) (b : List ℕ) (a : Account) (c : Changed) → SFits w64 z → a ≡ accountIn b → c ≡ changed (f (toZ w64 (ofZ w64 z)) (a .settings)) a → filed c b ≡ setIn true (f z (accountIn b .settings)) b
-set-number-done f z b a c k e h = set-done true (f z) b a c e (h ∙ ap (λ (x : ℤ). changed (f x (a .settings)) a) (toZ-ofZ w64 z k)) refl
-
--- what is given is refused by itself
-refused-by : (t : Bool) (s : Settings) (b : List ℕ) → told (numberOf (pick t BadSetting Unsound)) b ≡ pick t (answering BadSetting b) (answering Unsound b)
-refused-by true s b = refl
-refused-by false s b = refl
-
-pub set-refused : (given : Bool) (s : Settings) (b : List ℕ) → given ≡ false → told (numberOf (unlessUnsound (accountIn b) BadSetting)) b ≡ setIn given s b
-unfolding setIn
-set-refused given s b k = simp (k, ← sound-in b) (refused-by (soundIn b) s b)
-
-pub set-not-done : (given : Bool) (s : Settings) (b : List ℕ) (a : Account) (n : ℕ) → a ≡ accountIn b → n ≡ numberOf (unlessUnsound a BadSetting) → given ≡ false → told n b ≡ setIn given s b
-set-not-done given s b a n e h k = ap (λ (x : ℕ). told x b) (h ∙ ap (λ (x : Account). numberOf (unlessUnsound x BadSetting)) e) ∙ set-refused given s b k
+pub set-number-done : (f : ℤ → Settings → Settings) {z : ℤ} (b : List ℕ) {a : Account} {c : Changed} {t : Told}
+    → SFits w64 z → a ≡ accountIn b → c ≡ changed (f (toZ w64 (ofZ w64 z)) (a .settings)) a → t ≡ filed true c b → t ≡ setIn true (f z (accountIn b .settings)) b
+set-number-done f {z} b {a} k e h w = set-done (f z) b e (h ∙ ap (λ (x : ℤ). changed (f x (a .settings)) a) (toZ-ofZ w64 z k)) refl w
 
 -- ---- the writing back
-pub file-done : (n : ℕ) (c : Changed) (b l : List ℕ) → n ≡ numberOf (c .answer) → n ≡ 0 → l ≡ writtenAccount (c .account) b → told n l ≡ filed c b
-unfolding filed
-file-done n c b l e z w = let q : numberOf (c .answer) ≡ 0 = sym e ∙ z in simp (q, z, w)
+module _ (given : Bool) (n : ℕ) (c : Changed) (b : List ℕ) (e : n ≡ numberOf (c .answer)) where
+  pub file-not-done : (n ≡ 0 → ⊥) → told n b ≡ filed given c b
+  unfolding filed
+  file-not-done z = simp (← e, ne-eqb n 0 z)
 
-pub file-not-done : (n : ℕ) (c : Changed) (b : List ℕ) → n ≡ numberOf (c .answer) → (n ≡ 0 → ⊥) → told n b ≡ filed c b
-unfolding filed
-file-not-done n c b e z = simp (← e, ne-eqb n 0 z)
+  pub file-bad : n ≡ 0 → given ≡ false → answering BadSetting b ≡ filed given c b
+  unfolding filed
+  file-bad z g = let q : numberOf (c .answer) ≡ 0 = sym e ∙ z in simp (q, g)
+
+  pub file-done : n ≡ 0 → given ≡ true → (l : List ℕ) → l ≡ writtenAccount (c .account) b → told n l ≡ filed given c b
+  unfolding filed
+  file-done z g l w = let q : numberOf (c .answer) ≡ 0 = sym e ∙ z in simp (q, z, g, w)

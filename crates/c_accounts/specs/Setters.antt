@@ -24,6 +24,9 @@ setIn given s b =
     (answering Unsound b)
 
 -- ---- what the code does
--- a call's account is written after 0 alone
-unfoldable pub filed : Changed → List ℕ → Told
-filed c b = told (numberOf (c .answer)) (pick (eqb (numberOf (c .answer)) 0) (writtenAccount (c .account) b) b)
+-- a call's account is written after 0 alone, and where what is given is good
+unfoldable pub filed : Bool → Changed → List ℕ → Told
+filed given c b =
+    pick (eqb (numberOf (c .answer)) 0)
+    (pick given (told 0 (writtenAccount (c .account) b)) (answering BadSetting b))
+    (told (numberOf (c .answer)) b)

@@ -7,11 +7,9 @@ ghost use Rattle.c_accounts.specs.Entries.{settingsIn, told};
 ghost use Rattle.c_accounts.specs.Setters.{setIn};
 use crate::filed::account_in;
 use crate::filed::file;
-use crate::filed::unless_unsound;
 use account_bytes::cap_of;
 use account_bytes::is_cap;
 use account_bytes::is_flag;
-use answer::Answer;
 
 #[no_mangle]
 pub extern "C" fn tc_set_quantity_step(account: &mut [u8], micro_shares: i64) -> u64
@@ -19,7 +17,7 @@ pub extern "C" fn tc_set_quantity_step(account: &mut [u8], micro_shares: i64) ->
 {
     let a = account_in(account);
     let c = a.set_quantity_step(micro_shares);
-    file(c, account)
+    file(true, c, account)
 }
 
 #[no_mangle]
@@ -28,7 +26,7 @@ pub extern "C" fn tc_set_min_order_value(account: &mut [u8], cents: i64) -> u64
 {
     let a = account_in(account);
     let c = a.set_min_order_value(cents);
-    file(c, account)
+    file(true, c, account)
 }
 
 #[no_mangle]
@@ -37,7 +35,7 @@ pub extern "C" fn tc_set_max_order_value(account: &mut [u8], cents: i64) -> u64
 {
     let a = account_in(account);
     let c = a.set_max_order_value(cents);
-    file(c, account)
+    file(true, c, account)
 }
 
 // A double that is no number is a band that is bad: 1.
@@ -47,7 +45,7 @@ pub extern "C" fn tc_set_no_trade_band_bps(account: &mut [u8], bps: f64) -> u64
 {
     let a = account_in(account);
     let c = a.set_no_trade_band_bps(bps);
-    file(c, account)
+    file(true, c, account)
 }
 
 // The mark 1 sets the cap; the mark 0 lifts it, and the cap is then 0.
@@ -56,11 +54,8 @@ pub extern "C" fn tc_set_max_trades_per_rebalance(account: &mut [u8], mark: u64,
     ensures { λ r. ⌜ told r (now (account .exit)) ≡ setIn (isCap mark cap) (withTradeCap (capOf mark cap) (settingsIn (now (account .entry)))) (now (account .entry)) ⌝ }
 {
     let a = account_in(account);
-    if !is_cap(mark, cap) {
-        return unless_unsound(a, Answer::BadSetting);
-    }
     let c = a.set_max_trades_per_rebalance(cap_of(mark, cap));
-    file(c, account)
+    file(is_cap(mark, cap), c, account)
 }
 
 #[no_mangle]
@@ -69,7 +64,7 @@ pub extern "C" fn tc_set_max_rebalance_notional(account: &mut [u8], cents: i64) 
 {
     let a = account_in(account);
     let c = a.set_max_rebalance_notional(cents);
-    file(c, account)
+    file(true, c, account)
 }
 
 // 1 turns recording on, 0 off; another number is no flag: 1.
@@ -78,11 +73,8 @@ pub extern "C" fn tc_set_recording(account: &mut [u8], flag: u64) -> u64
     ensures { λ r. ⌜ told r (now (account .exit)) ≡ setIn (isFlag flag) (withRecording (flagOf flag) (settingsIn (now (account .entry)))) (now (account .entry)) ⌝ }
 {
     let a = account_in(account);
-    if !is_flag(flag) {
-        return unless_unsound(a, Answer::BadSetting);
-    }
     let c = a.set_recording(flag == 1);
-    file(c, account)
+    file(is_flag(flag), c, account)
 }
 
 #[no_mangle]
@@ -90,9 +82,6 @@ pub extern "C" fn tc_set_cash_first(account: &mut [u8], flag: u64) -> u64
     ensures { λ r. ⌜ told r (now (account .exit)) ≡ setIn (isFlag flag) (withCashFirst (flagOf flag) (settingsIn (now (account .entry)))) (now (account .entry)) ⌝ }
 {
     let a = account_in(account);
-    if !is_flag(flag) {
-        return unless_unsound(a, Answer::BadSetting);
-    }
     let c = a.set_cash_first(flag == 1);
-    file(c, account)
+    file(is_flag(flag), c, account)
 }

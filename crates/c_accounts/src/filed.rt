@@ -27,15 +27,19 @@ pub(crate) fn unless_unsound(a: Account, answer: Answer) -> u64
     answer::number(Answer::Unsound)
 }
 
-// The account after a call that was done; after another the bytes stay.
-pub(crate) fn file(c: Changed, bytes: &mut [u8]) -> u64
-    ensures { λ r. ⌜ told r (now (bytes .exit)) ≡ filed c (now (bytes .entry)) ⌝ }
+// The account after a call that was done, unless what it was given is no mark or flag; else the bytes stay.
+pub(crate) fn file(given: bool, c: Changed, bytes: &mut [u8]) -> u64
+    ensures { λ r. ⌜ told r (now (bytes .exit)) ≡ filed given c (now (bytes .entry)) ⌝ }
 {
     let answer = c.answer;
     let number = answer::number(answer);
-    if number == 0 {
-        let a = c.account;
-        write_account(a, bytes);
+    if number != 0 {
+        return number;
     }
+    if !given {
+        return answer::number(Answer::BadSetting);
+    }
+    let a = c.account;
+    write_account(a, bytes);
     number
 }

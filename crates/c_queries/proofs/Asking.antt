@@ -1,13 +1,16 @@
--- The code's order of tests and document 01's answer the same, since a query tells an unsound account itself.
+-- Every query with prices is one law: the code's order of tests and document 01's answer the same, since a query tells an unsound account itself.
 use Prim.Native.Nat.{ℕ, _≤_}
 use mathlib.Core.Path.{_≡_, refl, sym, ap, _∙_}
-use mathlib.Core.Bool.{Bool, true, false}
+use mathlib.Core.Bool.{Bool, true, false, not}
 use mathlib.Core.List.{List}
 use native.Mathlib.Omega.{arith}
 use lib.IntN.{ℤ}
 use lib.ListN.{length, take}
+use lib.Seq.{length-take-le}
+use borrow.Author.Tests.{not-true, not-false}
 use Rattle.answer.specs.declared.Answer.{Answer}
 use Rattle.answer.specs.declared.Answer.the-variants.{Done, TooLong, Unsound}
+use Rattle.answer.specs.Numbers.{numberOf}
 use Rattle.table.specs.Keyed.{pick, both}
 use Rattle.table.proofs.Keyed.{both-true}
 use Rattle.call_lists.specs.Checks.{unless}
@@ -33,67 +36,106 @@ sound-in : (b : List ℕ) → soundIn b ≡ soundAccount (accountIn b)
 unfolding soundIn readAccount
 sound-in b = good-or-zero (holdAccount b) (accountOf (wordsOf b))
 
--- ---- prices
-pub prices-few : (ps : List ℕ) {p : Prices} → p ≡ pricesOf ps → p .count ≤ 128
-unfolding pricesOf
-prices-few ps e = omega (arith, ap (λ (p : Prices). p .count) e, count-small 128 (length ps))
-
-whole-is : (ps : List ℕ) → pricesOf ps .whole ≡ wholeList 128 ps
-unfolding pricesOf
-whole-is ps = refl
-
--- ---- a query that is made was given a whole list and room
+-- ---- by soundness, and by the lengths
 made : (s t : Bool) → isDone (pick t Done (unless s Unsound TooLong)) ≡ true → t ≡ true
 made s true e = refl
 made true false e = e
 made false false e = e
 
-pub has-room : (a : Account) (w t : Bool) {k : Answer} → k ≡ early a w t → isDone k ≡ true → t ≡ true
-unfolding early
-has-room a w t e d = both-true w t (made (soundAccount a) (both w t) (sym (ap isDone e) ∙ d)) .1
+by-tests : {X : Type 0} (refuse : Answer → X) (call : X) (s t : Bool) → (s ≡ false → call ≡ refuse Unsound) → let first = pick t Done (unless s Unsound TooLong) in
+    pick (isDone first) call (refuse first) ≡ pick s (pick t call (refuse TooLong)) (refuse Unsound)
+by-tests refuse call true true h = refl
+by-tests refuse call true false h = refl
+by-tests refuse call false true h = h refl
+by-tests refuse call false false h = refl
 
--- by soundness, and by the lengths
-module _ {X : Type 0} (refuse : Answer → X) (call : X) where
-  by-tests : (s t : Bool) → (s ≡ false → call ≡ refuse Unsound) → let first = pick t Done (unless s Unsound TooLong) in
-      pick (isDone first) call (refuse first) ≡ pick s (pick t call (refuse TooLong)) (refuse Unsound)
-  by-tests true true h = refl
-  by-tests true false h = refl
-  by-tests false true h = h refl
-  by-tests false false h = refl
+-- ---- what the code of a query has read, and its answer by the tests
+pub record Read : Type 0 where
+  pub bytes : List ℕ
+  pub list : List ℕ
+  pub fits : Bool
+  pub account : Account
+  pub prices : Prices
+  pub answer : Answer
+  pub account-is : account ≡ accountIn bytes
+  pub prices-are : prices ≡ pricesOf list
+  pub answer-is : answer ≡ early account (prices .whole) fits
 
-  asked-early : (b ps : List ℕ) (fits : Bool) → (soundAccount (accountIn b) ≡ false → call ≡ refuse Unsound)
-      → pick (isDone (early (accountIn b) (wholeList 128 ps) fits)) call (refuse (early (accountIn b) (wholeList 128 ps) fits)) ≡ asked refuse b ps fits call
-  unfolding early asked
-  asked-early b ps fits h = rw (sound-in b) (by-tests (soundAccount (accountIn b)) (both (wholeList 128 ps) fits) h)
+abbrev pub read : (b ps : List ℕ) (fits : Bool) {a : Account} {p : Prices} {w : Answer} → a ≡ accountIn b → p ≡ pricesOf ps → w ≡ early a (p .whole) fits → Read
+read b ps fits {a} {p} {w} ea ep ew = record { bytes = b; list = ps; fits = fits; account = a; prices = p; answer = w; account-is = ea; prices-are = ep; answer-is = ew }
 
--- a query of an account at prices, which refuses an unsound account, over what was read
-module _ {X : Type 0} (refuse : Answer → X) (call : Account → List ℕ → List ℤ → X)
-    (unsound : (a : Account) (ss : List ℕ) (vs : List ℤ) → soundAccount a ≡ false → call a ss vs ≡ refuse Unsound)
-    (b ps : List ℕ) (fits : Bool) {a : Account} {p : Prices} {w : Answer}
-    (ea : a ≡ accountIn b) (ep : p ≡ pricesOf ps) (ew : w ≡ early a (p .whole) fits) where
-  abbrev whole-call : X
-  whole-call = call (accountIn b) (symbolsIn ps) (pricesIn ps)
+module _ (r : Read) where
+  pub few-prices : r .prices .count ≤ 128
+  unfolding pricesOf
+  few-prices = omega (arith, ap (λ (p : Prices). p .count) (r .prices-are), count-small 128 (length (r .list)))
 
-  answer-is : w ≡ early (accountIn b) (wholeList 128 ps) fits
-  answer-is = ew ∙ ap (λ (k : Account). early k (p .whole) fits) ea ∙ ap (λ (t : Bool). early (accountIn b) t fits) (ap (λ (k : Prices). k .whole) ep ∙ whole-is ps)
+  whole-is : r .prices .whole ≡ wholeList 128 (r .list)
+  unfolding pricesOf
+  whole-is = ap (λ (p : Prices). p .whole) (r .prices-are)
 
-  all-tests : pick (isDone w) whole-call (refuse w) ≡ asked refuse b ps fits whole-call
-  all-tests = ap (λ (k : Answer). pick (isDone k) whole-call (refuse k)) answer-is ∙ asked-early refuse whole-call b ps fits (unsound (accountIn b) (symbolsIn ps) (pricesIn ps))
+  abbrev tests : Bool
+  tests = both (wholeList 128 (r .list)) (r .fits)
 
-  pub refused-early : isDone w ≡ false → refuse w ≡ asked refuse b ps fits whole-call
-  refused-early d = sym (ap (λ (t : Bool). pick t whole-call (refuse w)) d) ∙ all-tests
-
-  tests-hold : isDone w ≡ true → both (wholeList 128 ps) fits ≡ true
+  answer-by : r .answer ≡ pick tests Done (unless (soundAccount (accountIn (r .bytes))) Unsound TooLong)
   unfolding early
-  tests-hold d = made (soundAccount (accountIn b)) (both (wholeList 128 ps) fits) (sym (ap isDone answer-is) ∙ d)
+  answer-by = r .answer-is ∙ ap (λ (a : Account). early a (r .prices .whole) (r .fits)) (r .account-is) ∙ ap (λ (t : Bool). early (accountIn (r .bytes)) t (r .fits)) whole-is
 
-  pub done-early : isDone w ≡ true → call a (take (p .count) (p .symbol)) (take (p .count) (p .price)) ≡ asked refuse b ps fits whole-call
-  done-early d =
-      let t = both-true (wholeList 128 ps) fits (tests-hold d) .0 in
-      let ss : take (p .count) (p .symbol) ≡ symbolsIn ps = ap (λ (k : Prices). take (k .count) (k .symbol)) ep ∙ price-symbols ps t in
-      let vs : take (p .count) (p .price) ≡ pricesIn ps = ap (λ (k : Prices). take (k .count) (k .price)) ep ∙ price-prices ps t in
-      ap (λ (k : Account). call k (take (p .count) (p .symbol)) (take (p .count) (p .price))) ea
-      ∙ ap (λ (k : List ℕ). call (accountIn b) k (take (p .count) (p .price))) ss
-      ∙ ap (call (accountIn b) (symbolsIn ps)) vs
-      ∙ sym (ap (λ (t : Bool). pick t whole-call (refuse w)) d)
+  -- a query that is made was given a whole list and room
+  tests-hold : isDone (r .answer) ≡ true → tests ≡ true
+  tests-hold d = made (soundAccount (accountIn (r .bytes))) tests (sym (ap isDone answer-by) ∙ d)
+
+  pub has-room : {t : Bool} → t ≡ isDone (r .answer) → not t ≡ false → r .fits ≡ true
+  has-room {t} d n = both-true (wholeList 128 (r .list)) (r .fits) (tests-hold (sym d ∙ not-false t n)) .1
+
+-- ---- as many prices as were read are lent
+pub record Lent (p : Prices) : Type 0 where
+  pub symbols-room : p .count ≤ length (p .symbol)
+  pub symbols-long : p .count ≡ length (take (p .count) (p .symbol))
+  pub prices-room : p .count ≤ length (p .price)
+  pub prices-long : p .count ≡ length (take (p .count) (p .price))
+
+pub lent : (p : Prices) → length (p .symbol) ≡ 128 → length (p .price) ≡ 128 → p .count ≤ 128 → Lent p
+lent p es ep h =
+    record {
+      symbols-room = omega arith;
+      symbols-long = sym (length-take-le (p .count) (p .symbol) (omega arith));
+      prices-room = omega arith;
+      prices-long = sym (length-take-le (p .count) (p .price) (omega arith));
+    }
+
+-- ---- what a query tells of what an account at prices gives, and what a refusal leaves, as of an account that is not sound
+pub record Query (X Y : Type 0) : Type 0 where
+  pub gives : Account → List ℕ → List ℤ → X
+  pub tells : X → Y
+  pub leaves : ℕ → Y
+  pub unsound : (a : Account) (ss : List ℕ) (vs : List ℤ) → soundAccount a ≡ false → tells (gives a ss vs) ≡ leaves (numberOf Unsound)
+
+module _ {X Y : Type 0} (q : Query X Y) (r : Read) {t : Bool} (d : t ≡ isDone (r .answer)) where
+  abbrev refuse : Answer → Y
+  refuse w = q .leaves (numberOf w)
+
+  abbrev call : Y
+  call = q .tells (q .gives (accountIn (r .bytes)) (symbolsIn (r .list)) (pricesIn (r .list)))
+
+  all-tests : pick t call (refuse (r .answer)) ≡ asked refuse (r .bytes) (r .list) (r .fits) call
+  unfolding asked
+  all-tests =
+      ap (λ (k : Bool). pick k call (refuse (r .answer))) d
+      ∙ ap (λ (k : Answer). pick (isDone k) call (refuse k)) (answer-by r)
+      ∙ rw (sound-in (r .bytes)) (by-tests refuse call (soundAccount (accountIn (r .bytes))) (tests r) (q .unsound (accountIn (r .bytes)) (symbolsIn (r .list)) (pricesIn (r .list))))
+
+  pub refused-query : not t ≡ true → {n : ℕ} → n ≡ numberOf (r .answer) → q .leaves n ≡ asked refuse (r .bytes) (r .list) (r .fits) call
+  refused-query n e = ap (q .leaves) e ∙ sym (ap (λ (k : Bool). pick k call (refuse (r .answer))) (not-true t n)) ∙ all-tests
+
+  pub made-query : not t ≡ false → {x : X} → x ≡ q .gives (r .account) (take (r .prices .count) (r .prices .symbol)) (take (r .prices .count) (r .prices .price)) → q .tells x ≡ asked refuse (r .bytes) (r .list) (r .fits) call
+  made-query n e =
+      let w = both-true (wholeList 128 (r .list)) (r .fits) (tests-hold r (sym d ∙ not-false t n)) .0 in
+      let ss : take (r .prices .count) (r .prices .symbol) ≡ symbolsIn (r .list) = ap (λ (k : Prices). take (k .count) (k .symbol)) (r .prices-are) ∙ price-symbols (r .list) w in
+      let vs : take (r .prices .count) (r .prices .price) ≡ pricesIn (r .list) = ap (λ (k : Prices). take (k .count) (k .price)) (r .prices-are) ∙ price-prices (r .list) w in
+      ap (q .tells)
+      (e
+      ∙ ap (λ (k : Account). q .gives k (take (r .prices .count) (r .prices .symbol)) (take (r .prices .count) (r .prices .price))) (r .account-is)
+      ∙ ap (λ (k : List ℕ). q .gives (accountIn (r .bytes)) k (take (r .prices .count) (r .prices .price))) ss
+      ∙ ap (q .gives (accountIn (r .bytes)) (symbolsIn (r .list))) vs)
+      ∙ sym (ap (λ (k : Bool). pick k call (refuse (r .answer))) (not-false t n))
       ∙ all-tests

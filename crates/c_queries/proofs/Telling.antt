@@ -18,13 +18,16 @@ use Rattle.list_bytes.specs.Records.{putAll}
 use Rattle.list_bytes.proofs.Puts.{put-all-fronts}
 use Rattle.portfolio.specs.Answers.{isDone, queryAnswer}
 use Rattle.portfolio.specs.Queries.{toldEquity}
+use Rattle.account.specs.declared.query.Cents.{Cents}
 use Rattle.queries.specs.declared.answered.Snapshot.{Snapshot}
+use Rattle.queries.specs.declared.answered.Unpriced.{Unpriced}
 use Rattle.queries.specs.declared.answered.Weights.{Weights}
 use Rattle.queries.specs.Queries.{Weight}
 use Rattle.queries.specs.Answers.{weighed, answeredWeights, weightsNow, toldUnpriced, toldWeights, toldSnapshot, noSnapshot}
 use Rattle.queries.proofs.Snapshots.{weights-told}
-use Rattle.c_queries.specs.Told.{refusing, refusingBoth}
+use Rattle.c_queries.specs.Told.{Told, tell, refusing, ToldBoth, tellBoth, refusingBoth}
 use Rattle.c_queries.specs.Reports.{equityTold, unpricedTold, weightsTold, snapshotTold}
+use Rattle.c_queries.proofs.Asking.{Query}
 
 -- ---- words over all of what is lent
 put-full : (ws l : List ℕ) → length l ≡ 8 * length ws → putAll l 0 ws ≡ bytesOf ws
@@ -41,17 +44,10 @@ pub two-puts : (l : List ℕ) (u v : ℕ) → length l ≡ 16 → putWord (putWo
 unfolding putAll
 two-puts l u v e = put-full (u ∷ v ∷ []) l e
 
-pub five-puts : (l : List ℕ) (u v x y z : ℕ) → length l ≡ 40 → putWord (putWord (putWord (putWord (putWord l 0 u) 1 v) 2 x) 3 y) 4 z ≡ bytesOf (u ∷ v ∷ x ∷ y ∷ z ∷ [])
+-- one word after those of the figures
+pub five-puts : (l : List ℕ) (u v x y z : ℕ) → length l ≡ 40 → putWord (putAll l 0 (u ∷ v ∷ x ∷ y ∷ [])) 4 z ≡ bytesOf (u ∷ v ∷ x ∷ y ∷ z ∷ [])
 unfolding putAll
 five-puts l u v x y z e = put-full (u ∷ v ∷ x ∷ y ∷ z ∷ []) l e
-
--- the same as code puts them
-pub five-written : (l : List ℕ) (u v x y z : ℕ) {a b c d e : List ℕ} → length l ≡ 40
-    → a ≡ putWord l 0 u → b ≡ putWord a 1 v → c ≡ putWord b 2 x → d ≡ putWord c 3 y → e ≡ putWord d 4 z → e ≡ bytesOf (u ∷ v ∷ x ∷ y ∷ z ∷ [])
-five-written l u v x y z n ea eb ec ed ee =
-    ee
-    ∙ ap (λ (k : List ℕ). putWord k 4 z) (ed ∙ ap (λ (k : List ℕ). putWord k 3 y) (ec ∙ ap (λ (k : List ℕ). putWord k 2 x) (eb ∙ ap (λ (k : List ℕ). putWord k 1 v) ea)))
-    ∙ five-puts l u v x y z n
 
 -- ---- weights that stand in columns of 64 places are no more than 64
 few-weighed : (l : List Weight) → length (weighed l .symbol) ≡ 64 → weighed l .count ≤ 64
@@ -75,7 +71,7 @@ module _ (a : Account) (ss : List ℕ) (vs : List ℤ) where
   pub few-in-snapshot : {r : Snapshot} → r ≡ toldSnapshot a ss vs → length (r .weights .symbol) ≡ 64 → r .weights .count ≤ 64
   few-in-snapshot {r} e n = few-weights {r = answeredWeights (r .answer) (r .weights)} (ap (λ (k : Snapshot). answeredWeights (k .answer) (k .weights)) e ∙ weights-told a ss vs) n
 
--- ---- "the account is not sound"
+-- ---- the queries, each of which tells "the account is not sound" itself
 module _ (out : List ℕ) (a : Account) (ss : List ℕ) (vs : List ℤ) (h : soundAccount a ≡ false) where
   pub equity-unsound : equityTold (toldEquity a ss vs) out ≡ refusing out Unsound
   unfolding equityTold toldEquity queryAnswer
@@ -89,6 +85,19 @@ module _ (out : List ℕ) (a : Account) (ss : List ℕ) (vs : List ℤ) (h : sou
   unfolding weightsTold toldWeights queryAnswer
   weights-unsound = simp h
 
-  pub snapshot-unsound : (figures : List ℕ) → snapshotTold (toldSnapshot a ss vs) figures out ≡ refusingBoth figures out Unsound
+  pub snapshot-unsound : (weights : List ℕ) → snapshotTold (toldSnapshot a ss vs) out weights ≡ refusingBoth out weights Unsound
   unfolding snapshotTold toldSnapshot noSnapshot queryAnswer
-  snapshot-unsound figures = simp h
+  snapshot-unsound weights = simp h
+
+abbrev pub equity-query : List ℕ → Query Cents Told
+equity-query out = record { gives = toldEquity; tells = λ c. equityTold c out; leaves = λ n. tell n out; unsound = equity-unsound out }
+
+abbrev pub unpriced-query : List ℕ → Query Unpriced Told
+unpriced-query out = record { gives = toldUnpriced; tells = λ u. unpricedTold u out; leaves = λ n. tell n out; unsound = unpriced-unsound out }
+
+abbrev pub weights-query : List ℕ → Query Weights Told
+weights-query out = record { gives = toldWeights; tells = λ w. weightsTold w out; leaves = λ n. tell n out; unsound = weights-unsound out }
+
+abbrev pub snapshot-query : List ℕ → List ℕ → Query Snapshot ToldBoth
+snapshot-query figures weights =
+    record { gives = toldSnapshot; tells = λ s. snapshotTold s figures weights; leaves = λ n. tellBoth n figures weights; unsound = λ a ss vs h. snapshot-unsound figures a ss vs h weights }

@@ -4,21 +4,20 @@ ghost use Prim.Native.Nat.{_≤_};
 ghost use lib.Dec.{eqb};
 ghost use lib.ListN.{length, take};
 ghost use Rattle.table.specs.Keyed.{both};
-ghost use Rattle.word_bytes.specs.Words.{bytesOf};
 ghost use Rattle.queries.specs.Answers.{toldSnapshot};
 ghost use Rattle.c_queries.specs.Told.{tellBoth};
-ghost use Rattle.c_queries.specs.Reports.{snapshotWords, snapshotTold, snapshotIn};
+ghost use Rattle.c_queries.specs.Reports.{snapshotTold, snapshotIn};
 use crate::asked::account_in;
 use crate::asked::early;
 use account::Account;
 use answer::is_done;
 use list_bytes::Prices;
 use list_bytes::read_prices;
+use list_bytes::write_figures;
 use list_bytes::write_weights;
 use queries::Snapshot;
 use queries::snapshot;
 use word_bytes::put_word;
-use word_bytes::unsigned;
 
 // Room for five words and 64 weights, and no more.
 fn is_room(figures: usize, weights: usize) -> bool
@@ -41,18 +40,7 @@ fn snapshot_at(p: Prices, a: Account) -> Snapshot
     snapshot(a, &symbol[..n], &price[..n])
 }
 
-// Cash, equity, open positions, realized profit and how many weights there are.
-fn put_figures(s: Snapshot, figures: &mut [u8])
-    requires { ⌜ length (now figures) ≡ 40 ⌝ }
-    ensures { λ _. ⌜ now (figures .exit) ≡ bytesOf (snapshotWords s) ⌝ }
-{
-    put_word(figures, 0, unsigned(s.cash));
-    put_word(figures, 1, unsigned(s.equity));
-    put_word(figures, 2, s.num_positions);
-    put_word(figures, 3, unsigned(s.total_realized_pnl));
-    put_word(figures, 4, s.weights.count as u64);
-}
-
+// Cash, equity, open positions, realized profit and how many weights there are; and the weights.
 fn put_snapshot(s: Snapshot, figures: &mut [u8], weights: &mut [u8]) -> u64
     requires { ⌜ (length (now figures) ≡ 40) × (s .weights .count ≤ 64) ⌝ }
     ensures { λ r. ⌜ tellBoth r (now (figures .exit)) (now (weights .exit)) ≡ snapshotTold s (now (figures .entry)) (now (weights .entry)) ⌝ }
@@ -61,9 +49,16 @@ fn put_snapshot(s: Snapshot, figures: &mut [u8], weights: &mut [u8]) -> u64
     if !is_done(answer) {
         return answer::number(answer);
     }
-    put_figures(s, figures);
+    write_figures(
+        s.cash,
+        s.equity,
+        s.num_positions,
+        s.total_realized_pnl,
+        figures,
+    );
     let w = s.weights;
     let n = w.count;
+    put_word(figures, 4, n as u64);
     let symbol = w.symbol;
     let weight = w.weight;
     write_weights(n, symbol, weight, weights);

@@ -1,19 +1,17 @@
 // A snapshot of one account, over and over.
 ghost use mathlib.Core.Path.{_≡_};
-ghost use Rattle.list_bytes.specs.Records.{putAll};
 ghost use Rattle.queries.specs.Answers.{toldSnapshot};
-ghost use Rattle.c_timed.specs.Made.{leaveBoth, figuresOf, leftBoth};
+ghost use Rattle.c_timed.specs.Made.{leaveBoth, leftBoth};
 ghost use Rattle.c_timed.specs.Calls.{snapshotsIn};
 use crate::made::too_long;
 use account::Account;
 use account_bytes::read_account;
 use answer::is_done;
 use list_bytes::read_prices;
+use list_bytes::write_figures;
 use list_bytes::write_weights;
 use queries::Snapshot;
 use queries::snapshot;
-use word_bytes::put_word;
-use word_bytes::unsigned;
 
 // The last one; there is always one.
 fn snapshots(a: Account, symbols: &[u64], prices: &[i64], times: u64) -> Snapshot
@@ -29,15 +27,6 @@ fn snapshots(a: Account, symbols: &[u64], prices: &[i64], times: u64) -> Snapsho
     }
 }
 
-fn put_figures(s: Snapshot, figures: &mut [u8])
-    ensures { λ _. ⌜ now (figures .exit) ≡ putAll (now (figures .entry)) 0 (figuresOf s) ⌝ }
-{
-    put_word(figures, 0, unsigned(s.cash));
-    put_word(figures, 1, unsigned(s.equity));
-    put_word(figures, 2, s.num_positions);
-    put_word(figures, 3, unsigned(s.total_realized_pnl));
-}
-
 fn leave_both(s: Snapshot, figures: &mut [u8], weights: &mut [u8]) -> u64
     ensures { λ r. ⌜ leaveBoth r (now (figures .exit)) (now (weights .exit)) ≡ leftBoth s (now (figures .entry)) (now (weights .entry)) ⌝ }
 {
@@ -45,7 +34,13 @@ fn leave_both(s: Snapshot, figures: &mut [u8], weights: &mut [u8]) -> u64
     if !is_done(answer) {
         return answer::number(answer);
     }
-    put_figures(s, figures);
+    write_figures(
+        s.cash,
+        s.equity,
+        s.num_positions,
+        s.total_realized_pnl,
+        figures,
+    );
     let w = s.weights;
     let n = w.count;
     let symbol = w.symbol;

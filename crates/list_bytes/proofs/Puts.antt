@@ -63,6 +63,9 @@ four-puts l k a b c d =
     let f : k + 2 + 1 ≡ k + 3 = omega arith in
     simp (e, f)
 
+pub four-written : (l : List ℕ) (u v x y : ℕ) {a b c d : List ℕ} → a ≡ putWord l 0 u → b ≡ putWord a 1 v → c ≡ putWord b 2 x → d ≡ putWord c 3 y → d ≡ putAll l 0 (u ∷ v ∷ x ∷ y ∷ [])
+four-written l u v x y ea eb ec ed = ed ∙ ap (λ k. putWord k 3 y) (ec ∙ ap (λ k. putWord k 2 x) (eb ∙ ap (λ k. putWord k 1 v) ea)) ∙ four-puts l 0 u v x y
+
 -- one more of what stands at places in a row
 pub put-place : (l : List ℕ) (k m n : ℕ) (f : ℕ → ℕ) {o p : List ℕ} {v : ℕ} → o ≡ putAll l k (places n f) → v ≡ f n → p ≡ putWord o m v → m ≡ k + n → p ≡ putAll l k (places (n + 1) f)
 unfolding places

@@ -1,5 +1,4 @@
 -- The setter of the account, filed.
-use mathlib.Core.Path.{_∙_}
 use borrow.Author.Needs.{needs}
 use Rattle.account.specs.Settings.{withMaxNotional}
 use Rattle.c_accounts.proofs.Filing.{set-number-done}
@@ -20,18 +19,10 @@ same-length c = search needs
 
 returns : tie.Need-returns
 returns c =
-    let f = c .before .before in
-    let q = f .before .before in
-    let a = q .before in
-    let s = a .before .before .before in
-    f .file .ensures ∙ set-number-done withMaxNotional (s .args .cents) (s .args .account .now) (a .account-in .result) (q .set-max-rebalance-notional .result) (s .fits .cents) (a .account-in .ensures) (q .set-max-rebalance-notional .ensures)
+    let q = c .before .before .before .before in
+    set-number-done withMaxNotional _ (q .before .before .before .before .fits .cents) (q .before .account-in .ensures) (q .set-max-rebalance-notional .ensures) (c .before .before .file .ensures)
 
 pub tc-set-max-rebalance-notional-spec : {M : Type 1} → statement M
 tc-set-max-rebalance-notional-spec =
     tie.close
-    (tie.spec
-    account-in-requires
-    set-max-rebalance-notional-requires
-    file-requires
-    same-length
-    returns)
+    (tie.spec account-in-requires set-max-rebalance-notional-requires file-requires same-length returns)

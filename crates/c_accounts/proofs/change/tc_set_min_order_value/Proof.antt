@@ -1,5 +1,4 @@
 -- The setter of the account, filed.
-use mathlib.Core.Path.{_∙_}
 use borrow.Author.Needs.{needs}
 use Rattle.account.specs.Settings.{withMinOrder}
 use Rattle.c_accounts.proofs.Filing.{set-number-done}
@@ -20,11 +19,8 @@ same-length c = search needs
 
 returns : tie.Need-returns
 returns c =
-    let f = c .before .before in
-    let q = f .before .before in
-    let a = q .before in
-    let s = a .before .before .before in
-    f .file .ensures ∙ set-number-done withMinOrder (s .args .cents) (s .args .account .now) (a .account-in .result) (q .set-min-order-value .result) (s .fits .cents) (a .account-in .ensures) (q .set-min-order-value .ensures)
+    let q = c .before .before .before .before in
+    set-number-done withMinOrder _ (q .before .before .before .before .fits .cents) (q .before .account-in .ensures) (q .set-min-order-value .ensures) (c .before .before .file .ensures)
 
 pub tc-set-min-order-value-spec : {M : Type 1} → statement M
 tc-set-min-order-value-spec =

@@ -1,6 +1,5 @@
 -- The setter of the account, filed.
-use mathlib.Core.Bool.{true}
-use mathlib.Core.Path.{refl, _∙_}
+use mathlib.Core.Path.{refl}
 use borrow.Author.Needs.{needs}
 use Rattle.account.specs.Settings.{withBand}
 use Rattle.c_accounts.proofs.Filing.{set-done}
@@ -21,11 +20,9 @@ same-length c = search needs
 
 returns : tie.Need-returns
 returns c =
-    let f = c .before .before in
-    let q = f .before .before in
-    let a = q .before in
-    let s = a .before .before .before in
-    f .file .ensures ∙ set-done true (withBand (s .args .bps)) (s .args .account .now) (a .account-in .result) (q .set-no-trade-band-bps .result) (a .account-in .ensures) (q .set-no-trade-band-bps .ensures) refl
+    let q = c .before .before .before .before in
+    let s = q .before .before .before .before in
+    set-done (withBand (s .args .bps)) (s .args .account .now) (q .before .account-in .ensures) (q .set-no-trade-band-bps .ensures) refl (c .before .before .file .ensures)
 
 pub tc-set-no-trade-band-bps-spec : {M : Type 1} → statement M
 tc-set-no-trade-band-bps-spec =

@@ -1,5 +1,4 @@
 -- The setter of the account, filed.
-use mathlib.Core.Path.{_∙_}
 use borrow.Author.Needs.{needs}
 use Rattle.account.specs.Settings.{withStep}
 use Rattle.c_accounts.proofs.Filing.{set-number-done}
@@ -20,11 +19,8 @@ same-length c = search needs
 
 returns : tie.Need-returns
 returns c =
-    let f = c .before .before in
-    let q = f .before .before in
-    let a = q .before in
-    let s = a .before .before .before in
-    f .file .ensures ∙ set-number-done withStep (s .args .micro-shares) (s .args .account .now) (a .account-in .result) (q .set-quantity-step .result) (s .fits .micro-shares) (a .account-in .ensures) (q .set-quantity-step .ensures)
+    let q = c .before .before .before .before in
+    set-number-done withStep _ (q .before .before .before .before .fits .micro-shares) (q .before .account-in .ensures) (q .set-quantity-step .ensures) (c .before .before .file .ensures)
 
 pub tc-set-quantity-step-spec : {M : Type 1} → statement M
 tc-set-quantity-step-spec =

@@ -1,12 +1,27 @@
 -- Figures and weights, or nothing.
 use Prim.Native.Nat.{ℕ}
-use mathlib.Core.Path.{sym, ap, _∙_}
+use mathlib.Core.Path.{_≡_, sym, ap, _∙_}
+use mathlib.Core.List.{List}
+use mir.Syntax.{w64}
+use mir.Val.{SFits}
+use mir.Facts.{toZ-ofZ}
 use borrow.Author.Needs.{needs}
 use borrow.Author.Tests.{not-true, not-false}
+use Rattle.word_bytes.specs.Words.{bytesOf, putWord}
 use Rattle.c_queries.specs.Told.{tellBoth}
-use Rattle.c_queries.specs.Reports.{snapshotTold}
+use Rattle.c_queries.specs.Reports.{snapshotWords, snapshotTold}
+use Rattle.c_queries.proofs.Telling.{five-puts}
 use Rattle.c_queries.proofs.summary.put_snapshot.Statement.{statement}
 use Rattle.c_queries.proofs.summary.put_snapshot.Tie as tie
+
+cash-fits : (s : tie.Start) → SFits w64 (s .args .s .cash)
+cash-fits s = search needs
+
+equity-fits : (s : tie.Start) → SFits w64 (s .args .s .equity)
+equity-fits s = search needs
+
+profit-fits : (s : tie.Start) → SFits w64 (s .args .s .«total_realized_pnl»)
+profit-fits s = search needs
 
 is-done-requires : tie.Need-is-done-requires
 is-done-requires c κs = search needs
@@ -21,8 +36,11 @@ returns c =
     let s = c .before .before .before .before .before in
     rw d (ap (λ (n : ℕ). tellBoth n (s .args .figures .now) (s .args .weights .now)) (c .number .ensures))
 
-put-figures-requires : tie.Need-put-figures-requires
-put-figures-requires c κs = search needs
+write-figures-requires : tie.Need-write-figures-requires
+write-figures-requires c κs = search needs
+
+put-word-requires : tie.Need-put-word-requires
+put-word-requires c κs = search needs
 
 write-weights-requires : tie.Need-write-weights-requires
 write-weights-requires c κs = search needs
@@ -40,10 +58,14 @@ returns-2 : tie.Need-returns-2
 unfolding snapshotTold
 returns-2 c =
     let w = c .before .before in
-    let f = w .before .before .before .before .before .before .before in
-    let q = f .before .before in
+    let p = w .before .before .before .before .before .before in
+    let f = p .before .before .before .before .before in
+    let q = f .before .before .before .before .before in
+    let s = q .before .before .before .before in
     let d = sym (q .before .is-done .ensures) ∙ not-false _ (q .if1 .left) in
-    simp (d, f .put-figures .ensures, w .write-weights .ensures)
+    let four = simp (toZ-ofZ (cash-fits s), toZ-ofZ (equity-fits s), toZ-ofZ (profit-fits s)) at (f .write-figures .ensures) in
+    let five : p .put-word .last .0 ≡ bytesOf (snapshotWords (s .args .s)) = p .put-word .ensures ∙ ap (λ (l : List ℕ). putWord l 4 (s .args .s .weights .count)) four ∙ five-puts (s .args .figures .now) _ _ _ _ _ (s .pre .0) in
+    simp (d, five, w .write-weights .ensures)
 
 pub put-snapshot-spec : {M : Type 1} → statement M
 put-snapshot-spec =
@@ -52,7 +74,8 @@ put-snapshot-spec =
     is-done-requires
     number-requires
     returns
-    put-figures-requires
+    write-figures-requires
+    put-word-requires
     write-weights-requires
     mul-result
     same-length

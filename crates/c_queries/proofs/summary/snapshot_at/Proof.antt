@@ -1,36 +1,23 @@
 -- As many prices as were read are lent.
-use Prim.Native.Nat.{_≤_}
-use mathlib.Core.Path.{_≡_, sym}
-use native.Mathlib.Omega.{arith}
-use lib.ListN.{length}
-use lib.Seq.{length-take-le}
 use borrow.Author.Needs.{needs}
+use Rattle.c_queries.proofs.Asking.{Lent, lent}
 use Rattle.c_queries.proofs.summary.snapshot_at.Statement.{statement}
 use Rattle.c_queries.proofs.summary.snapshot_at.Tie as tie
 
-symbol-long : (s : tie.Start) → length (s .args .p .symbol) ≡ 128
-symbol-long s = search needs
-
-price-long : (s : tie.Start) → length (s .args .p .price) ≡ 128
-price-long s = search needs
-
-symbol-room : (s : tie.Start) → s .args .p .count ≤ length (s .args .p .symbol)
-symbol-room s = omega (arith, symbol-long s, s .pre)
-
-price-room : (s : tie.Start) → s .args .p .count ≤ length (s .args .p .price)
-price-room s = omega (arith, price-long s, s .pre)
+lent-at : (s : tie.Start) → Lent (s .args .p)
+lent-at s = lent (s .args .p) (search needs) (search needs) (s .pre)
 
 array-share-prefix-symbol : tie.Need-array-share-prefix-symbol
-array-share-prefix-symbol c = symbol-room (c .before .before)
+array-share-prefix-symbol c = lent-at (c .before .before) .symbols-room
 
 slice-aggregate-snapshot : tie.Need-slice-aggregate-snapshot
-slice-aggregate-snapshot c = sym (length-take-le _ _ (symbol-room (c .before .before .before)))
+slice-aggregate-snapshot c = lent-at (c .before .before .before) .symbols-long
 
 array-share-prefix-price : tie.Need-array-share-prefix-price
-array-share-prefix-price c = price-room (c .before .before .before)
+array-share-prefix-price c = lent-at (c .before .before .before) .prices-room
 
 slice-aggregate-snapshot-2 : tie.Need-slice-aggregate-snapshot-2
-slice-aggregate-snapshot-2 c = sym (length-take-le _ _ (price-room (c .before .before .before .before)))
+slice-aggregate-snapshot-2 c = lent-at (c .before .before .before .before) .prices-long
 
 snapshot-requires : tie.Need-snapshot-requires
 snapshot-requires c κs = search needs

@@ -1,24 +1,19 @@
 -- What is refused before the query, and the query.
-use mathlib.Core.Path.{_≡_, sym, ap, _∙_}
-use Prim.Native.Nat.{ℕ}
-use mathlib.Core.List.{List}
+use mathlib.Core.Path.{_≡_, _∙_}
 use lib.Dec.{eqb}
-use lib.IntN.{ℤ}
 use lib.ListN.{length}
 use borrow.Author.Needs.{needs}
-use borrow.Author.Tests.{not-true, not-false}
-use Rattle.account.specs.declared.account.Account.{Account}
-use Rattle.queries.specs.declared.answered.Weights.{Weights}
-use Rattle.queries.specs.Answers.{toldWeights}
-use Rattle.c_queries.specs.Told.{Told, tell, refusing}
-use Rattle.c_queries.specs.Reports.{weightsTold, currentWeightsIn}
-use Rattle.c_queries.proofs.Asking.{prices-few, refused-early, done-early}
-use Rattle.c_queries.proofs.Telling.{few-weights, weights-unsound}
+use Rattle.c_queries.specs.Reports.{currentWeightsIn}
+use Rattle.c_queries.proofs.Asking.{Read, read, few-prices, refused-query, made-query}
+use Rattle.c_queries.proofs.Telling.{few-weights, weights-query}
 use Rattle.c_queries.proofs.weighing.tc_current_weights.Statement.{statement}
 use Rattle.c_queries.proofs.weighing.tc_current_weights.Tie as tie
 
-abbrev query : List ℕ → Account → List ℕ → List ℤ → Told
-query out a ss vs = weightsTold (toldWeights a ss vs) out
+abbrev in-hand : tie.After-early → Read
+in-hand e =
+    let a = e .before .before in
+    let s = a .before .before .before .before .args in
+    read (s .account .now) (s .prices .now) (eqb (length (s .out .now)) 1024) (a .account-in .ensures) (e .before .read-prices .ensures) (e .early .ensures)
 
 account-in-requires : tie.Need-account-in-requires
 account-in-requires c κs = search needs
@@ -37,20 +32,10 @@ number-requires c κs = search needs
 
 returns : tie.Need-returns
 unfolding currentWeightsIn
-returns c =
-    let e = c .before .before .before in
-    let p = e .before in
-    let a = p .before in
-    let s = a .before .before .before .before in
-    let out = s .args .out .now in
-    let d = sym (c .before .before .is-done .ensures) ∙ not-true _ (c .before .if1 .taken) in
-    ap (λ (n : ℕ). tell n out) (c .number .ensures)
-    ∙ refused-early (refusing out) (query out) (weights-unsound out) (s .args .account .now) (s .args .prices .now) (eqb (length out) 1024) (a .account-in .ensures) (p .read-prices .ensures) (e .early .ensures) d
+returns c = let d = c .before .before in refused-query (weights-query _) (in-hand (d .before)) (d .is-done .ensures) (c .before .if1 .taken) (c .number .ensures)
 
 weights-at-requires : tie.Need-weights-at-requires
-weights-at-requires c κs =
-    let p = c .before .before .before in
-    prices-few (p .before .before .before .before .before .args .prices .now) (p .read-prices .ensures)
+weights-at-requires c κs = few-prices (in-hand (c .before .before))
 
 symbols-long : (k : tie.After-weights-at) → length (k .weights-at .result .symbol) ≡ 64
 symbols-long k = search needs
@@ -66,16 +51,8 @@ unfolding currentWeightsIn
 returns-2 c =
     let w = c .before .before in
     let k = w .before .before in
-    let q = k .before in
-    let e = q .before .before in
-    let p = e .before in
-    let a = p .before in
-    let s = a .before .before .before .before in
-    let out = s .args .out .now in
-    let d = sym (q .before .is-done .ensures) ∙ not-false _ (q .if1 .left) in
-    w .put-weights .ensures
-    ∙ ap (λ (x : Weights). weightsTold x out) (k .weights-at .ensures)
-    ∙ done-early (refusing out) (query out) (weights-unsound out) (s .args .account .now) (s .args .prices .now) (eqb (length out) 1024) (a .account-in .ensures) (p .read-prices .ensures) (e .early .ensures) d
+    let d = k .before .before in
+    w .put-weights .ensures ∙ made-query (weights-query _) (in-hand (d .before)) (d .is-done .ensures) (k .before .if1 .left) (k .weights-at .ensures)
 
 pub tc-current-weights-spec : {M : Type 1} → statement M
 tc-current-weights-spec =

@@ -1,11 +1,23 @@
 -- Figures and weights, or nothing of a refusal.
 use Prim.Native.Nat.{ℕ}
 use mathlib.Core.Path.{sym, ap, _∙_}
+use mir.Syntax.{w64}
+use mir.Val.{SFits}
+use mir.Facts.{toZ-ofZ}
 use borrow.Author.Needs.{needs}
 use borrow.Author.Tests.{not-true, not-false}
 use Rattle.c_timed.specs.Made.{leaveBoth, leftBoth}
 use Rattle.c_timed.proofs.summary.leave_both.Statement.{statement}
 use Rattle.c_timed.proofs.summary.leave_both.Tie as tie
+
+cash-fits : (s : tie.Start) → SFits w64 (s .args .s .cash)
+cash-fits s = search needs
+
+equity-fits : (s : tie.Start) → SFits w64 (s .args .s .equity)
+equity-fits s = search needs
+
+profit-fits : (s : tie.Start) → SFits w64 (s .args .s .«total_realized_pnl»)
+profit-fits s = search needs
 
 is-done-requires : tie.Need-is-done-requires
 is-done-requires c κs = search needs
@@ -20,8 +32,8 @@ returns c =
     let s = c .before .before .before .before .before in
     rw d (ap (λ (n : ℕ). leaveBoth n (s .args .figures .now) (s .args .weights .now)) (c .number .ensures))
 
-put-figures-requires : tie.Need-put-figures-requires
-put-figures-requires c κs = search needs
+write-figures-requires : tie.Need-write-figures-requires
+write-figures-requires c κs = search needs
 
 write-weights-requires : tie.Need-write-weights-requires
 write-weights-requires c κs = search needs
@@ -37,9 +49,10 @@ unfolding leftBoth
 returns-2 c =
     let w = c .before .before in
     let f = w .before .before .before .before .before .before .before in
-    let q = f .before .before in
+    let q = f .before .before .before .before .before in
+    let s = q .before .before .before .before in
     let d = sym (q .before .is-done .ensures) ∙ not-false _ (q .if1 .left) in
-    simp (d, f .put-figures .ensures, w .write-weights .ensures)
+    simp (d, f .write-figures .ensures, toZ-ofZ (cash-fits s), toZ-ofZ (equity-fits s), toZ-ofZ (profit-fits s), w .write-weights .ensures)
 
 pub leave-both-spec : {M : Type 1} → statement M
-leave-both-spec = tie.close (tie.spec is-done-requires number-requires returns put-figures-requires write-weights-requires same-length same-length-2 returns-2)
+leave-both-spec = tie.close (tie.spec is-done-requires number-requires returns write-figures-requires write-weights-requires same-length same-length-2 returns-2)
