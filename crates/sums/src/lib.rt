@@ -221,61 +221,36 @@ fn opposite(a: i64, b: i64) -> bool
     (a < 0) != (b < 0)
 }
 
-// A digit of a quotient by SCALE: what the digits above left, with the next one below it. SCALE stands here as a number and not
-// as an argument, so that a processor is given products and shifts.
-fn scale_digit(rest: u64, digit: u64) -> Quotient
-    requires { ⌜ (rest < SCALE) × (digit < 2 ^ 32) ⌝ }
-    ensures { λ r. ⌜ (r .quotient ≡ (rest * 2 ^ 32 + digit) / SCALE) × (r .rest ≡ (rest * 2 ^ 32 + digit) % SCALE) ⌝ }
+// A step of the quotient by SCALE, by 32-bit digits: what is carried from the digits above, and the digit below it. SCALE is a number here
+// and not an argument, so that a 64-bit processor is given a product and shifts.
+fn scale_digit(carried: u64, digit: u64) -> Quotient
+    requires { ⌜ (carried < 2 ^ 32) × (digit < 2 ^ 32) ⌝ }
+    ensures { λ r. ⌜ (r .quotient ≡ (carried * 2 ^ 32 + digit) / SCALE) × (r .rest ≡ (carried * 2 ^ 32 + digit) % SCALE) ⌝ }
 {
-    let n = rest * 0x1_0000_0000 + digit;
+    let n = carried * 0x1_0000_0000 + digit;
     Quotient {
         quotient: n / SCALE,
         rest: n % SCALE,
     }
 }
 
-// "Divide by the fixed 1,000,000 in 32-bit digits instead, with remainders carried": a word, below what the words above it left.
-fn scale_word(rest: u64, n: u64) -> Quotient
-    requires { ⌜ rest < SCALE ⌝ }
-    ensures { λ r. ⌜ (r .quotient ≡ (rest * 2 ^ 64 + n) / SCALE) × (r .rest ≡ (rest * 2 ^ 64 + n) % SCALE) ⌝ }
+// A word by itself. Nothing stands above its first digit, which is carried as it is: one step takes both.
+fn scale_word(n: u64) -> Quotient
+    ensures { λ r. ⌜ (r .quotient ≡ n / SCALE) × (r .rest ≡ n % SCALE) ⌝ }
 {
-    let upper = scale_digit(rest, n / 0x1_0000_0000);
-    let lower = scale_digit(upper.rest, n % 0x1_0000_0000);
-    Quotient {
-        quotient: upper.quotient * 0x1_0000_0000 + lower.quotient,
-        rest: lower.rest,
-    }
+    scale_digit(n / 0x1_0000_0000, n % 0x1_0000_0000)
 }
 
-// One word over SCALE. An upper digit below SCALE gives no digit of the quotient: it is what stands before the lower one.
-fn word_over_scale(n: u64) -> u64
-    ensures { λ r. ⌜ r ≡ n / SCALE ⌝ }
-{
-    let upper = n / 0x1_0000_0000;
-    if upper < SCALE {
-        let one = scale_digit(upper, n % 0x1_0000_0000);
-        return one.quotient;
-    }
-    let both = scale_word(0, n);
-    both.quotient
-}
-
-// Two words over SCALE, and so with an upper word below SCALE.
-fn over_scale(n: Wide) -> Wide
+// Document 02: "Divide by the fixed 1,000,000 in 32-bit digits instead, with remainders carried."
+fn scale_wide(n: Wide) -> Wide
     ensures { λ r. ⌜ r ≡ wide (valueOf n / SCALE) ⌝ }
 {
-    if n.hi < SCALE {
-        let one = scale_word(n.hi, n.lo);
-        return Wide {
-            hi: 0,
-            lo: one.quotient,
-        };
-    }
-    let upper = scale_word(0, n.hi);
-    let lower = scale_word(upper.rest, n.lo);
+    let upper = scale_word(n.hi);
+    let middle = scale_digit(upper.rest, n.lo / 0x1_0000_0000);
+    let lower = scale_digit(middle.rest, n.lo % 0x1_0000_0000);
     Wide {
         hi: upper.quotient,
-        lo: lower.quotient,
+        lo: middle.quotient * 0x1_0000_0000 + lower.quotient,
     }
 }
 
@@ -285,12 +260,13 @@ fn scaled(q: u64, p: u64) -> Wide
 {
     let product = mul_wide(q, p);
     if product.hi == 0 {
+        let word = scale_word(product.lo);
         return Wide {
             hi: 0,
-            lo: word_over_scale(product.lo),
+            lo: word.quotient,
         };
     }
-    over_scale(product)
+    scale_wide(product)
 }
 
 // "A value is quantity times price over SCALE, exact product, truncated toward zero, clamped to i64."
@@ -312,8 +288,14 @@ pub fn magnitude(quantity: i64, price: i64) -> i64
 pub fn whole(n: i64) -> i64
     ensures { λ r. ⌜ r ≡ quotZ n (pos SCALE) ⌝ }
 {
-    let units = word_over_scale(unsigned_abs(n));
-    clamped(n < 0, Wide { hi: 0, lo: units })
+    let units = scale_word(unsigned_abs(n));
+    clamped(
+        n < 0,
+        Wide {
+            hi: 0,
+            lo: units.quotient,
+        },
+    )
 }
 
 // The price at which the quantity has this value, truncated toward zero and clamped; 0 for quantity 0.

@@ -1,58 +1,37 @@
 -- Two steps of long division in base 2 ^ 32.
 use borrow.Author.Needs.{needs}
 use Prim.Native.Nat.{ℕ, _+_, _*_, _/_, _%_, _^_, _<_}
-use mathlib.Core.Path.{_≡_, ap, _∙_}
 use native.Mathlib.Nat.{mod-lt}
 use native.Mathlib.Omega.{arith}
 use Rattle.sums.specs.Wide.{valueOf}
 use Rattle.sums.proofs.TwoWords.{words-of}
-use Rattle.sums.proofs.Division.{upper-quotient, upper-rest, step-lt, digit-lt}
+use Rattle.sums.proofs.Division.{step-lt, upper, lower, upper-digit, lower-digit, two-digits}
 use Rattle.sums.proofs.div_digits.Statement.{statement}
 use Rattle.sums.proofs.div_digits.Tie as tie
 
 module _ (h l d : ℕ) (hl : l < 2 ^ 64) (pos : 0 < d) (small : d < 2 ^ 32) where
-  abbrev upper : ℕ
-  upper = h % d * 2 ^ 32 + l / 2 ^ 32
-
-  abbrev lower : ℕ
-  lower = upper % d * 2 ^ 32 + l % 2 ^ 32
-
-  upper-lt : upper < 2 ^ 64
+  upper-lt : upper h l d hl pos < 2 ^ 64
   upper-lt = omega (arith, step-lt h (l / 2 ^ 32) d (2 ^ 32) pos (omega arith))
 
-  lower-lt : lower < 2 ^ 64
-  lower-lt = omega (arith, step-lt upper (l % 2 ^ 32) d (2 ^ 32) pos (omega arith))
-
-  upper-digit : upper / d < 2 ^ 32
-  upper-digit = digit-lt h (l / 2 ^ 32) d (2 ^ 32) pos (omega arith)
-
-  lower-digit : lower / d < 2 ^ 32
-  lower-digit = digit-lt upper (l % 2 ^ 32) d (2 ^ 32) pos (omega arith)
-
-  quotient : h / d * 2 ^ 64 + (upper / d * 2 ^ 32 + lower / d) ≡ (h * 2 ^ 64 + l) / d
-  quotient =
-      let m = h * 2 ^ 32 + l / 2 ^ 32 in
-      let e : h * 2 ^ 64 + l ≡ m * 2 ^ 32 + l % 2 ^ 32 = omega arith in
-      let r : m % d * 2 ^ 32 + l % 2 ^ 32 ≡ lower = ap (λ (x : ℕ). x * 2 ^ 32 + l % 2 ^ 32) (upper-rest h (l / 2 ^ 32) d (2 ^ 32)) in
-      let a : (h * 2 ^ 64 + l) / d ≡ lower / d + m / d * 2 ^ 32 = ap (λ (x : ℕ). x / d) e ∙ upper-quotient m (l % 2 ^ 32) d (2 ^ 32) pos ∙ ap (λ (x : ℕ). x / d + m / d * 2 ^ 32) r in
-      omega (arith, upper-quotient h (l / 2 ^ 32) d (2 ^ 32) pos)
+  lower-lt : lower h l d hl pos < 2 ^ 64
+  lower-lt = omega (arith, step-lt (upper h l d hl pos) (l % 2 ^ 32) d (2 ^ 32) pos (omega arith))
 
 -- the same of the function's arguments
 module _ (s : tie.Start) where
   low : s .args .n .lo < 2 ^ 64
   low = omega (arith, s .good)
 
-  upper-fits : upper (s .args .n .hi) (s .args .n .lo) (s .args .d) low (s .pre .0) (s .pre .1) < 2 ^ 64
+  upper-fits : upper (s .args .n .hi) (s .args .n .lo) (s .args .d) low (s .pre .0) < 2 ^ 64
   upper-fits = upper-lt (s .args .n .hi) (s .args .n .lo) (s .args .d) low (s .pre .0) (s .pre .1)
 
-  lower-fits : lower (s .args .n .hi) (s .args .n .lo) (s .args .d) low (s .pre .0) (s .pre .1) < 2 ^ 64
+  lower-fits : lower (s .args .n .hi) (s .args .n .lo) (s .args .d) low (s .pre .0) < 2 ^ 64
   lower-fits = lower-lt (s .args .n .hi) (s .args .n .lo) (s .args .d) low (s .pre .0) (s .pre .1)
 
-  upper-small : upper (s .args .n .hi) (s .args .n .lo) (s .args .d) low (s .pre .0) (s .pre .1) / s .args .d < 2 ^ 32
-  upper-small = upper-digit (s .args .n .hi) (s .args .n .lo) (s .args .d) low (s .pre .0) (s .pre .1)
+  upper-small : upper (s .args .n .hi) (s .args .n .lo) (s .args .d) low (s .pre .0) / s .args .d < 2 ^ 32
+  upper-small = upper-digit (s .args .n .hi) (s .args .n .lo) (s .args .d) low (s .pre .0)
 
-  lower-small : lower (s .args .n .hi) (s .args .n .lo) (s .args .d) low (s .pre .0) (s .pre .1) / s .args .d < 2 ^ 32
-  lower-small = lower-digit (s .args .n .hi) (s .args .n .lo) (s .args .d) low (s .pre .0) (s .pre .1)
+  lower-small : lower (s .args .n .hi) (s .args .n .lo) (s .args .d) low (s .pre .0) / s .args .d < 2 ^ 32
+  lower-small = lower-digit (s .args .n .hi) (s .args .n .lo) (s .args .d) low (s .pre .0)
 
 rem-upper : tie.Need-rem-upper
 rem-upper c = search needs
@@ -91,7 +70,7 @@ returns : tie.Need-returns
 unfolding valueOf
 returns c =
     let s = c .before .before .before .before in
-    words-of _ _ _ (omega (arith, upper-small s, lower-small s)) (quotient (s .args .n .hi) (s .args .n .lo) (s .args .d) (low s) (s .pre .0) (s .pre .1))
+    words-of _ _ _ (omega (arith, upper-small s, lower-small s)) (two-digits (s .args .n .hi) (s .args .n .lo) (s .args .d) (low s) (s .pre .0))
 
 pub div-digits-spec : {M : Type 1} → statement M
 div-digits-spec =

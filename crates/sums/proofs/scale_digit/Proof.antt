@@ -1,4 +1,4 @@
--- The number of one step is below 2 ^ 52.
+-- Two digits take one word.
 use borrow.Author.Needs.{needs}
 use native.Mathlib.Omega.{arith}
 use Rattle.sums.proofs.scale_digit.Statement.{statement}
