@@ -15,6 +15,7 @@ pub use costs::{are_good, costs as costs_of, draw as draw_costs, paid};
 pub use figures::expected as expected_figures;
 pub use positions::{Numbers, is_sound, refusal, symbol as draw_symbol};
 pub use sizes::{largest, need};
+pub use wide::value;
 
 use oracle::Leaves;
 use scenario::Random;

@@ -34,8 +34,26 @@ fn clamped(n: i128) -> u64 {
     n.clamp(i64::MIN as i128, i64::MAX as i128) as i64 as u64
 }
 
-fn value(i: &Inputs) -> u64 {
-    clamped(i128::from(i[0] as i64) * i128::from(i[1] as i64) / 1_000_000)
+pub fn value(quantity: i64, price: i64) -> i64 {
+    clamped(i128::from(quantity) * i128::from(price) / 1_000_000) as i64
+}
+
+/// The product of the magnitudes, by its words and digits: the ways that a quotient by SCALE goes.
+const VALUE: &[Class] = &[
+    ("zero", |_, r| r == 0),
+    ("below zero", |_, r| (r as i64) < 0),
+    ("above zero", |_, r| (r as i64) > 0),
+    ("bottom", |_, r| r as i64 == i64::MIN),
+    ("top", |_, r| r as i64 == i64::MAX),
+    ("product of one digit", |i, _| magnitudes(i) < 1 << 32),
+    ("product of two digits", |i, _| (1 << 32..1 << 64).contains(&magnitudes(i))),
+    ("product of three digits", |i, _| (1 << 64..1 << 96).contains(&magnitudes(i))),
+    ("product of four digits", |i, _| magnitudes(i) >= 1 << 96),
+    ("quotient of two words", |i, _| magnitudes(i) / 1_000_000 >= 1 << 64),
+];
+
+fn magnitudes(i: &Inputs) -> u128 {
+    u128::from((i[0] as i64).unsigned_abs()) * u128::from((i[1] as i64).unsigned_abs())
 }
 
 fn price_at(i: &Inputs) -> u64 {
@@ -112,9 +130,9 @@ pub const LEAVES: &[Leaf] = &[
         takes: &[I64, I64],
         gives: I64,
         port: |i| port::tc_value(i[0] as i64, i[1] as i64) as u64,
-        rust: Some(value),
+        rust: Some(|i| value(i[0] as i64, i[1] as i64) as u64),
         nanobook: Some(|n, i| (n.notional_cents)(i[0] as i64, i[1] as i64) as u64),
-        classes: CLAMPED,
+        classes: VALUE,
         ..PLAIN
     },
     Leaf {
