@@ -3,3 +3,4 @@ pub mod Asking
 pub mod Finishing
 pub mod Telling
 pub mod Holding
+pub mod Calling

@@ -7,7 +7,7 @@ use lib.Dec.{eqb, ltb}
 use Rattle.answer.specs.declared.Answer.{Answer}
 use Rattle.answer.specs.declared.Answer.the-variants.{Done, BadSetting, TooLong, Unsound}
 use Rattle.table.specs.Keyed.{pick, both}
-use Rattle.table.specs.Rows.{Cols, Full}
+use Rattle.table.specs.Rows.{Cols}
 use Rattle.fills.specs.declared.record.ExecutionKind.{ExecutionKind}
 use Rattle.fills.specs.declared.record.ExecutionKind.the-variants.{Rebalance, StopExit}
 use Rattle.call_lists.specs.Checks.{unless}
@@ -56,4 +56,3 @@ early r kind whole = unless (r .good) Unsound (earlyOn (r .account) kind whole)
 pub record Holds (b : List ℕ) (h : Ledger) (c : Cols) : Type 0 where
   pub good : readAccount b .good ≡ true
   pub same : accountWith h c ≡ accountIn b
-  pub full : Full c

@@ -2,7 +2,7 @@
 ghost use mathlib.Core.Path.{_≡_};
 ghost use Prim.Native.Nat.{_/_, _≤_, min};
 ghost use lib.ListN.{length};
-ghost use Rattle.table.specs.Rows.{cols, Full};
+ghost use Rattle.table.specs.Rows.{cols};
 ghost use Rattle.account.specs.Account.{accountWith};
 ghost use Rattle.portfolio.specs.Answers.{places};
 ghost use Rattle.portfolio.specs.Close.{closed};
@@ -22,8 +22,8 @@ use answer::Answer;
 use answer::is_done;
 use portfolio::close_on;
 
-// A close on lent columns, whose record stands first in number slices.
-fn close_at(
+// A close on lent columns, whose record stands first in number slices, and what it leaves filed in the lent bytes.
+fn file_close(
     h: Ledger,
     symbol: &mut [u64; 64],
     quantity: &mut [i64; 64],
@@ -39,7 +39,7 @@ fn close_at(
     account: &mut [u8],
     records: &mut [u8],
 ) -> u64
-    requires { ⌜ (length (now words) / 4 ≤ min (length (now records) / 96) 64) × Full (cols (now symbol) (now quantity) (now average) (now realized) (now total)) ⌝ }
+    requires { ⌜ length (now words) / 4 ≤ min (length (now records) / 96) 64 ⌝ }
     ensures { λ r. ⌜ tell r (now (account .exit)) (now (records .exit))
         ≡ told (closed (accountWith h (cols (now (symbol .entry)) (now (quantity .entry)) (now (average .entry)) (now (realized .entry)) (now (total .entry)))) s price period (kindOf kind) (places (length (now (words .entry))) (length (now (ints .entry))))) (now (account .entry)) (now (records .entry)) ⌝ }
 {
@@ -72,8 +72,8 @@ fn close_at(
     )
 }
 
-// "For closing, 8 asks for one place", and no more than one is filled.
-fn close_in(
+// In slices of as many places as there is room for: "For closing, 8 asks for one place", and no more than one is filled.
+fn close_in_room(
     h: Ledger,
     symbol: &mut [u64; 64],
     quantity: &mut [i64; 64],
@@ -87,7 +87,6 @@ fn close_in(
     account: &mut [u8],
     records: &mut [u8],
 ) -> u64
-    requires { ⌜ Full (cols (now symbol) (now quantity) (now average) (now realized) (now total)) ⌝ }
     ensures { λ r. ⌜ tell r (now (account .exit)) (now (records .exit))
         ≡ told (closed (accountWith h (cols (now (symbol .entry)) (now (quantity .entry)) (now (average .entry)) (now (realized .entry)) (now (total .entry)))) s price period (kindOf kind) (length (now (records .entry)) / 96)) (now (account .entry)) (now (records .entry)) ⌝ }
 {
@@ -96,7 +95,7 @@ fn close_in(
     let room = places(records.len(), 1);
     let w = 4 * room;
     let i = 8 * room;
-    close_at(
+    file_close(
         h,
         symbol,
         quantity,
@@ -158,7 +157,7 @@ pub extern "C" fn tc_close_position_at(
     if !is_done(answer) {
         return answer::number(answer);
     }
-    close_in(
+    close_in_room(
         h,
         &mut column,
         &mut quantity,

@@ -3,7 +3,7 @@ ghost use mathlib.Core.Path.{_≡_};
 ghost use mathlib.Core.Bool.{true};
 ghost use Prim.Native.Nat.{_/_, _≤_, min};
 ghost use lib.ListN.{length};
-ghost use Rattle.table.specs.Rows.{cols, Full};
+ghost use Rattle.table.specs.Rows.{cols};
 ghost use Rattle.account.specs.Account.{accountWith};
 ghost use Rattle.list_bytes.specs.Entries.{wholeList};
 ghost use Rattle.list_bytes.specs.Lists.{symbolsIn, weightsIn, pricesIn};
@@ -29,8 +29,8 @@ use list_bytes::prices_into;
 use list_bytes::targets_into;
 use portfolio::rebalance_on;
 
-// A rebalance on lent columns by whole lists, whose records stand first in number slices.
-fn rebalance_at(
+// A rebalance on lent columns by whole lists, whose records stand first in number slices, and what it leaves filed in the lent bytes.
+fn file_rebalance(
     h: Ledger,
     symbol: &mut [u64; 64],
     quantity: &mut [i64; 64],
@@ -46,8 +46,7 @@ fn rebalance_at(
     account: &mut [u8],
     records: &mut [u8],
 ) -> u64
-    requires { ⌜ (wholeList 64 (now targets) ≡ true) × (wholeList 128 (now prices) ≡ true) × (length (now words) / 4 ≤ min (length (now records) / 96) 64)
-        × Full (cols (now symbol) (now quantity) (now average) (now realized) (now total)) ⌝ }
+    requires { ⌜ (wholeList 64 (now targets) ≡ true) × (wholeList 128 (now prices) ≡ true) × (length (now words) / 4 ≤ min (length (now records) / 96) 64) ⌝ }
     ensures { λ r. ⌜ tell r (now (account .exit)) (now (records .exit))
         ≡ told (rebalanced (accountWith h (cols (now (symbol .entry)) (now (quantity .entry)) (now (average .entry)) (now (realized .entry)) (now (total .entry))))
         (symbolsIn (now (targets .entry))) (weightsIn (now (targets .entry))) (symbolsIn (now (prices .entry))) (pricesIn (now (prices .entry)))
@@ -90,8 +89,8 @@ fn rebalance_at(
     )
 }
 
-// No more than 64 records are made.
-fn rebalance_in(
+// In slices of as many places as there is room for: no more than 64 records are made.
+fn rebalance_in_room(
     h: Ledger,
     symbol: &mut [u64; 64],
     quantity: &mut [i64; 64],
@@ -105,7 +104,7 @@ fn rebalance_in(
     account: &mut [u8],
     records: &mut [u8],
 ) -> u64
-    requires { ⌜ (wholeList 64 (now targets) ≡ true) × (wholeList 128 (now prices) ≡ true) × Full (cols (now symbol) (now quantity) (now average) (now realized) (now total)) ⌝ }
+    requires { ⌜ (wholeList 64 (now targets) ≡ true) × (wholeList 128 (now prices) ≡ true) ⌝ }
     ensures { λ r. ⌜ tell r (now (account .exit)) (now (records .exit))
         ≡ told (rebalanced (accountWith h (cols (now (symbol .entry)) (now (quantity .entry)) (now (average .entry)) (now (realized .entry)) (now (total .entry))))
         (symbolsIn (now (targets .entry))) (weightsIn (now (targets .entry))) (symbolsIn (now (prices .entry))) (pricesIn (now (prices .entry)))
@@ -116,7 +115,7 @@ fn rebalance_in(
     let room = places(records.len(), 64);
     let w = 4 * room;
     let i = 8 * room;
-    rebalance_at(
+    file_rebalance(
         h,
         symbol,
         quantity,
@@ -179,7 +178,7 @@ pub extern "C" fn tc_rebalance_simple(
     if !is_done(answer) {
         return answer::number(answer);
     }
-    rebalance_in(
+    rebalance_in_room(
         h,
         &mut symbol,
         &mut quantity,

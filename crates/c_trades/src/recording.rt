@@ -37,8 +37,8 @@ fn keep(c: Noted, account: &mut [u8]) -> u64
     answer::number(answer)
 }
 
-// On the account that the bytes hold, by a whole price list.
-fn record_at<'a>(
+// A return on the account that the bytes hold, by a whole price list, and what it leaves filed in these bytes.
+fn file_return<'a>(
     h: Ledger,
     symbol: &'a [u64; 64],
     quantity: &'a [i64; 64],
@@ -114,7 +114,7 @@ pub extern "C" fn tc_record_return(
     if !is_done(answer) {
         return answer::number(answer);
     }
-    record_at(
+    file_return(
         h,
         &symbol,
         &quantity,

@@ -8,20 +8,13 @@ use mir.Facts.{toZ-ofZ}
 use borrow.Author.Needs.{needs}
 use borrow.Author.Tests.{not-true, not-false}
 use Rattle.word_bytes.specs.Words.{bytesOf, putWord}
-use Rattle.c_queries.specs.Told.{tellBoth}
 use Rattle.c_queries.specs.Reports.{snapshotWords, snapshotTold}
 use Rattle.c_queries.proofs.Telling.{five-puts}
 use Rattle.c_queries.proofs.summary.put_snapshot.Statement.{statement}
 use Rattle.c_queries.proofs.summary.put_snapshot.Tie as tie
 
-cash-fits : (s : tie.Start) → SFits w64 (s .args .s .cash)
-cash-fits s = search needs
-
-equity-fits : (s : tie.Start) → SFits w64 (s .args .s .equity)
-equity-fits s = search needs
-
-profit-fits : (s : tie.Start) → SFits w64 (s .args .s .«total_realized_pnl»)
-profit-fits s = search needs
+figures-fit : (s : tie.Start) → SFits w64 (s .args .s .cash) × SFits w64 (s .args .s .equity) × SFits w64 (s .args .s .«total_realized_pnl»)
+figures-fit s = (search needs, search needs, search needs)
 
 is-done-requires : tie.Need-is-done-requires
 is-done-requires c κs = search needs
@@ -31,10 +24,7 @@ number-requires c κs = search needs
 
 returns : tie.Need-returns
 unfolding snapshotTold
-returns c =
-    let d = sym (c .before .before .is-done .ensures) ∙ not-true _ (c .before .if1 .taken) in
-    let s = c .before .before .before .before .before in
-    rw d (ap (λ (n : ℕ). tellBoth n (s .args .figures .now) (s .args .weights .now)) (c .number .ensures))
+returns c = simp (sym (c .before .before .is-done .ensures) ∙ not-true _ (c .before .if1 .taken), c .number .ensures)
 
 write-figures-requires : tie.Need-write-figures-requires
 write-figures-requires c κs = search needs
@@ -63,7 +53,7 @@ returns-2 c =
     let q = f .before .before .before .before .before in
     let s = q .before .before .before .before in
     let d = sym (q .before .is-done .ensures) ∙ not-false _ (q .if1 .left) in
-    let four = simp (toZ-ofZ (cash-fits s), toZ-ofZ (equity-fits s), toZ-ofZ (profit-fits s)) at (f .write-figures .ensures) in
+    let four = simp (toZ-ofZ (figures-fit s .0), toZ-ofZ (figures-fit s .1), toZ-ofZ (figures-fit s .2)) at (f .write-figures .ensures) in
     let five : p .put-word .last .0 ≡ bytesOf (snapshotWords (s .args .s)) = p .put-word .ensures ∙ ap (λ (l : List ℕ). putWord l 4 (s .args .s .weights .count)) four ∙ five-puts (s .args .figures .now) _ _ _ _ _ (s .pre .0) in
     simp (d, five, w .write-weights .ensures)
 

@@ -6,7 +6,6 @@ use borrow.Author.Needs.{needs}
 use borrow.Author.Tests.{not-true, not-false}
 use Rattle.word_bytes.specs.Words.{bytesOf, turned, putWord}
 use Rattle.account_bytes.specs.Settings.{flagWord}
-use Rattle.c_queries.specs.Told.{tell}
 use Rattle.c_queries.specs.Reports.{unpricedTold}
 use Rattle.c_queries.proofs.Telling.{two-puts}
 use Rattle.c_queries.proofs.unpriced.put_unpriced.Statement.{statement}
@@ -20,10 +19,7 @@ number-requires c κs = search needs
 
 returns : tie.Need-returns
 unfolding unpricedTold
-returns c =
-    let d = sym (c .before .before .is-done .ensures) ∙ not-true _ (c .before .if1 .taken) in
-    let s = c .before .before .before .before in
-    rw d (ap (λ (n : ℕ). tell n (s .args .out .now)) (c .number .ensures))
+returns c = simp (sym (c .before .before .is-done .ensures) ∙ not-true _ (c .before .if1 .taken), c .number .ensures)
 
 mark-of-requires : tie.Need-mark-of-requires
 mark-of-requires c κs = search needs

@@ -1,9 +1,7 @@
 -- The weights, or nothing.
-use Prim.Native.Nat.{ℕ}
-use mathlib.Core.Path.{sym, ap, _∙_}
+use mathlib.Core.Path.{sym, _∙_}
 use borrow.Author.Needs.{needs}
 use borrow.Author.Tests.{not-true, not-false}
-use Rattle.c_queries.specs.Told.{tell}
 use Rattle.c_queries.specs.Reports.{weightsTold}
 use Rattle.c_queries.proofs.weighing.put_weights.Statement.{statement}
 use Rattle.c_queries.proofs.weighing.put_weights.Tie as tie
@@ -16,10 +14,7 @@ number-requires c κs = search needs
 
 returns : tie.Need-returns
 unfolding weightsTold
-returns c =
-    let d = sym (c .before .before .is-done .ensures) ∙ not-true _ (c .before .if1 .taken) in
-    let s = c .before .before .before .before in
-    rw d (ap (λ (n : ℕ). tell n (s .args .out .now)) (c .number .ensures))
+returns c = simp (sym (c .before .before .is-done .ensures) ∙ not-true _ (c .before .if1 .taken), c .number .ensures)
 
 write-weights-requires : tie.Need-write-weights-requires
 write-weights-requires c κs = search needs

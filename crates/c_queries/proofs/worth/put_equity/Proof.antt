@@ -9,7 +9,6 @@ use borrow.Author.Tests.{not-true, not-false}
 use Rattle.word_bytes.specs.Words.{bytesOf}
 use Rattle.word_bytes.specs.Numbers.{unsignedOf}
 use Rattle.account_bytes.proofs.Runs.{stored}
-use Rattle.c_queries.specs.Told.{tell}
 use Rattle.c_queries.specs.Reports.{equityTold}
 use Rattle.c_queries.proofs.Telling.{one-put}
 use Rattle.c_queries.proofs.worth.put_equity.Statement.{statement}
@@ -26,10 +25,7 @@ number-requires c κs = search needs
 
 returns : tie.Need-returns
 unfolding equityTold
-returns c =
-    let d = sym (c .before .before .is-done .ensures) ∙ not-true _ (c .before .if1 .taken) in
-    let s = c .before .before .before .before in
-    rw d (ap (λ (n : ℕ). tell n (s .args .out .now)) (c .number .ensures))
+returns c = simp (sym (c .before .before .is-done .ensures) ∙ not-true _ (c .before .if1 .taken), c .number .ensures)
 
 unsigned-requires : tie.Need-unsigned-requires
 unsigned-requires c κs = search needs

@@ -1,9 +1,8 @@
 -- The account's bytes, or nothing of a refusal.
-use Prim.Native.Nat.{ℕ}
-use mathlib.Core.Path.{sym, ap, _∙_}
+use mathlib.Core.Path.{sym, _∙_}
 use borrow.Author.Needs.{needs}
 use borrow.Author.Tests.{not-true, not-false}
-use Rattle.c_timed.specs.Made.{leave, left}
+use Rattle.c_timed.specs.Made.{left}
 use Rattle.c_timed.proofs.made.leave.Statement.{statement}
 use Rattle.c_timed.proofs.made.leave.Tie as tie
 
@@ -15,10 +14,7 @@ number-requires c κs = search needs
 
 returns : tie.Need-returns
 unfolding left
-returns c =
-    let d = sym (c .before .before .is-done .ensures) ∙ not-true _ (c .before .if1 .taken) in
-    let s = c .before .before .before .before in
-    rw d (ap (λ (n : ℕ). leave n (s .args .after .now)) (c .number .ensures))
+returns c = simp (sym (c .before .before .is-done .ensures) ∙ not-true _ (c .before .if1 .taken), c .number .ensures)
 
 write-account-requires : tie.Need-write-account-requires
 write-account-requires c κs = search needs

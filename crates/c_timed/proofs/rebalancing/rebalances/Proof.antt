@@ -1,9 +1,8 @@
 -- Each answers the same, whatever the one before it left in the lent slices.
-use Prim.Native.Nat.{_≤_}
 use native.Mathlib.Omega.{arith}
 use lib.ListN.{length}
 use borrow.Author.Needs.{needs}
-use mathlib.Core.Path.{_≡_, refl, sym}
+use mathlib.Core.Path.{_≡_}
 use Rattle.c_timed.proofs.Same.{rebalance-made}
 use Rattle.c_timed.proofs.rebalancing.rebalances.Statement.{statement}
 use Rattle.c_timed.proofs.rebalancing.rebalances.Tie as tie

@@ -1,9 +1,8 @@
 -- Each answers the same, whatever the one before it left in the series.
-use Prim.Native.Nat.{_≤_}
 use native.Mathlib.Omega.{arith}
 use lib.ListN.{length}
 use borrow.Author.Needs.{needs}
-use mathlib.Core.Path.{_≡_, refl, sym}
+use mathlib.Core.Path.{_≡_}
 use Rattle.c_timed.proofs.Same.{return-made}
 use Rattle.c_timed.proofs.recording.returns.Statement.{statement}
 use Rattle.c_timed.proofs.recording.returns.Tie as tie

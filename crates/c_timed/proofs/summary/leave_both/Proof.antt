@@ -1,23 +1,16 @@
 -- Figures and weights, or nothing of a refusal.
-use Prim.Native.Nat.{ℕ}
-use mathlib.Core.Path.{sym, ap, _∙_}
+use mathlib.Core.Path.{sym, _∙_}
 use mir.Syntax.{w64}
 use mir.Val.{SFits}
 use mir.Facts.{toZ-ofZ}
 use borrow.Author.Needs.{needs}
 use borrow.Author.Tests.{not-true, not-false}
-use Rattle.c_timed.specs.Made.{leaveBoth, leftBoth}
+use Rattle.c_timed.specs.Made.{leftBoth}
 use Rattle.c_timed.proofs.summary.leave_both.Statement.{statement}
 use Rattle.c_timed.proofs.summary.leave_both.Tie as tie
 
-cash-fits : (s : tie.Start) → SFits w64 (s .args .s .cash)
-cash-fits s = search needs
-
-equity-fits : (s : tie.Start) → SFits w64 (s .args .s .equity)
-equity-fits s = search needs
-
-profit-fits : (s : tie.Start) → SFits w64 (s .args .s .«total_realized_pnl»)
-profit-fits s = search needs
+figures-fit : (s : tie.Start) → SFits w64 (s .args .s .cash) × SFits w64 (s .args .s .equity) × SFits w64 (s .args .s .«total_realized_pnl»)
+figures-fit s = (search needs, search needs, search needs)
 
 is-done-requires : tie.Need-is-done-requires
 is-done-requires c κs = search needs
@@ -27,10 +20,7 @@ number-requires c κs = search needs
 
 returns : tie.Need-returns
 unfolding leftBoth
-returns c =
-    let d = sym (c .before .before .is-done .ensures) ∙ not-true _ (c .before .if1 .taken) in
-    let s = c .before .before .before .before .before in
-    rw d (ap (λ (n : ℕ). leaveBoth n (s .args .figures .now) (s .args .weights .now)) (c .number .ensures))
+returns c = simp (sym (c .before .before .is-done .ensures) ∙ not-true _ (c .before .if1 .taken), c .number .ensures)
 
 write-figures-requires : tie.Need-write-figures-requires
 write-figures-requires c κs = search needs
@@ -52,7 +42,7 @@ returns-2 c =
     let q = f .before .before .before .before .before in
     let s = q .before .before .before .before in
     let d = sym (q .before .is-done .ensures) ∙ not-false _ (q .if1 .left) in
-    simp (d, f .write-figures .ensures, toZ-ofZ (cash-fits s), toZ-ofZ (equity-fits s), toZ-ofZ (profit-fits s), w .write-weights .ensures)
+    simp (d, f .write-figures .ensures, toZ-ofZ (figures-fit s .0), toZ-ofZ (figures-fit s .1), toZ-ofZ (figures-fit s .2), w .write-weights .ensures)
 
 pub leave-both-spec : {M : Type 1} → statement M
 leave-both-spec = tie.close (tie.spec is-done-requires number-requires returns write-figures-requires write-weights-requires same-length same-length-2 returns-2)

@@ -1,8 +1,8 @@
 -- By whether the call was done.
-use mathlib.Core.Path.{sym, ap, _∙_}
+use mathlib.Core.Path.{sym, _∙_}
 use borrow.Author.Needs.{needs}
 use borrow.Author.Tests.{not-true, not-false}
-use Rattle.c_trades.specs.Told.{tell, finished}
+use Rattle.c_trades.specs.Told.{finished}
 use Rattle.c_trades.proofs.filing.finish.Statement.{statement}
 use Rattle.c_trades.proofs.filing.finish.Tie as tie
 
@@ -14,10 +14,7 @@ number-requires c κs = search needs
 
 returns : tie.Need-returns
 unfolding finished
-returns c =
-    let d = sym (c .before .before .is-done .ensures) ∙ not-true _ (c .before .if1 .taken) in
-    let s = c .before .before .before .before .before .before in
-    rw d (ap (λ n. tell n (s .args .account .now) (s .args .records .now)) (c .number .ensures))
+returns c = simp (sym (c .before .before .is-done .ensures) ∙ not-true _ (c .before .if1 .taken), c .number .ensures)
 
 write-ledger-requires : tie.Need-write-ledger-requires
 write-ledger-requires c κs = search needs

@@ -1,90 +1,48 @@
 -- What the code refuses before the call, and the call.
-use mathlib.Core.Path.{_≡_, refl, sym, ap, _∙_}
-use Prim.Native.Nat.{_/_}
-use mathlib.Core.Bool.{Bool, true, false}
+use mathlib.Core.Path.{_≡_, _∙_}
+use mathlib.Core.Bool.{Bool}
 use borrow.Author.Needs.{needs}
-use borrow.Author.Tests.{not-true, not-false}
 use lib.ListN.{length}
 use Rattle.table.specs.Keyed.{both}
 use Rattle.table.proofs.Keyed.{both-true}
 use Rattle.list_bytes.specs.Entries.{wholeList}
-use Rattle.list_bytes.specs.Lists.{symbolsIn, weightsIn, pricesIn}
-use Rattle.portfolio.specs.Answers.{isDone}
-use Rattle.portfolio.specs.Rebalance.{Outcome, rebalanced}
-use Rattle.c_trades.specs.Calls.{refusedIn, rebalanceIn}
-use Rattle.c_trades.proofs.Asking.{early-bad, early-good, early-whole, rebalance-unsound}
-use Rattle.answer.specs.declared.Answer.the-variants.{Unsound}
-use Rattle.table.specs.Rows.{Cols, cols}
-use Rattle.account.specs.declared.account.Account.{Account}
-use Rattle.account.specs.Account.{soundAccount, accountWith}
-use Rattle.account_bytes.specs.Account.{readAccount}
-use Rattle.c_trades.specs.Asked.{accountIn, kindOf, wholeRun, early, earlyOn, Holds}
-use Rattle.c_trades.specs.Told.{tell, told}
-use Rattle.c_trades.proofs.Finishing.{refused-early, done-early}
-use Rattle.c_trades.proofs.Holding.{read-holds}
+use Rattle.portfolio.specs.Rebalance.{Outcome}
+use Rattle.c_trades.specs.Asked.{wholeRun}
+use Rattle.c_trades.specs.Told.{Told}
+use Rattle.c_trades.specs.Calls.{rebalanceIn}
+use Rattle.c_trades.proofs.Calling.{Ready, ready, all-whole, Call, no-account, refused-call, made-call, rebalance-call}
 use Rattle.c_trades.proofs.rebalancing.tc_rebalance_simple.Statement.{statement}
 use Rattle.c_trades.proofs.rebalancing.tc_rebalance_simple.Tie as tie
 
--- the call on an account
-abbrev on-account : tie.Start → Account → Outcome
-on-account s a =
-    let ts = s .args .targets .now in
-    let ps = s .args .prices .now in
-    rebalanced a (symbolsIn ts) (weightsIn ts) (symbolsIn ps) (pricesIn ps) (s .args .period) (kindOf (s .args .kind)) (length (s .args .records .now) / 96)
-
-abbrev call : tie.Start → Outcome
-call s = on-account s (accountIn (s .args .account .now))
-
-unsound : (s : tie.Start) → soundAccount (accountIn (s .args .account .now)) ≡ false → call s ≡ refusedIn (s .args .account .now) Unsound
-unsound s h =
-    let ts = s .args .targets .now in
-    let ps = s .args .prices .now in
-    rebalance-unsound (accountIn (s .args .account .now)) (symbolsIn ts) (weightsIn ts) (symbolsIn ps) (pricesIn ps) (s .args .period) (kindOf (s .args .kind)) (length (s .args .records .now) / 96) h
+abbrev call : (s : tie.Start) → Call Outcome Told (s .args .account .now)
+call s = let a = s .args in rebalance-call (a .account .now) (a .records .now) (a .period) (a .kind) (a .targets .now) (a .prices .now)
 
 -- whether all that is lent is whole
 abbrev whole : tie.Start → Bool
-whole s = both (both (wholeList 64 (s .args .targets .now)) (wholeList 128 (s .args .prices .now))) (wholeRun (length (s .args .records .now)))
+whole s = let a = s .args in both (both (wholeList 64 (a .targets .now)) (wholeList 128 (a .prices .now))) (wholeRun (length (a .records .now)))
 
--- ---- what was read
 abbrev begun : tie.After-is-account → tie.Start
 begun c = c .before .before .before .before .before .before
 
-abbrev columns-read : tie.After-read-ledger → tie.After-read-columns
-columns-read c = c .before .before
+abbrev tested : tie.After-early → tie.After-both2
+tested c = c .before .before .before .before .before .before
 
-abbrev found : tie.After-read-ledger → tie.Else1
-found c = columns-read c .before .before .before .before .before .before .before
+abbrev found : tie.After-both2 → tie.Else1
+found c = c .before .before .before .before .before .before .before .before .before .before .before .before .before .before
 
-abbrev ledger-read : tie.After-early → tie.After-read-ledger
-ledger-read c = c .before .before .before .before .before .before .before .before .before .before .before
-
-abbrev start-of : tie.After-early → tie.Start
-start-of c = begun (found (ledger-read c) .before)
-
-abbrev columns-at : tie.After-read-columns → Cols
-columns-at c = let l = c .read-columns .last in cols (l .1 .0) (l .1 .1 .0) (l .1 .1 .1 .0) (l .1 .1 .1 .1 .0) (l .1 .1 .1 .1 .1 .0)
-
-good-at : (c : tie.Else1) → readAccount (begun (c .before) .args .account .now) .good ≡ true
-good-at c = sym (c .before .is-account .ensures) ∙ not-false _ (c .if1 .left)
-
-holds : (c : tie.After-read-ledger) → Holds (begun (found c .before) .args .account .now) (c .read-ledger .result) (columns-at (columns-read c))
-holds c = read-holds _ _ _ _ (good-at (found c)) (c .read-ledger .ensures) (columns-read c .read-columns .ensures)
-
-whole-is : (c : tie.After-both2) → c .both2 .result ≡ whole (begun (found (c .before .before .before .before .before) .before))
+whole-is : (c : tie.After-both2) → c .both2 .result ≡ whole (begun (found c .before))
 whole-is c =
     let w = c .before in
     let l = w .before in
     simp (l .before .before .is-whole .ensures, l .before .is-whole2 .ensures, l .both .ensures, w .whole-run .ensures) at (c .both2 .ensures)
 
-answer-is : (c : tie.After-early) → let s = start-of c in c .early .result ≡ early (readAccount (s .args .account .now)) (s .args .kind) (whole s)
-answer-is c =
-    let r = ledger-read c in
-    let s = start-of c in
-    let k = s .args .kind in
-    c .early .ensures
-    ∙ ap (earlyOn (accountWith (r .read-ledger .result) (columns-at (columns-read r))) k) (whole-is (c .before .before .before .before .before .before))
-    ∙ ap (λ (a : Account). earlyOn a k (whole s)) (holds r .same)
-    ∙ sym (early-good (s .args .account .now) k (whole s) (good-at (found r)))
+abbrev in-hand : tie.After-early → Ready
+in-hand c =
+    let w = tested c in
+    let g = found w in
+    let l = w .before .before .before .before .before in
+    ready (begun (g .before) .args .account .now) (begun (g .before) .args .kind) (whole (begun (g .before))) _
+    (g .before .is-account .ensures) (g .if1 .left) (l .read-ledger .ensures) (l .before .before .read-columns .ensures) (whole-is w) (c .early .ensures)
 
 is-account-requires : tie.Need-is-account-requires
 is-account-requires c κs = search needs
@@ -97,13 +55,7 @@ same-length c = search needs
 
 returns : tie.Need-returns
 unfolding rebalanceIn
-returns c =
-    let q = c .before .before in
-    let s = begun q in
-    let a = s .args in
-    let g = sym (q .is-account .ensures) ∙ not-true _ (c .before .if1 .taken) in
-    ap (λ n. tell n (a .account .now) (a .records .now)) (c .number .ensures)
-    ∙ refused-early (a .account .now) (a .kind) (whole s) (call s) (unsound s) Unsound (sym (early-bad (a .account .now) (a .kind) (whole s) g)) (a .records .now) refl
+returns c = let i = c .before .before in no-account (call (begun i)) _ (whole (begun i)) (i .is-account .ensures) (c .before .if1 .taken) (c .number .ensures)
 
 read-columns-requires : tie.Need-read-columns-requires
 read-columns-requires c κs = search needs
@@ -140,23 +92,13 @@ same-length-2 c = search needs
 
 returns-2 : tie.Need-returns-2
 unfolding rebalanceIn
-returns-2 c =
-    let e = c .before .before .before in
-    let s = start-of e in
-    let a = s .args in
-    let d = sym (c .before .before .is-done .ensures) ∙ not-true _ (c .before .if2 .taken) in
-    ap (λ n. tell n (a .account .now) (a .records .now)) (c .number2 .ensures)
-    ∙ refused-early (a .account .now) (a .kind) (whole s) (call s) (unsound s) (e .early .result) (answer-is e) (a .records .now) d
+returns-2 c = let d = c .before .before in refused-call (in-hand (d .before)) (call (begun (found (tested (d .before)) .before))) (d .is-done .ensures) (c .before .if2 .taken) (c .number2 .ensures)
 
-rebalance-in-requires : tie.Need-rebalance-in-requires
-rebalance-in-requires c κs =
+rebalance-in-room-requires : tie.Need-rebalance-in-room-requires
+rebalance-in-room-requires c κs =
     let q = c .before .before .before .before .before .before .before in
-    let e = q .before .before in
-    let s = start-of e in
-    let d = sym (ap isDone (answer-is e)) ∙ sym (q .before .is-done .ensures) ∙ not-false _ (q .if2 .left) in
-    let w = both-true _ (wholeRun (length (s .args .records .now))) (early-whole (s .args .account .now) (s .args .kind) (whole s) d) .0 in
-    let l = both-true (wholeList 64 (s .args .targets .now)) _ w in
-    (l .0, l .1, holds (ledger-read e) .full)
+    let w = all-whole (in-hand (q .before .before)) (q .before .is-done .ensures) (q .if2 .left) in
+    both-true _ _ (both-true _ _ w .0)
 
 same-length-3 : tie.Need-same-length-3
 same-length-3 c = search needs
@@ -170,12 +112,7 @@ returns-3 c =
     let f = c .before .before .before .before in
     let q = f .before .before .before .before .before .before .before .before in
     let e = q .before .before in
-    let s = start-of e in
-    let a = s .args in
-    let d = sym (q .before .is-done .ensures) ∙ not-false _ (q .if2 .left) in
-    f .rebalance-in .ensures
-    ∙ ap (λ x. told (on-account s x) (a .account .now) (a .records .now)) (holds (ledger-read e) .same)
-    ∙ ap (λ o. told o (a .account .now) (a .records .now)) (sym (done-early (a .account .now) (a .kind) (whole s) (call s) (unsound s) (e .early .result) (answer-is e) d))
+    f .rebalance-in-room .ensures ∙ made-call (in-hand e) (call (begun (found (tested e) .before))) (q .before .is-done .ensures) (q .if2 .left)
 
 pub tc-rebalance-simple-spec : {M : Type 1} → statement M
 tc-rebalance-simple-spec =
@@ -197,7 +134,7 @@ tc-rebalance-simple-spec =
     number-requires-2
     same-length-2
     returns-2
-    rebalance-in-requires
+    rebalance-in-room-requires
     same-length-3
     same-length-4
     returns-3)

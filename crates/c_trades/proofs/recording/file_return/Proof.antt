@@ -10,8 +10,8 @@ use Rattle.portfolio.specs.Returns.{recorded, notedBy}
 use Rattle.c_trades.specs.Asked.{accountIn}
 use Rattle.c_trades.specs.Returns.{noted}
 use Rattle.c_trades.proofs.Holding.{series-kept}
-use Rattle.c_trades.proofs.recording.record_at.Statement.{statement}
-use Rattle.c_trades.proofs.recording.record_at.Tie as tie
+use Rattle.c_trades.proofs.recording.file_return.Statement.{statement}
+use Rattle.c_trades.proofs.recording.file_return.Tie as tie
 
 abbrev prices-read : tie.After-return-on → tie.After-prices-into
 prices-read c = c .before .before .before .before .before
@@ -75,8 +75,8 @@ returns c =
     let b = s .args .account .now in
     simp (k .keep .ensures .0, k .keep .ensures .1) (series-kept b (s .args .h) (columns-at s) (s .pre .1) (t .return-on .result) _ _ ∙ ap (λ o. noted o b) (made t))
 
-pub record-at-spec : {M : Type 1} → statement M
-record-at-spec =
+pub file-return-spec : {M : Type 1} → statement M
+file-return-spec =
     tie.close
     (tie.spec
     prices-into-requires

@@ -1,5 +1,5 @@
 -- The call, and what it leaves.
-use mathlib.Core.Path.{_≡_, sym, _∙_}
+use mathlib.Core.Path.{sym, _∙_}
 use native.Mathlib.Omega.{arith}
 use borrow.Author.Needs.{needs}
 use lib.ListN.{length}
@@ -10,11 +10,11 @@ use Rattle.list_bytes.proofs.Lists.{Fronts, target-fronts, price-fronts}
 use Rattle.portfolio.specs.declared.trade.Traded.{Traded}
 use Rattle.portfolio.specs.Answers.{places}
 use Rattle.portfolio.specs.Rebalance.{rebalanced}
-use Rattle.portfolio.specs.Trades.{filed, filedBy, tradedOn}
+use Rattle.portfolio.specs.Trades.{tradedOn}
 use Rattle.c_trades.specs.Asked.{kindOf}
-use Rattle.c_trades.proofs.Finishing.{few-records, count-is, finished-told}
-use Rattle.c_trades.proofs.rebalancing.rebalance_at.Statement.{statement}
-use Rattle.c_trades.proofs.rebalancing.rebalance_at.Tie as tie
+use Rattle.c_trades.proofs.Finishing.{Finished, finishing}
+use Rattle.c_trades.proofs.rebalancing.file_rebalance.Statement.{statement}
+use Rattle.c_trades.proofs.rebalancing.file_rebalance.Tie as tie
 
 abbrev prices-read : tie.After-rebalance-on → tie.After-prices-into
 prices-read c = c .before .before .before .before .before .before .before .before .before .before .before .before
@@ -42,17 +42,18 @@ targets-lent c = target-fronts _ _ _ (c .targets-into .ensures)
 prices-lent : (c : tie.After-prices-into) → let l = begun (targets-read c) .args .prices .now in Fronts 128 l (pricesIn l) (listed (c .prices-into .result) (c .prices-into .last .1 .0) (c .prices-into .last .1 .1 .0))
 prices-lent c = price-fronts _ _ _ (c .prices-into .ensures)
 
-made : (c : tie.After-rebalance-on) → let s = start-of c in
-    filedBy (traded c) (c .rebalance-on .last .1 .1 .1 .1 .1 .1 .1 .1 .1 .1 .1 .1 .0) (c .rebalance-on .last .1 .1 .1 .1 .1 .1 .1 .1 .1 .1 .1 .1 .1 .0)
-    ≡ filed (rebalanced (accountWith (s .args .h) (columns-at s)) (symbolsIn (s .args .targets .now)) (weightsIn (s .args .targets .now)) (symbolsIn (s .args .prices .now)) (pricesIn (s .args .prices .now))
-    (s .args .period) (kindOf (s .args .kind)) (places (length (s .args .words .now)) (length (s .args .ints .now)))) (s .args .words .now) (s .args .ints .now)
-made c =
+left-by : (c : tie.After-rebalance-on) → let s = start-of c in
+    Finished (rebalanced (accountWith (s .args .h) (columns-at s)) (symbolsIn (s .args .targets .now)) (weightsIn (s .args .targets .now)) (symbolsIn (s .args .prices .now)) (pricesIn (s .args .prices .now))
+    (s .args .period) (kindOf (s .args .kind)) (places (length (s .args .words .now)) (length (s .args .ints .now))))
+    (traded c) (c .rebalance-on .last .1 .1 .1 .1 .1 .1 .1 .1 .1 .1 .1 .1 .0) (c .rebalance-on .last .1 .1 .1 .1 .1 .1 .1 .1 .1 .1 .1 .1 .1 .0) (s .args .records .now)
+left-by c =
     let p = prices-read c in
     let t = targets-read p in
     let s = begun t in
     let f = targets-lent t in
     let g = prices-lent p in
-    simp (t .before .before .before .kind-of .ensures, f .symbols (s .pre .0), f .values (s .pre .0), g .symbols (s .pre .1), g .values (s .pre .1)) at (c .rebalance-on .ensures)
+    let e = simp (t .before .before .before .kind-of .ensures, f .symbols (s .pre .0), f .values (s .pre .0), g .symbols (s .pre .1), g .values (s .pre .1)) at (c .rebalance-on .ensures) in
+    finishing _ (traded c) _ (s .args .words .now) _ (s .args .ints .now) (s .args .records .now) e (omega (arith, c .rebalance-on .kept)) (s .pre .2)
 
 kind-of-requires : tie.Need-kind-of-requires
 kind-of-requires c κs = search needs
@@ -91,10 +92,7 @@ rebalance-on-requires : tie.Need-rebalance-on-requires
 rebalance-on-requires c κs = search needs
 
 finish-requires : tie.Need-finish-requires
-finish-requires c κs =
-    let t = c .before .before .before .before .before .before .before .before .before .before .before .before in
-    let n = made t in
-    omega (arith, count-is _ (traded t) _ _ _ _ n, few-records _ (traded t) _ _ _ _ n, t .rebalance-on .kept, start-of t .pre .2)
+finish-requires c κs = left-by (c .before .before .before .before .before .before .before .before .before .before .before .before) .few
 
 same-length : tie.Need-same-length
 same-length c = search needs
@@ -109,14 +107,10 @@ same-length-4 : tie.Need-same-length-4
 same-length-4 c = search needs
 
 returns : tie.Need-returns
-returns c =
-    let f = c .before .before .before .before in
-    let t = f .before .before .before .before .before .before .before .before .before .before .before .before .before in
-    let s = start-of t in
-    f .finish .ensures ∙ finished-told _ (traded t) _ _ _ _ (made t) (s .args .account .now) (s .args .records .now) (omega (arith, t .rebalance-on .kept, s .pre .2))
+returns c = let f = c .before .before .before .before in f .finish .ensures ∙ left-by (f .before .before .before .before .before .before .before .before .before .before .before .before .before) .written _
 
-pub rebalance-at-spec : {M : Type 1} → statement M
-rebalance-at-spec =
+pub file-rebalance-spec : {M : Type 1} → statement M
+file-rebalance-spec =
     tie.close
     (tie.spec
     kind-of-requires

@@ -1,5 +1,5 @@
 -- The call, and what it leaves.
-use mathlib.Core.Path.{_≡_, _∙_}
+use mathlib.Core.Path.{_∙_}
 use native.Mathlib.Omega.{arith}
 use borrow.Author.Needs.{needs}
 use lib.ListN.{length}
@@ -9,11 +9,11 @@ use Rattle.account.specs.Account.{accountWith}
 use Rattle.portfolio.specs.declared.trade.Traded.{Traded}
 use Rattle.portfolio.specs.Answers.{places}
 use Rattle.portfolio.specs.Close.{closed}
-use Rattle.portfolio.specs.Trades.{filed, filedBy, tradedOn}
+use Rattle.portfolio.specs.Trades.{tradedOn}
 use Rattle.c_trades.specs.Asked.{kindOf}
-use Rattle.c_trades.proofs.Finishing.{few-records, count-is, finished-told}
-use Rattle.c_trades.proofs.closing.close_at.Statement.{statement}
-use Rattle.c_trades.proofs.closing.close_at.Tie as tie
+use Rattle.c_trades.proofs.Finishing.{Finished, finishing}
+use Rattle.c_trades.proofs.closing.file_close.Statement.{statement}
+use Rattle.c_trades.proofs.closing.file_close.Tie as tie
 
 abbrev begun : tie.After-close-on → tie.Start
 begun c = c .before .before .before .before .before .before .before .before .before .before .before .before
@@ -25,10 +25,13 @@ columns-at s = cols (s .args .symbol .now) (s .args .quantity .now) (s .args .av
 abbrev traded : tie.After-close-on → Traded
 traded c = let l = c .close-on .last in tradedOn (c .close-on .result) (cols (l .1 .0) (l .1 .1 .0) (l .1 .1 .1 .0) (l .1 .1 .1 .1 .0) (l .1 .1 .1 .1 .1 .0))
 
-made : (c : tie.After-close-on) → let s = begun c in
-    filedBy (traded c) (c .close-on .last .1 .1 .1 .1 .1 .1 .1 .1 .1 .1 .0) (c .close-on .last .1 .1 .1 .1 .1 .1 .1 .1 .1 .1 .1 .0)
-    ≡ filed (closed (accountWith (s .args .h) (columns-at s)) (s .args .s) (s .args .price) (s .args .period) (kindOf (s .args .kind)) (places (length (s .args .words .now)) (length (s .args .ints .now)))) (s .args .words .now) (s .args .ints .now)
-made c = let s = begun c in simp (toZ-ofZ (s .fits .price), c .before .before .before .before .before .before .before .before .kind-of .ensures) at (c .close-on .ensures)
+left-by : (c : tie.After-close-on) → let s = begun c in
+    Finished (closed (accountWith (s .args .h) (columns-at s)) (s .args .s) (s .args .price) (s .args .period) (kindOf (s .args .kind)) (places (length (s .args .words .now)) (length (s .args .ints .now))))
+    (traded c) (c .close-on .last .1 .1 .1 .1 .1 .1 .1 .1 .1 .1 .0) (c .close-on .last .1 .1 .1 .1 .1 .1 .1 .1 .1 .1 .1 .0) (s .args .records .now)
+left-by c =
+    let s = begun c in
+    let e = simp (toZ-ofZ (s .fits .price), c .before .before .before .before .before .before .before .before .kind-of .ensures) at (c .close-on .ensures) in
+    finishing _ (traded c) _ (s .args .words .now) _ (s .args .ints .now) (s .args .records .now) e (omega (arith, c .close-on .kept)) (s .pre)
 
 kind-of-requires : tie.Need-kind-of-requires
 kind-of-requires c κs = search needs
@@ -37,10 +40,7 @@ close-on-requires : tie.Need-close-on-requires
 close-on-requires c κs = search needs
 
 finish-requires : tie.Need-finish-requires
-finish-requires c κs =
-    let t = c .before .before .before .before .before .before .before .before .before .before .before .before in
-    let n = made t in
-    omega (arith, count-is _ (traded t) _ _ _ _ n, few-records _ (traded t) _ _ _ _ n, t .close-on .kept, begun t .pre .0)
+finish-requires c κs = left-by (c .before .before .before .before .before .before .before .before .before .before .before .before) .few
 
 same-length : tie.Need-same-length
 same-length c = search needs
@@ -55,14 +55,10 @@ same-length-4 : tie.Need-same-length-4
 same-length-4 c = search needs
 
 returns : tie.Need-returns
-returns c =
-    let f = c .before .before .before .before in
-    let t = f .before .before .before .before .before .before .before .before .before .before .before .before .before in
-    let s = begun t in
-    f .finish .ensures ∙ finished-told _ (traded t) _ _ _ _ (made t) (s .args .account .now) (s .args .records .now) (omega (arith, t .close-on .kept, s .pre .0))
+returns c = let f = c .before .before .before .before in f .finish .ensures ∙ left-by (f .before .before .before .before .before .before .before .before .before .before .before .before .before) .written _
 
-pub close-at-spec : {M : Type 1} → statement M
-close-at-spec =
+pub file-close-spec : {M : Type 1} → statement M
+file-close-spec =
     tie.close
     (tie.spec
     kind-of-requires
