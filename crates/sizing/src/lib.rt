@@ -6,6 +6,7 @@ ghost use Rattle.sums.specs.Sums.{notional, snap};
 ghost use Rattle.sums.specs.Wide.{wide};
 ghost use Rattle.cost_model.specs.Costs.{goodCosts};
 ghost use Rattle.sizing.specs.Afford.{need, fits, largest, affordable};
+ghost use Rattle.sizing.specs.Cash.{cashTaken, lowersCash};
 ghost use Rattle.sizing.specs.Sizing.{above, sharesFor, sized, cutTo, drift};
 use cost_model::CostModel;
 use position::Shares;
@@ -93,6 +94,22 @@ pub fn buy_cash_required(quantity: Shares, price: i64, costs: CostModel) -> i64
     }
     let notional = notional_of(quantity, price);
     sums::saturating_add(notional, costs.compute_cost(notional))
+}
+
+// "Cash falls by the signed value plus commission, saturating": by this much, for a fill at an effective price.
+fn cash_taken(quantity: Shares, price: i64, costs: CostModel) -> i64
+    ensures { λ r. ⌜ r ≡ cashTaken costs (quantity .0) price ⌝ }
+{
+    let cost = costs.compute_cost(notional_of(quantity, price));
+    sums::saturating_add(sums::value(quantity.raw(), price), cost)
+}
+
+// Whether an order lowers cash when it fills whole at its effective price, commission counted. A saturated sum has the sign of the exact one.
+pub fn lowers_cash(quantity: Shares, price: i64, costs: CostModel) -> bool
+    ensures { λ r. ⌜ r ≡ lowersCash costs (quantity .0) price ⌝ }
+{
+    let paid = costs.effective_price(quantity, price);
+    0 < cash_taken(quantity, paid, costs)
 }
 
 // A guess at the largest notional that cash pays for with its commission: by the rate or by the floor, whichever leaves less, and
