@@ -1,6 +1,6 @@
 -- Laws of what stands at the places of a plan.
 use Prim.Native.Nat.{ℕ, zero, suc, _+_, _-_, _≤_, _<_}
-use mathlib.Core.Path.{_≡_, refl, ap}
+use mathlib.Core.Path.{_≡_, refl, ap, _∙_}
 use mathlib.Core.Bool.{Bool, true, false}
 use mathlib.Core.List.{[], _∷_, _++_}
 use native.Mathlib.Omega.{arith}
@@ -70,6 +70,11 @@ pub plans-length : (n : ℕ) (c : Cols) → length (plans n c) ≡ shorter n 64
 unfolding plans
 plans-length n c = from-length (orderAt c) 0 (shorter n 64)
 
+pub plans-next : (i : ℕ) (c : Cols) → i < 64 → plans (i + 1) c ≡ plans i c ++ (orderAt c i ∷ [])
+plans-next i c h =
+    let e : 0 + i ≡ i = omega arith in
+    plans-few (i + 1) c (omega arith) ∙ ap (from (orderAt c) 0) (add-one i) ∙ rw (plans-few i c (omega arith)) (rw e at (from-last (orderAt c) 0 i))
+
 -- ---- the first place of which a test holds
 module _ (test : PlannedOrder → Bool) (f : ℕ → PlannedOrder) (i m : ℕ) where
   pub place-on : i < m → test (f i) ≡ false → (i + 1) + placeOf test (from f (i + 1) (m - (i + 1))) ≡ i + placeOf test (from f i (m - i))
@@ -83,3 +88,20 @@ module _ (test : PlannedOrder → Bool) (f : ℕ → PlannedOrder) (i m : ℕ) w
 
 pub place-start : (test : PlannedOrder → Bool) (n m : ℕ) (c : Cols) → m ≡ shorter n 64 → 0 + placeOf test (from (orderAt c) 0 (m - 0)) ≡ placeOf test (plans n c)
 place-start test n m c h = let e : m - 0 ≡ m = omega arith in rw (plans-start n m c h) (rw e (omega arith))
+
+-- where it fails before place i and holds from there on, the first is i
+module _ (test : PlannedOrder → Bool) (f : ℕ → PlannedOrder) (i : ℕ) (fails : (j : ℕ) → j < i → test (f j) ≡ false) where
+  place-from : (b k : ℕ) → b ≤ i → i ≤ b + k → ((j : ℕ) → i ≤ j → j < b + k → test (f j) ≡ true) → b + placeOf test (from f b k) ≡ i
+  place-from b zero l m holds = omega arith
+  place-from b (suc k) l m holds = go (ltb b i) refl (λ h. place-from (suc b) k (omega arith) (omega arith) (λ j p q. holds j p (omega arith)))
+    where
+      go : (t : Bool) → ltb b i ≡ t → (b < i → suc b + placeOf test (from f (suc b) k) ≡ i) → b + placeOf test (from f b (suc k)) ≡ i
+      go true e later =
+          let h : b < i = ltb-true b i e in
+          rw (fails b h) (omega (arith, later h))
+      go false e later =
+          let h : i ≤ b = ltb-false b i e in
+          rw (holds b h (omega arith)) (omega arith)
+
+  pub place-is : (m : ℕ) → i ≤ m → ((j : ℕ) → i ≤ j → j < m → test (f j) ≡ true) → i ≡ placeOf test (from f 0 m)
+  place-is m h holds = omega (arith, place-from 0 m (omega arith) (omega arith) (λ j p q. holds j p (omega arith)))

@@ -1,11 +1,12 @@
 -- A plan that was cut, or put into running order, stands in the first places of its columns.
 use Prim.Native.Nat.{ℕ, _≤_}
 use mathlib.Core.Path.{_≡_, refl, sym, ap, _∙_}
-use mathlib.Core.List.{List, []}
+use mathlib.Core.List.{List}
 use native.Mathlib.Omega.{arith}
 use lib.IntN.{pos}
 use lib.Ieee.{nan}
 use lib.ListN.{length}
+use Rattle.cost_model.specs.declared.CostModel.{CostModel}
 use Rattle.table.specs.Places.{shorter}
 use Rattle.account.specs.declared.settings.Settings.{Settings}
 use Rattle.wanted.specs.declared.plan.PlannedOrder.{PlannedOrder}
@@ -55,6 +56,6 @@ module _ (s : Settings) (n : ℕ) (c : Cols) (f : Full c) where
   pub cut-stands : Stood (admitted s (plans n c)) (cutPlan s (counted n c))
   cut-stands = rw cut-laid (laid-stands (admitted s (plans n c)) c (omega (arith, admitted-length s (plans n c), plans-most n c)) f)
 
-pub run-stands : (n : ℕ) (c : Cols) → Full c → Stood (cashFirst (plans n c) []) (runPlan (counted n c))
+pub run-stands : (costs : CostModel) (n : ℕ) (c : Cols) → Full c → Stood (cashFirst costs (plans n c)) (runPlan costs (counted n c))
 unfolding runPlan
-run-stands n c f = laid-stands (cashFirst (plans n c) []) c (omega (arith, cashFirst-length (plans n c) [], plans-most n c)) f
+run-stands costs n c f = laid-stands (cashFirst costs (plans n c)) c (omega (arith, cashFirst-length costs (plans n c), plans-most n c)) f

@@ -26,7 +26,7 @@ standing c r = record { columns = c; planned = r }
 -- an admitted plan with what it comes to, put into running order in cash-first mode
 abbrev pub summed : Settings → Counted → Standing
 summed s t =
-    let u = pick (s .«cash_first») (runPlan t) t in
+    let u = pick (s .«cash_first») (runPlan (s .rules .«cost_model») t) t in
     standing (u .columns) (record { count = u .count; notional = notionalFrom (pos 0) (plans (t .count) (t .columns)) })
 
 -- the plan of what is wanted, made in the columns c

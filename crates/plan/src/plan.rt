@@ -70,7 +70,7 @@ pub fn admit_plan<'a>(
     admit(quantity, price, wanted, s)
 }
 
-// The same, in cash-first mode put into running order: "admitted sells run before admitted buys". What the orders come to is summed as admitted.
+// The same, in cash-first mode put into running order: "those that lower no cash first, then the others". What the orders come to is summed as admitted.
 pub fn make_plan<'a>(
     key: &'a [u64; 64],
     held: &'a [i64; 64],
@@ -107,7 +107,7 @@ pub fn make_plan<'a>(
     );
     let notional = notional_sum(quantity, price, count);
     if s.cash_first {
-        let ran = run_order(symbol, quantity, price, drift, count);
+        let ran = run_order(symbol, quantity, price, drift, count, s.rules.cost_model);
         return Planned {
             count: ran,
             notional,
