@@ -18,7 +18,8 @@ use Rattle.sizing.specs.Cash.{cashTaken, cashChange}
 use Rattle.fills.specs.declared.order.Terms.{Terms}
 use Rattle.fills.specs.Orders.{paid}
 use Rattle.fills.specs.Fill.{fillsWhole, made, counted, settled, trimmedFill, fill, fillAll}
-use Rattle.order.specs.Running.{swap, total, nothing, and, parted, NotBelow0, InRange}
+use Rattle.admission.specs.Running.{parted}
+use Rattle.order.specs.Running.{swap, total, nothing, and, NotBelow0, InRange}
 use Rattle.order.specs.Statement.{lowers, cashRaised, Batch, allWhole, AllWhole, SameLeft}
 use Rattle.order.specs.Examples.{floorOf, opened, allComeOut, saleFirst, buyFirst, smallSale, runs, sameSymbol, oneRoom, slipsDown, slippedBuy, slippedSale, badCosts}
 use Rattle.order.proofs.Perms.{perm-refl}
@@ -29,7 +30,7 @@ free = floorOf (pos 0)
 
 pub record Evaluated : Type 0 where
   pub runs-come-out : allComeOut runs ≡ true
-  -- document 01's cash-first mode is not always an order that puts those not lowering cash first
+  -- 'sells first' would not put those not lowering cash first
   pub small-sale-lowers-cash : lowers (floorOf (pos 15)) smallSale ≡ true
   pub same-symbol-matters : sameSymbol ≡ (pos 50 ∷ []) ∷ ((pos 0 ∷ []) ∷ [])
   pub one-room-matters : oneRoom ≡ (64 ∷ []) ∷ ((65 ∷ []) ∷ [])

@@ -24,18 +24,6 @@ use Rattle.fills.proofs.Cash.{whole-is-taken, whole-settles}
 use Rattle.order.specs.Statement.{Tradable}
 use Rattle.order.proofs.Rule.{Rule}
 
-is-true : (b : Bool) → T b → b ≡ true
-is-true true h = refl
-is-true false h = absurd h
-
-from-one : (z : ℤ) → leZ (pos 1) z ≡ true → ltZ (pos 0) z ≡ true
-unfolding P N
-from-one z h = lt-is (pos 0) z (omega (arith, le-yes (pos 1) z h))
-
-none-above : (z : ℤ) → leZ (pos 0) z ≡ true → T (ltZ (pos 0) (negℤ z)) → ⊥
-unfolding P N
-none-above z l h = omega (arith, le-yes (pos 0) z l, lt-yes (pos 0) (negℤ z) (is-true _ h), P-neg z, N-neg z)
-
 module _ (t : Terms) (good : goodCosts (t .costs) ≡ true) where
   -- a fill is of its order's symbol
   pub made-symbol : (o : Order) (q : Option Position) → ((p : Position) → q ≡ some p → keyOf p ≡ o .symbol .0) → keyOf (made t o (o .quantity .0) q) ≡ o .symbol .0
@@ -64,13 +52,3 @@ module _ (t : Terms) (good : goodCosts (t .costs) ≡ true) where
     run-cash = λ o s k w. ap (λ (b : State). b .cash) (settles o s k w);
     run-held = λ o s k w. ap (λ (b : State). b .held) (settles o s k w);
   }
-
-  -- a buy raises no cash
-  pub buy-raises-none : (o : Order) → Tradable o → T (buys o) → T (ltZ (pos 0) (cashChange (t .costs) (o .quantity .0) (o .price))) → ⊥
-  unfolding cashChange paid
-  buy-raises-none o k b h =
-      let q = o .quantity .0 in
-      let p = paid t o in
-      let e : buys o ≡ true = is-true (buys o) b in
-      let above-zero : ltZ (pos 0) p ≡ true = from-one p (rw e (buy-price-at-least-1 (t .costs) (o .price) good (k .price))) in
-      none-above (cashTaken (t .costs) q p) (rw (need-is-taken (t .costs) q p e above-zero) at (need-nonneg (t .costs) good q p)) h

@@ -4,5 +4,7 @@ pub mod Rule
 pub mod Fills
 pub mod OrderTheorem
 pub mod Accounts
+pub mod OwnOrders
+pub mod CashFirst
 pub mod Cases
 pub mod Counters

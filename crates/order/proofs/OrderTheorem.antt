@@ -12,11 +12,12 @@ use Rattle.fills.specs.declared.order.Order.{Order}
 use Rattle.fills.specs.declared.order.Terms.{Terms}
 use Rattle.fills.specs.Orders.{State, buys, paid}
 use Rattle.fills.specs.Fill.{fillsWhole, fill, fillAll}
-use Rattle.order.specs.Running.{Perm, All, parted, InRange}
+use Rattle.admission.specs.Running.{parted}
+use Rattle.order.specs.Running.{Perm, InRange}
 use Rattle.order.specs.Statement.{lowers, cashRaised, Funded, Batch, allWhole, AllWhole, LowersLast, OrderIsFree}
-use Rattle.order.proofs.Perms.{total-same, perm-parted, all-perm, all-both, all-right}
+use Rattle.order.proofs.Perms.{total-same, perm-parted, parted-last}
 use Rattle.order.proofs.Rule as Rule
-use Rattle.order.proofs.Fills.{fills, buy-raises-none}
+use Rattle.order.proofs.Fills.{fills}
 
 -- running by the rule is running by the code
 ran : (t : Terms) (g : _) (os : List Order) (s : State) → Rule.after (fills t g) os s ≡ fillAll t os s
@@ -76,13 +77,4 @@ module _ (t : Terms) (os : List Order) (s : State) where
   pub parted-whole : Funded t os s → (w : List Order) → Perm Order os w → AllWhole t w s → AllWhole t (parted (lowers t) os) s
   unfolding fills cashChange paid
   parted-whole f w p a =
-      whole-if-any f w p a (parted (lowers t) os) (perm-parted (lowers t) os) (Rule.parted-last (fills t (f .costs)) os)
-
-  -- Cash-first mode, "admitted sells run before admitted buys", in whatever order within the two, fills each whole where no sell lowers cash and any running order does.
-  pub cash-first-whole : Funded t os s → (w : List Order) → Perm Order os w → AllWhole t w s
-      → (sells bought : List Order) → Perm Order os (sells ++ bought) → All Order (λ o. T (lowers t o) → ⊥) sells → All Order (λ o. T (buys o)) bought → AllWhole t (sells ++ bought) s
-  unfolding fills cashChange paid
-  cash-first-whole f w p a x y q hx hy =
-      let g = f .costs in
-      let none : All Order (λ o. T (ltZ (pos 0) (cashChange (t .costs) (o .quantity .0) (o .price))) → ⊥) y = all-both (λ o k b. buy-raises-none t g o k b) (all-right x (all-perm q (f .orders))) hy in
-      sym (whole t g (x ++ y) s) ∙ Rule.raises-first-fills (fills t g) os s (funded f) w p (whole t g w s ∙ a) (x ++ y) q (Rule.two-parts-first (fills t g) x y hx none)
+      whole-if-any f w p a (parted (lowers t) os) (perm-parted (lowers t) os) (parted-last (lowers t) os)

@@ -1,12 +1,12 @@
 -- Condition 3 for any fills that keep a few laws. Cash is a sum that has to stay at or above 0, so raising before lowering never hurts; the table's changes for
 -- different symbols commute. Nothing here knows what an order costs or what it makes of a position.
 use Prim.Native.Nat.{ℕ, _+_, _-_, _≤_, _<_, _^_}
-use mathlib.Core.List.{List, [], _∷_, _++_}
-use mathlib.Core.Bool.{Bool, true, false, not, _&&_}
+use mathlib.Core.List.{List, [], _∷_}
+use mathlib.Core.Bool.{Bool, true, false, _&&_}
 use mathlib.Core.Option.{Option, none, some}
 use mathlib.Core.Path.{_≡_, refl, sym, ap, _∙_, subst}
 use native.Mathlib.Omega.{arith}
-use lib.Dec.{T, T-not}
+use lib.Dec.{T}
 use lib.ListN.{length}
 use lib.IntN.{ℤ, pos, negℤ, _+ℤ_, _-ℤ_}
 use lib.Signed.{ltZ, leZ}
@@ -14,8 +14,8 @@ use Rattle.sums.specs.Sums.{satSub}
 use Rattle.sums.proofs.Ints.{P, N, P-pos, N-pos, P-neg, N-neg, P-add, P-sub, P-zero, N-zero, fits-of, satSub-exact, eq-of, le-yes, le-is, lt-yes, lt-no}
 use Rattle.table.specs.Keyed.{seek, put, put64, new}
 use Rattle.table.proofs.Keyed.{seek-key, seek-put, put-swap, put-length, put-room}
-use Rattle.order.specs.Running.{Perm, done, keep, swap, then, total, All, nothing, and, Pairs, parted, Last, Different, Room, NotBelow0, InRange}
-use Rattle.order.proofs.Perms.{total-perm, all-perm, pairs-perm, all-only, all-map, pairs-join}
+use Rattle.order.specs.Running.{Perm, done, keep, swap, then, total, All, nothing, and, Pairs, Last, Different, Room, NotBelow0, InRange}
+use Rattle.order.proofs.Perms.{total-perm, all-perm, pairs-perm, all-map}
 
 -- What the theorem asks of the fills of orders O on states A with positions Q.
 pub record Rule (O Q A : Type 0) : Type 1 where
@@ -325,12 +325,3 @@ module _ {O Q A : Type 0} (R : Rule O Q A) where
     -- and the same positions.
     pub same-held : Apart R os a → (v w : List O) → Perm O os v → Perm O os w → allWhole R v a ≡ true → allWhole R w a ≡ true → R .held (after R v a) ≡ R .held (after R w a)
     same-held h v w p q f g = held-of h v p f ∙ sym (held-of h w q g)
-
-  -- There is always such an order: those not lowering cash first, then the others, both as they stood.
-  pub parted-last : (os : List O) → LowersLast R (parted (lowers R) os)
-  parted-last os =
-      pairs-join (all-map (λ a h b t. absurd (T-not (lowers R a) h t)) (all-only (λ o. not (lowers R o)) os)) (all-map (λ b h a t. h) (all-only (lowers R) os))
-
-  -- A part with none that lowers cash, then a part with none that raises it, each in any order.
-  pub two-parts-first : (x y : List O) → All O (λ o. T (lowers R o) → ⊥) x → All O (λ o. T (raises R o) → ⊥) y → RaisesFirst R (x ++ y)
-  two-parts-first x y h k = pairs-join (all-map (λ a n b t s. n t) h) (all-map (λ b n a t s. n s) k)

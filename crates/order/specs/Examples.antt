@@ -86,7 +86,7 @@ sellsAlone =
     ∷ (run (pos 100) (pos 50) (sell 2 (pos 500) ∷ (sell 1 (pos 20) ∷ [])) true (pos 370)
     ∷ [])
 
--- Cash-first mode runs sells by symbol. Under a floor of 15, with no cash, the sale for 10 lowers cash: by symbol it is skipped, behind the sale for 25 it fills.
+-- Under a floor of 15, with no cash, the sale for 10 lowers cash: by symbol it is skipped; behind the sale for 25, where cash-first mode has it, it fills.
 abbrev pub smallSale : Order
 smallSale = sell 1 (pos 10)
 

@@ -2,4 +2,5 @@
 pub mod Running
 pub mod Statement
 pub mod OnAccount
+pub mod CashFirst
 pub mod Examples

@@ -1,7 +1,7 @@
 -- Running orders: a list, the same members in another order, and what condition 3 says of members and sums.
 use Prim.Native.Nat.{ℕ, _+_, _≤_}
-use mathlib.Core.List.{List, [], _∷_, _++_}
-use mathlib.Core.Bool.{Bool, true, not, cond}
+use mathlib.Core.List.{List, [], _∷_}
+use mathlib.Core.Bool.{Bool, true}
 use mathlib.Core.Path.{_≡_}
 use lib.Dec.{T}
 use lib.IntN.{ℤ, pos}
@@ -28,15 +28,6 @@ pub data All (A : Type 0) (Q : A → Type 0) : List A → Type 0 where
 pub data Pairs (A : Type 0) (R : A → A → Type 0) : List A → Type 0 where
   nothing : Pairs A R []
   and : {a : A} {x : List A} → All A (R a) x → Pairs A R x → Pairs A R (a ∷ x)
-
--- the members that pass a test, as they stand
-abbrev pub only : {A : Type 0} → (A → Bool) → List A → List A
-only t [] = []
-only t (a ∷ x) = cond (t a) (a ∷ only t x) (only t x)
-
--- those that fail the test, then those that pass it
-abbrev pub parted : {A : Type 0} → (A → Bool) → List A → List A
-parted t x = only (λ a. not (t a)) x ++ only t x
 
 -- "ahead of": behind a member that passes the test stand only such
 abbrev pub Last : {A : Type 0} → (A → Bool) → List A → Type 0

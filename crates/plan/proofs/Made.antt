@@ -29,7 +29,7 @@ module _ (s : Settings) (n : ℕ) (c : Cols) (v : ℤ) (sum : v ≡ notionalFrom
   pub as-planned : s .«cash_first» ≡ false → standing c (record { count = n; notional = v }) ≡ summed s (counted n c)
   as-planned e = rw (e, sum)
 
-  pub by-cash : (t : Counted) → s .«cash_first» ≡ true → t ≡ runPlan (counted n c) → standing (t .columns) (record { count = t .count; notional = v }) ≡ summed s (counted n c)
+  pub by-cash : (t : Counted) → s .«cash_first» ≡ true → t ≡ runPlan (s .rules .«cost_model») (counted n c) → standing (t .columns) (record { count = t .count; notional = v }) ≡ summed s (counted n c)
   by-cash t e h = rw (e, sum, h)
 
 -- ---- what callers cite: full columns hold the plan
@@ -55,12 +55,14 @@ module _ (s : Settings) (wanted : List PlannedOrder) (c : Cols) (f : Full c) (h 
       (ap (admitted s) (all .same) ∙ admitted-take s (addedAll s wanted []) (omega (arith, added-few s wanted [], h)))
       (cut-stands s (listed .count) (listed .columns) (all .full))
 
-  running : Stood (inRunningOrder s plan) (pick (s .«cash_first») (runPlan (cutPlan s listed)) (cutPlan s listed))
+  running : Stood (inRunningOrder s plan) (pick (s .«cash_first») (runPlan (s .rules .«cost_model») (cutPlan s listed)) (cutPlan s listed))
   unfolding inRunningOrder
   running = go (s .«cash_first»)
     where
-      go : (b : Bool) → Stood (pick b (cashFirst plan []) plan) (pick b (runPlan (cutPlan s listed)) (cutPlan s listed))
-      go true = subst (λ l. Stood (cashFirst l []) (runPlan (cutPlan s listed))) (stood .same) (run-stands (cutPlan s listed .count) (cutPlan s listed .columns) (stood .full))
+      go : (b : Bool) → Stood (pick b (cashFirst (s .rules .«cost_model») plan) plan) (pick b (runPlan (s .rules .«cost_model») (cutPlan s listed)) (cutPlan s listed))
+      go true =
+          subst (λ l. Stood (cashFirst (s .rules .«cost_model») l) (runPlan (s .rules .«cost_model») (cutPlan s listed))) (stood .same)
+          (run-stands (s .rules .«cost_model») (cutPlan s listed .count) (cutPlan s listed .columns) (stood .full))
       go false = stood
 
   stands : (d : Cols) (r : Planned) → standing d r ≡ summed s (cutPlan s listed) → Stands s plan d r

@@ -30,7 +30,7 @@ use Rattle.fills.specs.declared.record.ExecutionKind.{ExecutionKind}
 use Rattle.fills.specs.Inner.Runs.{orders}
 use Rattle.fills.proofs.Running.{next-order, no-order}
 use Rattle.admission.specs.Admission.{addedAll, admitted}
-use Rattle.admission.specs.Running.{cashFirst, inRunningOrder, notionalFrom}
+use Rattle.admission.specs.Running.{parted, sortedWith, cashFirst, inRunningOrder, notionalFrom}
 use Rattle.admission.specs.Columns.{Cols, Full, from, orderAt, plans}
 use Rattle.admission.proofs.Plans.{plans-few, plans-length, shorter-same}
 use Rattle.admission.proofs.Kept.{running-length}
@@ -66,10 +66,10 @@ module _ (ss : List ℕ) (ps : List ℤ) (ks : List ℕ) (vs : List ℤ) (r : �
 
 -- ---- the plan of the places
 no-run : (s : Settings) → inRunningOrder s [] ≡ []
-unfolding inRunningOrder cashFirst
+unfolding inRunningOrder cashFirst parted sortedWith
 no-run s = go (s .«cash_first»)
   where
-    go : (b : Bool) → pick b (cashFirst [] []) [] ≡ []
+    go : (b : Bool) → pick b (cashFirst (s .rules .«cost_model») []) [] ≡ []
     go true = refl
     go false = refl
 
