@@ -15,12 +15,7 @@ use Rattle.fills.specs.Fill.{fillsWhole, made, counted, settled, trimmedFill, f
 use Rattle.wanted.specs.Plan.{withinBand}
 use Rattle.cases.specs.Rows.{allRight}
 use Rattle.cases.specs.Table.{table}
-use Rattle.cases.specs.Requests.{requests}
 
 pub cases-hold : allRight table ≡ true
 unfolding fill fillAll fillsWhole made counted settled trimmedFill cashTaken paid withinBand drift need fits largest affordable effective slipped slippageFactor goodRate goodCosts notional add lt le applied sameSide entered averaged grown closedBy gain realizedBy closedCost closed partlyClosed reduced isZero cost commission atLeast sized sharesFor above value priceAt clamp64 satAdd satSub satAbs signed snap roundAway mul div ofInt toSigned
 cases-hold = refl
-
-pub requests-hold : allRight requests ≡ true
-unfolding fill fillAll fillsWhole made counted settled trimmedFill cashTaken paid withinBand drift need fits largest affordable effective slipped slippageFactor goodRate goodCosts notional add lt le applied sameSide entered averaged grown closedBy gain realizedBy closedCost closed partlyClosed reduced isZero cost commission atLeast sized sharesFor above value priceAt clamp64 satAdd satSub satAbs signed snap roundAway mul div ofInt toSigned
-requests-hold = refl

@@ -1,2 +1,3 @@
--- The claim over the table of cases.
+-- The claims over the tables of cases.
 pub mod Cases
+pub mod Requests

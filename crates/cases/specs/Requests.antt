@@ -12,6 +12,7 @@ use Rattle.fills.specs.declared.record.ExecutionKind.the-variants.{Rebalance}
 use Rattle.account.specs.declared.account.Account.{Account}
 use Rattle.account.specs.Settings.{ofCosts, openingSettings, withRecording, withCashFirst}
 use Rattle.account.specs.Account.{heldIn, tableOf}
+use Rattle.account.specs.Calls.{zeroAccount}
 use Rattle.wanted.specs.declared.plan.PlannedOrder.{PlannedOrder}
 use Rattle.wanted.specs.Plan.{planned}
 use Rattle.admission.specs.Running.{cashFirst}
@@ -35,8 +36,8 @@ abbrev pub holdsBoth : Bool → Account
 holdsBoth mode = record {
   cash = pos 0;
   settings = withCashFirst mode (withRecording true (openingSettings (ofCosts floor15) (whole (pos 1))));
-  counters = record { «last_rebalance_order_count» = 0; «last_rebalance_notional» = pos 0; «trimmed_fill_count» = 0; «trimmed_shortfall_cents» = pos 0; «record_count» = 0 };
-  series = record { «equity_count» = 0; «return_count» = 0; «previous_equity» = pos 0 };
+  counters = zeroAccount .counters;
+  series = zeroAccount .series;
   positions = tableOf (row nameA (whole (pos 1)) (pos 10) (pos 0) (pos 10) ∷ row nameB (whole (pos 1)) (pos 25) (pos 0) (pos 25) ∷ []);
 }
 
