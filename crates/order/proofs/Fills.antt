@@ -1,21 +1,13 @@
 -- The code's fills keep the laws that condition 3 rests on: whether an order fills whole is one comparison, of the cash that it takes with the cash there is,
 -- for buys and sells alike; and what it takes and makes does not depend on the orders before it.
-use mathlib.Core.Bool.{Bool, true, false}
+use mathlib.Core.Bool.{true}
 use mathlib.Core.Option.{Option, none, some}
 use mathlib.Core.Path.{_≡_, refl, ap, _∙_}
-use native.Mathlib.Omega.{arith}
-use lib.Dec.{T}
-use lib.IntN.{ℤ, pos, negℤ}
-use lib.Signed.{ltZ, leZ}
-use Rattle.sums.proofs.Ints.{P, N, P-neg, N-neg, le-yes, lt-yes, lt-is}
 use Rattle.position.specs.declared.position.Position.{Position}
 use Rattle.position.specs.Rows.{fresh, keyOf}
 use Rattle.position.proofs.Fills.{applied-keeps-symbol}
 use Rattle.cost_model.specs.Costs.{goodCosts}
-use Rattle.cost_model.proofs.Costs.{buy-price-at-least-1}
-use Rattle.sizing.specs.Cash.{cashTaken, cashChange}
-use Rattle.sizing.proofs.Buys.{need-nonneg}
-use Rattle.sizing.proofs.Cash.{need-is-taken}
+use Rattle.sizing.specs.Cash.{cashTaken}
 use Rattle.fills.specs.declared.order.Order.{Order}
 use Rattle.fills.specs.declared.order.Terms.{Terms}
 use Rattle.fills.specs.Orders.{State, buys, paid}

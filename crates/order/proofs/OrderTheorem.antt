@@ -1,16 +1,14 @@
 -- Condition 3.
 use Prim.Native.Nat.{ℕ}
-use mathlib.Core.List.{List, [], _∷_, _++_}
+use mathlib.Core.List.{List, [], _∷_}
 use mathlib.Core.Bool.{Bool, _&&_}
 use mathlib.Core.Path.{_≡_, refl, sym, ap, _∙_, subst}
-use lib.Dec.{T}
 use lib.IntN.{ℤ, pos, _+ℤ_}
-use lib.Signed.{ltZ}
 use Rattle.sizing.specs.Cash.{cashChange}
 use Rattle.sizing.proofs.Sizes.{above-is-P}
 use Rattle.fills.specs.declared.order.Order.{Order}
 use Rattle.fills.specs.declared.order.Terms.{Terms}
-use Rattle.fills.specs.Orders.{State, buys, paid}
+use Rattle.fills.specs.Orders.{State, paid}
 use Rattle.fills.specs.Fill.{fillsWhole, fill, fillAll}
 use Rattle.admission.specs.Running.{parted}
 use Rattle.order.specs.Running.{Perm, InRange}

@@ -1,5 +1,4 @@
 -- Value, notional and commission are what the calls give.
-use mathlib.Core.Path.{_∙_}
 use borrow.Author.Needs.{needs}
 use Rattle.sizing.specs.Cash.{cashTaken}
 use Rattle.sizing.proofs.Bits.{read-back}

@@ -1,5 +1,5 @@
 -- An order lowers cash where it takes some.
-use mathlib.Core.Path.{_≡_, sym, ap, _∙_}
+use mathlib.Core.Path.{sym}
 use borrow.Author.Needs.{needs}
 use Rattle.sizing.proofs.Bits.{read-back}
 use Rattle.sizing.proofs.Cash.{lowers-is-taken}
