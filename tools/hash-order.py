@@ -113,11 +113,10 @@ def equity_saturates(account, prices):
 
 def lists_of(call):
     """The targets and prices of a call."""
-    verb, *words = call.split(" ")
-    if verb == "rebalance":
-        _, targets, prices = (part.split() for part in " ".join(words).split("|"))
-        return compare.pairs(targets, compare.double), dict(compare.pairs(prices, int))
-    return [], dict(compare.pairs([word for word in words if "=" in word], int))
+    if call.startswith("rebalance "):
+        _, targets, prices = compare.lists(call)
+        return targets, dict(prices)
+    return [], dict(compare.pairs([word for word in call.split(" ") if "=" in word], int))
 
 
 def fates(account, targets, prices):

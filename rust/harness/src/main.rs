@@ -19,8 +19,8 @@ mod values;
 const USAGE: &str =
     "usage: harness leaves [SEED [COUNT]] | fills [SEED [COUNT]] | single [SEED [COUNT]] | figures [SEED [COUNT]]
     | accounts [SEED [COUNT]] | damage [SEED [COUNT]] | full | bench | bench values | bench figures | bench accounts
-    | scenarios [SEED [COUNT]] | spoiled [SEED [COUNT]] | stack | table | sample write FILE | sample check FILE
-    | sample accounts write FILE | sample accounts check FILE";
+    | scenarios [SEED [COUNT]] | spoiled [SEED [COUNT]] | cash-first [SEED [COUNT]] | stack | table | sample write FILE
+    | sample check FILE | sample accounts write FILE | sample accounts check FILE";
 
 const SEED: u64 = 20261115;
 
@@ -41,6 +41,7 @@ fn main() {
         ["damage", ref rest @ ..] => seeded(rest, 20_000, damage::run),
         ["scenarios", ref rest @ ..] => seeded(rest, 1_000, account::emit),
         ["spoiled", ref rest @ ..] => seeded(rest, 1_000, account::emit_spoiled),
+        ["cash-first", ref rest @ ..] => seeded(rest, 1_000, account::emit_cash_first),
         ["stack"] => stack::run(),
         ["table"] => table::run(),
         ["sample", "accounts", "write", path] => played::write(path),
