@@ -19,8 +19,8 @@ mod values;
 const USAGE: &str =
     "usage: harness leaves [SEED [COUNT]] | fills [SEED [COUNT]] | single [SEED [COUNT]] | figures [SEED [COUNT]]
     | accounts [SEED [COUNT]] | damage [SEED [COUNT]] | full | bench | bench values | bench figures | bench accounts
-    | bench cash-first | scenarios [SEED [COUNT]] | spoiled [SEED [COUNT]] | cash-first [SEED [COUNT]] | stack | table | sample write FILE
-    | sample check FILE | sample accounts write FILE | sample accounts check FILE";
+    | bench cash-first | scenarios [SEED [COUNT]] | spoiled [SEED [COUNT]] | cash-first [SEED [COUNT]] | stack | table
+    | sample write FILE | sample check FILE | sample accounts write FILE | sample accounts check FILE";
 
 const SEED: u64 = 20261115;
 
