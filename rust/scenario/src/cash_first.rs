@@ -52,7 +52,8 @@ fn short_of_cash(random: &mut Random) -> Scenario {
     Scenario { opening: Opening { cash, costs, equity_places: 1 }, steps }
 }
 
-/// A floor alone, with a rate, with slippage of any size; a rate that takes all a sale brings; none, and none on what is worth 0.
+/// A floor alone, with a rate, with slippage of any size; a rate that takes about all a sale brings, or more; none; a rate alone, and now
+/// and then slippage that takes a sale's price to 0.
 fn costs(random: &mut Random) -> Costs {
     let floor = 2 + random.below(500) as i64;
     let few = random.below(400) as f64 / 8.0;
@@ -60,9 +61,9 @@ fn costs(random: &mut Random) -> Costs {
         0 => (0.0, 0.0, floor),
         1 => (few, few / 4.0, floor),
         2 => (0.0, random.below(10_001) as f64, floor),
-        3 => (random.pick(&[9_900.0, 9_999.0, 10_000.0, 10_001.0, 20_000.0]), few, random.below(2) as i64 * floor),
+        3 => (random.pick(&[9_900.0, 9_999.0, 10_000.0, 10_050.0, 12_500.0]), few, random.below(2) as i64 * floor),
         4 => (0.0, 0.0, 0),
-        _ => (few, few, 0),
+        _ => (few, if random.one_in(4) { 10_000.0 } else { few }, 0),
     };
     Costs { commission_bps, slippage_bps, min_commission }
 }
