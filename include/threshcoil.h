@@ -117,7 +117,8 @@ enum tc_kind { TC_REBALANCE = 0, TC_STOP_EXIT = 1 };
 uint64_t tc_open(int64_t cash, const uint8_t *settings, size_t settings_bytes, uint8_t *account, size_t account_bytes,
                  int64_t *equities, size_t equity_places);
 
-/* Setters. A mark or a flag is 0 or 1. */
+/* Setters. A mark or a flag is 0 or 1. In cash-first mode orders that would lower no cash, filled whole, run before the others,
+ * each group by symbol. */
 uint64_t tc_set_quantity_step(uint8_t *account, size_t account_bytes, int64_t micro_shares);
 uint64_t tc_set_min_order_value(uint8_t *account, size_t account_bytes, int64_t cents);
 uint64_t tc_set_max_order_value(uint8_t *account, size_t account_bytes, int64_t cents);

@@ -113,20 +113,17 @@ def equity_saturates(account, prices):
 
 def lists_of(call):
     """The targets and prices of a call."""
-    verb, *words = call.split(" ")
-    if verb == "rebalance":
-        _, targets, prices = (part.split() for part in " ".join(words).split("|"))
-        return compare.pairs(targets, compare.double), dict(compare.pairs(prices, int))
-    return [], dict(compare.pairs([word for word in words if "=" in word], int))
+    if call.startswith("rebalance "):
+        _, targets, prices = compare.lists(call)
+        return targets, dict(prices)
+    return [], dict(compare.pairs([word for word in call.split(" ") if "=" in word], int))
 
 
 def fates(account, targets, prices):
     """The orders of a rebalance as they ran, each with what was filled of it."""
     account = replace(account, settings=replace(account.settings, recording=True))
-    equity = model.equity_of(account, prices)
-    orders = model.admitted(account.settings, model.plan(account, targets, prices, equity)) if equity > 0 else []
     found = []
-    for order in model.running_order(account.settings, orders):
+    for order in model.running_order(account.settings, model.ordered(account, targets, prices)):
         account, record = model.filled(account, order, 0, "rebalance")
         found.append((order, record.quantity if record else 0))
     return found
@@ -136,20 +133,14 @@ def whole(ran):
     return all(filled == order.quantity for order, filled in ran)
 
 
-def taken(costs, order):
-    """How much cash an order that fills whole takes, exact; below 0 where it brings some."""
-    price = costs.effective_price(order.price, 1.0 if order.quantity > 0 else -1.0)
-    return model.value(order.quantity, price) + costs.commission(model.notional(order.quantity, price))
-
-
 def raised(costs, order):
     """How much cash an order that fills whole brings."""
-    return max(0, -model.clamp(taken(costs, order)))
+    return max(0, -model.clamp(-model.cash_change(costs, order)))
 
 
 def lowers_last(costs, ran):
     """Whether behind an order that lowers cash stand only such."""
-    lowering = [taken(costs, order) > 0 for order, _ in ran]
+    lowering = [model.cash_change(costs, order) < 0 for order, _ in ran]
     return lowering == sorted(lowering)
 
 

@@ -1,4 +1,4 @@
-/* Compiled with the header and linked with the archive: some of document 01's cases, asked from C. */
+/* Compiled with the header and linked with the archive: some of document 01's cases, and document 02's of request 1, asked from C. */
 #include "threshcoil.h"
 
 #include <stdio.h>
@@ -91,11 +91,47 @@ static void case_d(void)
     held("an account cut short", (int64_t)r, TC_UNSOUND);
 }
 
+/* Document 02: cash 0, floor 15, A sold for 10, B sold for 25: in cash-first mode B, then A, and cash 5. */
+static void case_of_cash_first(void)
+{
+    uint8_t settings[TC_SETTINGS_BYTES] = {0};
+    put(settings, TC_MIN_COMMISSION_AT, 15);
+    put(settings, TC_STEP_AT, TC_SCALE);
+    put(settings, TC_RECORDING_AT, 1);
+    put(settings, TC_CASH_FIRST_AT, 1);
+    uint8_t account[TC_ACCOUNT_BYTES];
+    int64_t equities[1];
+    held("02, opening", (int64_t)tc_open(65, settings, sizeof settings, account, sizeof account, equities, 1), TC_DONE);
+
+    uint8_t targets[2 * TC_TARGET_BYTES] = {0}, prices[2 * TC_PRICE_BYTES] = {0};
+    targets[0] = prices[0] = 'A';
+    targets[TC_TARGET_BYTES] = prices[TC_PRICE_BYTES] = 'B';
+    put_double(targets, 1, 10.5 / 65);
+    put_double(targets, 3, 25.5 / 65);
+    put(prices, 1, 10);
+    put(prices, 3, 25);
+    static uint8_t records[TC_RECORD_PLACES * TC_RECORD_BYTES];
+    uint64_t r = tc_rebalance_simple(account, sizeof account, targets, sizeof targets, prices, sizeof prices, 0, TC_REBALANCE,
+                                     records, sizeof records);
+    held("02, bought", (int64_t)r, TC_DONE + 2 * 256);
+    held("02, cash bought with", (int64_t)word(records + TC_RECORD_BYTES, 11), 0);
+
+    r = tc_rebalance_simple(account, sizeof account, targets, 0, prices, sizeof prices, 1, TC_REBALANCE, records,
+                            sizeof records);
+    held("02, sold", (int64_t)r, TC_DONE + 2 * 256);
+    held("02, first", records[8 * 3], 'B');
+    held("02, then", records[TC_RECORD_BYTES + 8 * 3], 'A');
+    uint8_t cash[TC_CENTS_BYTES];
+    held("02, cash query", (int64_t)tc_cash(account, sizeof account, cash, sizeof cash), TC_DONE);
+    held("02, cash", (int64_t)word(cash, 0), 5);
+}
+
 int main(void)
 {
     leaves();
     case_d();
+    case_of_cash_first();
     if (failures == 0)
-        printf("header: the cases asked from C are as document 01 says\n");
+        printf("header: the cases asked from C are as documents 01 and 02 say\n");
     return failures != 0;
 }

@@ -1,4 +1,5 @@
-"""Document 01's checked cases, a to l, and its refusals, on the model. Exit status 1 where one fails."""
+"""Document 01's checked cases, a to l, and its refusals, and document 02's case of request 1 with its like, on the model. Exit
+status 1 where one fails."""
 import sys
 from dataclasses import replace
 
@@ -7,6 +8,7 @@ from model import Account, Costs, Order, Position, Settings
 
 FREE = Costs(0.0, 0.0, 0)
 FLOOR = Costs(0.0, 0.0, 100)
+FIFTEEN = Costs(0.0, 0.0, 15)
 TEN_BPS = Costs(10.0, 0.0, 100)
 WHOLE = model.SCALE
 
@@ -15,7 +17,7 @@ def symbol(name):
     return int.from_bytes(name.encode().ljust(8, b"\0"), "big")
 
 
-A, B = symbol("A"), symbol("B")
+A, B, C, D = map(symbol, "ABCD")
 
 
 def account(cash, costs=FREE, positions=None, **settings):
@@ -65,6 +67,26 @@ def case_l(cash_first):
         a = model.filled(a, order, 0, "rebalance")[0]
     return a.cash, a.trimmed_count
 
+
+def cash_first(cash, costs, shares, prices, targets=(), **settings):
+    """A rebalance in cash-first mode from whole shares held: the answer, the symbols as they filled, the cash left."""
+    held = {s: Position(n * WHOLE, prices[s], 0, n * prices[s]) for s, n in shares.items()}
+    a = account(cash, costs, held, recording=True, cash_first=True, **settings)
+    answer, a, records = model.rebalance(a, list(targets), list(prices.items()), 0, "rebalance")
+    return answer, "".join(chr(r.symbol >> 56) for r in records), a.cash
+
+
+# Document 02, request 1. At a price of 7 a gap of 1 becomes 142,857 micro-shares, which are worth 0.
+CASH_FIRST = [
+    ("a sale below the floor", cash_first(0, FIFTEEN, {A: 1, B: 1}, {A: 10, B: 25}), (0, "BA", 5)),
+    ("a sale for its commission", cash_first(0, FIFTEEN, {A: 1, B: 1, C: 1}, {A: 10, B: 15, C: 25}), (0, "BCA", 5)),
+    ("a sale at price 0", cash_first(100, Costs(0.0, 10_000.0, 0), {B: 1}, {A: 25, B: 20}, [(A, 0.25)]), (0, "BA", 50)),
+    ("buys worth 0", cash_first(20, FREE, {B: 1}, {A: 7, B: 80, C: 30, D: 7}, [(D, 0.01), (C, 0.3), (A, 0.01)], quantity_step=1),
+     (0, "ABDC", 70)),
+    ("a buy worth 0 under a floor", cash_first(85, FIFTEEN, {B: 1}, {A: 7, B: 15}, [(A, 0.01)], quantity_step=1), (0, "BA", 70)),
+    ("a sale slipped below the floor", cash_first(0, Costs(0.0, 5_000.0, 15), {A: 1, B: 1}, {A: 20, B: 50}), (0, "BA", 5)),
+    ("a sale cut below the floor", cash_first(0, FIFTEEN, {A: 2, B: 1}, {A: 13, B: 25}, max_order_value=25), (0, "BA", 8)),
+]
 
 CASES = [
     ("a", [model.value(1, 999_999), model.value(1, 1_000_000), model.value(-1, 999_999)], [0, 1, 0]),
@@ -124,12 +146,12 @@ def refusals():
 
 def main():
     failures = 0
-    rows = CASES + list(refusals())
-    for name, found, expected in rows:
+    first = CASES + list(refusals())
+    for paper, (name, found, expected) in [("01", row) for row in first] + [("02", row) for row in CASH_FIRST]:
         if found != expected:
             failures += 1
-            print(f"FAILS: {name}: {found}, and document 01 says {expected}")
-    print(f"model: {len(rows)} cases of document 01, {failures} failures")
+            print(f"FAILS: {name}: {found}, and document {paper} says {expected}")
+    print(f"model: {len(first)} cases of document 01 and {len(CASH_FIRST)} of document 02, {failures} failures")
     sys.exit(failures > 0)
 
 

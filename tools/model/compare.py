@@ -1,15 +1,18 @@
 """Plays the scenarios on standard input on the model and holds its answers to those written beside them.
 
-usage: harness scenarios SEED COUNT | python3 tools/model/compare.py      the Rust's answers
-       harness spoiled SEED COUNT | python3 tools/model/compare.py        the port's, refusals and cash-first mode among them
+usage: harness scenarios SEED COUNT | python3 tools/model/compare.py                  the Rust's answers
+       harness spoiled SEED COUNT | python3 tools/model/compare.py                    the port's, refusals and cash-first mode among them
+       harness cash-first SEED COUNT | python3 tools/model/compare.py cash-first      the port's in cash-first mode, and what they meet
 
 The text is that of rust/scenario: a call after '>', what it gave and the account after it after '<'. A call with no
-answer beside it is played and its answer number counted. Exit status 1 where an answer differs, or nothing was played.
+answer beside it is played and its answer number counted. Exit status 1 where an answer differs, nothing was played, or, of
+cash-first mode, something was met too seldom.
 """
 import struct
 import sys
 from collections import Counter
 
+import met
 import model
 from model import Costs
 
@@ -63,6 +66,12 @@ def setting(name, word):
     return bool(int(word)) if name in ("recording", "cash_first") else int(word)
 
 
+def lists(line):
+    """The context, the targets and the prices of a rebalance."""
+    context, targets, prices = (part.split() for part in line.removeprefix("rebalance ").split("|"))
+    return context, pairs(targets, double), pairs(prices, int)
+
+
 def call(account, line):
     """The account after the call on a line, and the lines that it answers."""
     verb, *words = line.split(" ")
@@ -75,8 +84,7 @@ def call(account, line):
         answer, account = model.with_setting(account, **{words[0]: setting(*words)})
         return account, [f"answer {answer}"]
     if verb == "rebalance":
-        context, targets, prices = (part.split() for part in " ".join(words).split("|"))
-        given = pairs(targets, double), pairs(prices, int)
+        context, *given = lists(line)
         answer, account, records = model.rebalance(account, *given, int(context[0]), context[1], int(context[2]))
         return account, [f"answer {answer}", *map(record_line, records)]
     if verb == "close":
@@ -130,17 +138,31 @@ def exchanges(lines):
         yield name, asked, answers
 
 
+def met_by(account, line, answer):
+    """What a call met, where it is a rebalance of an account in cash-first mode."""
+    if not line.startswith("rebalance ") or answer != model.DONE or not account.settings.cash_first:
+        return {}
+    _, targets, prices = lists(line)
+    return met.rebalance(account, targets, dict(prices))
+
+
 def main():
-    account, scenarios, compared, differences, answers = None, 0, 0, 0, Counter()
+    if sys.argv[1:] not in ([], ["cash-first"]):
+        sys.exit(__doc__)
+    cash_first = len(sys.argv) > 1
+    account, scenarios, compared, differences, answers, found = None, 0, 0, 0, Counter(), Counter()
     for name, asked, expected in exchanges(sys.stdin):
         if asked.startswith("open "):
             account = None
             scenarios += 1
         elif account is None:
             continue  # the rest of a scenario in which something differed
-        account, lines = call(account, asked)
+        before, (account, lines) = account, call(account, asked)
         lines += account_lines(account)
-        answers[int(lines[0].split()[1])] += 1
+        answer = int(lines[0].split()[1])
+        answers[answer] += 1
+        if cash_first:
+            found.update(met_by(before, asked, answer))
         compared += len(expected) > 0
         if expected and lines != expected:
             differences += 1
@@ -151,7 +173,8 @@ def main():
     given = ", ".join(f"{n} {answers[n]} times" for n in sorted(answers))
     print(f"model: {scenarios} scenarios, {answers.total()} calls; answers {given}")
     print(f"model: {compared} calls compared, {differences} differences")
-    sys.exit(differences > 0 or scenarios == 0)
+    missed = met.told(found, scenarios) if cash_first else []
+    sys.exit(differences > 0 or scenarios == 0 or len(missed) > 0)
 
 
 if __name__ == "__main__":

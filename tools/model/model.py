@@ -1,4 +1,5 @@
-"""Document 01 as a plain program: each rule once, in the paper's words. It knows nothing of the Rust nor of the port.
+"""Document 01, and request 1 of document 02, as a plain program: each rule once, in the paper's words. It knows nothing of the
+Rust nor of the port.
 
 Python's int is exact and its float is binary64. A call takes the account as it was and returns a new one; a refusal
 returns its number and the account as given. Quantities are micro-shares, symbols the number of their eight bytes.
@@ -164,6 +165,9 @@ class Order:
     quantity: int
     price: int
     drift: float
+
+    def effective_price(self, costs):
+        return costs.effective_price(self.price, 1.0 if self.quantity > 0 else -1.0)
 
 
 def good_symbol(symbol):
@@ -339,11 +343,23 @@ def admitted(settings, orders):
     return kept
 
 
+def cash_change(costs, order):
+    """'the exact cash change of each order filled whole'. Unclamped: only its sign is asked, and a clamp keeps that."""
+    price = order.effective_price(costs)
+    return -(value(order.quantity, price) + costs.commission(notional(order.quantity, price)))
+
+
 def running_order(settings, orders):
-    """'admitted sells run before admitted buys, each by symbol'."""
+    """'those that lower no cash first, then the others, each group by symbol'."""
     if not settings.cash_first:
         return orders
-    return sorted(orders, key=lambda o: (o.quantity > 0, o.symbol))
+    return sorted(orders, key=lambda o: (cash_change(settings.costs, o) < 0, o.symbol))
+
+
+def ordered(account, targets, prices):
+    """The admitted orders of a rebalance. 'At equity 0 or below the call is done with no orders'."""
+    equity = equity_of(account, prices)
+    return admitted(account.settings, plan(account, targets, prices, equity)) if equity > 0 else []
 
 
 # ---- Filling
@@ -407,7 +423,7 @@ def affordable(settings, cash, request, price):
 def filled(account, order, period, kind):
     """The account after one order, and its record, or None where nothing filled or nothing is recorded."""
     settings, quantity = account.settings, order.quantity
-    price = settings.costs.effective_price(order.price, 1.0 if quantity > 0 else -1.0)
+    price = order.effective_price(settings.costs)
     if quantity > 0 and need(settings.costs, quantity, price) > account.cash:
         quantity = affordable(settings, account.cash, quantity, price)
         lost = notional(order.quantity, price) - notional(quantity, price)
@@ -438,9 +454,7 @@ def rebalance(account, targets, prices, period, kind, places=MOST_POSITIONS):
     answer = first(unsound(account), *lists(targets, prices), no_room(account, places, MOST_POSITIONS), (TOO_MANY, together))
     if answer != DONE:
         return answer, account, []
-    priced = dict(prices)
-    equity = equity_of(account, priced)
-    orders = admitted(account.settings, plan(account, targets, priced, equity)) if equity > 0 else []
+    orders = ordered(account, targets, dict(prices))
     total = 0
     for order in orders:
         total = clamp(total + notional(order.quantity, order.price))

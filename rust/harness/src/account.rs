@@ -1,7 +1,7 @@
 //! Whole accounts: random scenarios played by the Rust and by the port, and written as text for the model to play.
 
 use crate::port::Port;
-use scenario::{Covered, Played, Random, Scenario, play, scenario, spoiled, written};
+use scenario::{Covered, Played, Random, Scenario, cash_first, play, scenario, spoiled, written};
 use std::io::Write;
 
 /// Plays `count` scenarios on the Rust and on the port, and compares every answer, every figure and the whole account
@@ -73,12 +73,22 @@ pub fn emit(seed: u64, count: u64) -> bool {
 /// Writes `count` scenarios outside the domain to standard output, with the port's answers: the Rust refuses nothing, so
 /// the model is held to them.
 pub fn emit_spoiled(seed: u64, count: u64) -> bool {
+    emit_ours("spoiled", seed, count, |random| {
+        let good = scenario(random);
+        spoiled(random, good)
+    })
+}
+
+/// Likewise scenarios in cash-first mode, which the Rust lacks.
+pub fn emit_cash_first(seed: u64, count: u64) -> bool {
+    emit_ours("cash-first", seed, count, cash_first)
+}
+
+fn emit_ours(name: &str, seed: u64, count: u64, scenario: fn(&mut Random) -> Scenario) -> bool {
     let mut out = std::io::stdout().lock();
     (0..count).all(|k| {
         let seed = seed.wrapping_add(k);
-        let mut random = Random::new(seed);
-        let good = scenario(&mut random);
-        let scenario = spoiled(&mut random, good);
-        write!(out, "# spoiled {seed}\n{}", written(&scenario, &play::<Port>(&scenario))).is_ok()
+        let scenario = scenario(&mut Random::new(seed));
+        write!(out, "# {name} {seed}\n{}", written(&scenario, &play::<Port>(&scenario))).is_ok()
     })
 }

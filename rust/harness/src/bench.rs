@@ -8,7 +8,7 @@ use std::hint::black_box;
 use std::time::Instant;
 use threshcoil::{Account, Context, CostModel, ExecutionKind, ExecutionRecord, Price, Settings, Target};
 use threshcoil_sys as port;
-use threshcoil_sys::layout::{self, ENTRY_SIZE, SNAPSHOT_SIZE, WEIGHTS_SIZE};
+use threshcoil_sys::layout::{self, ENTRY_SIZE, PLACES, SNAPSHOT_SIZE, WEIGHTS_SIZE};
 
 const CASH: i64 = 10_000_000_007;
 const COSTS: Costs = Costs { commission_bps: 5.0, slippage_bps: 2.0, min_commission: 100 };
@@ -102,7 +102,7 @@ impl Ours {
             target_bytes: targets.clone().map(|l| l.iter().flat_map(|(s, w)| entry(s, w.to_le_bytes())).collect()),
             price_bytes: prices.iter().flat_map(|(s, p)| entry(s, p.to_le_bytes())).collect(),
             records: vec![ExecutionRecord::EMPTY; 64],
-            record_bytes: vec![0; layout::PLACES * layout::RECORD_SIZE],
+            record_bytes: vec![0; PLACES * layout::RECORD_SIZE],
             equity,
             returns: vec![0.0; CALLS + 8],
         }
@@ -114,6 +114,7 @@ impl Ours {
             Setting::MaxTrades(cap) => account.set_max_trades_per_rebalance(cap),
             Setting::NoTradeBandBps(x) => account.set_no_trade_band_bps(x),
             Setting::Recording(on) => account.set_recording(on),
+            Setting::CashFirst(on) => account.set_cash_first(on),
             _ => Ok(()),
         };
         assert!(done.is_ok());
@@ -209,8 +210,8 @@ fn median(mut times: Vec<f64>) -> f64 {
     times[times.len() / 2]
 }
 
-/// Every batch starts from the same account; the four take turns, so that what else the machine does falls on all.
-fn timed(row: &Row, n: usize) -> Option<[f64; 4]> {
+/// Both accounts of a row, each with its lists.
+fn ready(row: &Row, n: usize) -> Option<(Timed, Ours)> {
     let list = |weight: fn(usize) -> f64| (0..n).map(|k| (symbol(k), weight(k))).collect::<Targets>();
     let targets = row.weights.map(list);
     let prices: Prices = (0..n).map(|k| (symbol(k), 1_000 + 37 * k as i64)).collect();
@@ -230,15 +231,65 @@ fn timed(row: &Row, n: usize) -> Option<[f64; 4]> {
     let figures = [a.cash(), a.last_rebalance_order_count() as i64, a.trimmed_fill_count() as i64];
     assert_eq!(rust.figures(), figures, "both are the same account");
     ours.assert_same(row.call);
+    Some((rust, ours))
+}
+
+/// A batch of the Rust's.
+fn theirs_in(rust: &Timed, call: Call) -> f64 {
+    let mut rust = rust.clone();
+    batch(|| (0..CALLS).for_each(|k| theirs(&mut rust, call, k)))
+}
+
+/// A batch by value, one on bytes and one through the safe crate, and the account that the last two leave.
+fn ours_in(ours: &Ours, call: Call) -> ([f64; 3], Account) {
+    let mut ours = ours.clone();
+    let directly = batch(|| _ = black_box(ours.directly(call)));
+    let on_bytes = batch(|| (0..CALLS).for_each(|k| ours.on_bytes(call, k)));
+    let on_account = batch(|| (0..CALLS).for_each(|k| ours.on_account(call, k)));
+    assert_eq!(ours.bytes, ours.account.as_bytes());
+    ([directly, on_bytes, on_account], ours.account)
+}
+
+/// Every batch starts from the same account; all take turns, so that what else the machine does falls on all.
+fn timed(row: &Row, n: usize) -> Option<[f64; 4]> {
+    let (rust, ours) = ready(row, n)?;
     let mut times = [const { Vec::new() }; 4];
     for _ in 0..BATCHES {
-        let (mut theirs_now, mut ours_now) = (rust.clone(), ours.clone());
-        times[0].push(batch(|| (0..CALLS).for_each(|k| theirs(&mut theirs_now, row.call, k))));
-        times[1].push(batch(|| _ = black_box(ours_now.directly(row.call))));
-        times[2].push(batch(|| (0..CALLS).for_each(|k| ours_now.on_bytes(row.call, k))));
-        times[3].push(batch(|| (0..CALLS).for_each(|k| ours_now.on_account(row.call, k))));
+        times[0].push(theirs_in(&rust, row.call));
+        let (now, _) = ours_in(&ours, row.call);
+        now.iter().zip(&mut times[1..]).for_each(|(time, times)| times.push(*time));
     }
     Some(times.map(median))
+}
+
+/// The same rebalances of 64 symbols, by turns bought and sold, in plain order and in cash-first mode: the Rust's, which has plain order
+/// alone, then the port's in either. Each order fills whole, so both leave the same.
+fn cash_first() -> Option<(f64, [[f64; 3]; 2])> {
+    let (rust, plain) = ready(&ROWS[0], PLACES)?;
+    let mut mode = plain.clone();
+    mode.set(Setting::CashFirst(true));
+    mode.assert_same(Call::Rebalance);
+    let (mut theirs, mut ours) = (Vec::new(), [const { [const { Vec::new() }; 3] }; 2]);
+    for _ in 0..BATCHES {
+        theirs.push(theirs_in(&rust, Call::Rebalance));
+        let [(in_order, left), (in_mode, mut other)] = [&plain, &mode].map(|ours| ours_in(ours, Call::Rebalance));
+        assert_eq!((left.last_rebalance_order_count(), left.trimmed_fill_count()), (PLACES as u64, 0));
+        assert!(other.set_cash_first(false).is_ok() && other == left, "both leave the same");
+        for (times, now) in ours.iter_mut().zip([in_order, in_mode]) {
+            times.iter_mut().zip(now).for_each(|(times, time)| times.push(time));
+        }
+    }
+    Some((median(theirs), ours.map(|times| times.map(median))))
+}
+
+/// A row's times, the port's each with its ratio to the Rust's.
+fn told(n: usize, name: &str, rust: f64, [direct, bytes, safe]: [f64; 3]) -> String {
+    format!(
+        "  {n:>2} symbols, {name:<20} Rust {rust:>6.0}, port directly {direct:>5.0} ({:.2}), on bytes {bytes:>5.0} ({:.2}), by the crate {safe:>5.0} ({:.2})",
+        direct / rust,
+        bytes / rust,
+        safe / rust
+    )
 }
 
 pub fn run() -> bool {
@@ -246,18 +297,26 @@ pub fn run() -> bool {
     println!("nanobook walks the ordered map of the differential runs, and under tools/hash-order its own hash map");
     for n in [8, 32, 64] {
         for row in &ROWS {
-            let Some([rust, direct, bytes, safe]) = timed(row, n) else {
+            let Some([rust, ours @ ..]) = timed(row, n) else {
                 println!("accounts: SKIPPED, since nanobook's source is not at hand");
                 return true;
             };
-            let name = row.name;
-            println!(
-                "  {n:>2} symbols, {name:<20} Rust {rust:>6.0}, port directly {direct:>5.0} ({:.2}), on bytes {bytes:>5.0} ({:.2}), by the crate {safe:>5.0} ({:.2})",
-                direct / rust,
-                bytes / rust,
-                safe / rust
-            );
+            println!("{}", told(n, row.name, rust, ours));
         }
     }
+    run_cash_first()
+}
+
+/// Cash-first mode alone, beside plain order.
+pub fn run_cash_first() -> bool {
+    let Some((rust, [plain, mode])) = cash_first() else {
+        println!("cash-first: SKIPPED, since nanobook's source is not at hand");
+        return true;
+    };
+    println!("in turn with each other; the Rust has no cash-first mode, so its plain order stands beside both");
+    println!("{}", told(PLACES, "plain order, filled", rust, plain));
+    let [direct, bytes, safe] = [0, 1, 2].map(|k| mode[k] / plain[k]);
+    let beside = format!("; to the port's plain order {direct:.2}, {bytes:.2}, {safe:.2}");
+    println!("{}{beside}", told(PLACES, "cash-first, filled", rust, mode));
     true
 }

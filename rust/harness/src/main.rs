@@ -19,8 +19,8 @@ mod values;
 const USAGE: &str =
     "usage: harness leaves [SEED [COUNT]] | fills [SEED [COUNT]] | single [SEED [COUNT]] | figures [SEED [COUNT]]
     | accounts [SEED [COUNT]] | damage [SEED [COUNT]] | full | bench | bench values | bench figures | bench accounts
-    | scenarios [SEED [COUNT]] | spoiled [SEED [COUNT]] | stack | table | sample write FILE | sample check FILE
-    | sample accounts write FILE | sample accounts check FILE";
+    | bench cash-first | scenarios [SEED [COUNT]] | spoiled [SEED [COUNT]] | cash-first [SEED [COUNT]] | stack | table
+    | sample write FILE | sample check FILE | sample accounts write FILE | sample accounts check FILE";
 
 const SEED: u64 = 20261115;
 
@@ -37,10 +37,12 @@ fn main() {
         ["bench", "values"] => values::bench(SEED),
         ["bench", "figures"] => series::bench(SEED),
         ["bench", "accounts"] => bench::run(),
+        ["bench", "cash-first"] => bench::run_cash_first(),
         ["accounts", ref rest @ ..] => seeded(rest, 8_000, account::run),
         ["damage", ref rest @ ..] => seeded(rest, 20_000, damage::run),
         ["scenarios", ref rest @ ..] => seeded(rest, 1_000, account::emit),
         ["spoiled", ref rest @ ..] => seeded(rest, 1_000, account::emit_spoiled),
+        ["cash-first", ref rest @ ..] => seeded(rest, 1_000, account::emit_cash_first),
         ["stack"] => stack::run(),
         ["table"] => table::run(),
         ["sample", "accounts", "write", path] => played::write(path),

@@ -167,6 +167,20 @@ fn a_close_without_a_price_says_so() {
     }
 }
 
+/// Document 02's case of request 1: the sale below the floor waits for the one that pays for it.
+#[test]
+fn cash_first_runs_what_lowers_no_cash_first() {
+    let text = "cash 0.65\nmin_commission 0.15\ncash_first on\nperiod one\nprices A 0.10 B 0.25\n\
+                targets A 0.16 B 0.39\nperiod two\nprices A 0.10 B 0.25\ntargets\n";
+    let (out, _) = model("cash-first", Some(text), &[]);
+    assert_eq!(out.status.code(), Some(0));
+    let said = said(&out);
+    let fills: Vec<&str> = said.lines().filter(|l| l.starts_with("  sell ") || l.starts_with("  buy ")).collect();
+    let first = |line: &str| line.split_whitespace().take(2).collect::<Vec<_>>().join(" ");
+    assert_eq!(fills.iter().map(|l| first(l)).collect::<Vec<_>>(), ["buy A", "buy B", "sell B", "sell A"], "{said}");
+    assert!(said.lines().any(|l| l.split_whitespace().eq(["Cash", "0.05"])), "{said}");
+}
+
 #[test]
 fn a_symbol_is_shown_as_it_is() {
     let text =

@@ -36,7 +36,7 @@ fn opened(cash: i64, costs: Costs, settings: &[Setting], steps: Vec<Step>) -> Sc
 }
 
 /// The weight whose target is this value.
-fn weight(value: i64, equity: i64) -> f64 {
+pub fn weight(value: i64, equity: i64) -> f64 {
     (value as f64 + 0.5) / equity as f64
 }
 
@@ -112,9 +112,7 @@ fn ties(random: &mut Random) -> Scenario {
     let each = 1 + random.below(10_000) as i64;
     let equity = each * 20;
     let mut targets: Vec<(usize, f64)> = (0..count).map(|k| (k, weight(each, equity))).collect();
-    for k in (1..count).rev() {
-        targets.swap(k, random.below(k as u64 + 1) as usize);
-    }
+    random.shuffle(&mut targets);
     let cap = match random.below(3) {
         0 => Setting::MaxRebalanceNotional(each * count as i64 / 2 + 1),
         1 => Setting::MaxTrades(Some(64)),

@@ -45,13 +45,11 @@ fn listed(random: &mut Random, temper: Temper) -> Prices {
     symbols.sort();
     symbols.dedup();
     // The list's own order is any order: only positions are kept by symbol.
-    for k in (1..symbols.len()).rev() {
-        symbols.swap(k, random.below(k as u64 + 1) as usize);
-    }
+    random.shuffle(&mut symbols);
     symbols.into_iter().map(|s| (s, price(random, temper))).collect()
 }
 
-fn symbol(random: &mut Random) -> Symbol {
+pub fn symbol(random: &mut Random) -> Symbol {
     let mut bytes = [0; 8];
     for byte in bytes.iter_mut().take(1 + random.below(8) as usize) {
         *byte = if random.one_in(3) { 33 + random.below(94) as u8 } else { b'A' + random.below(3) as u8 };

@@ -2,6 +2,7 @@
 //! and the model in tools/model reads both as text.
 
 mod aimed;
+mod cash_first;
 mod covered;
 mod generate;
 mod plan;
@@ -9,6 +10,7 @@ mod random;
 mod spoil;
 mod text;
 
+pub use cash_first::cash_first;
 pub use covered::Covered;
 pub use generate::{ordinary, scenario};
 pub use random::Random;

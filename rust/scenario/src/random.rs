@@ -30,6 +30,12 @@ impl Random {
         of[self.below(of.len() as u64) as usize]
     }
 
+    pub fn shuffle<T>(&mut self, of: &mut [T]) {
+        for k in (1..of.len()).rev() {
+            of.swap(k, self.below(k as u64 + 1) as usize);
+        }
+    }
+
     /// Every length of number alike, so that products and quotients of every size arise.
     fn of_any_length(&mut self) -> u64 {
         let length = self.below(65);

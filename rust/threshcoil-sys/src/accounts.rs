@@ -56,7 +56,7 @@ entries! {
     tc_set_max_rebalance_notional(account: &mut [u8], value: i64);
     "Turns recording on (1) or off (0)."
     tc_set_recording(account: &mut [u8], on: u64);
-    "Turns cash-first mode on (1) or off (0)."
+    "Turns cash-first mode, in which orders that would lower no cash run first, on (1) or off (0)."
     tc_set_cash_first(account: &mut [u8], on: u64);
 
     "The cash: 8 bytes."

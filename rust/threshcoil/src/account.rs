@@ -127,7 +127,7 @@ impl Account {
         told(port::tc_set_recording(&mut self.0, u64::from(on))).map(drop)
     }
 
-    /// Whether sells run before buys, each by symbol.
+    /// Whether orders that would lower no cash, filled whole, run before the others, each group by symbol.
     pub fn set_cash_first(&mut self, on: bool) -> Result<(), Refusal> {
         told(port::tc_set_cash_first(&mut self.0, u64::from(on))).map(drop)
     }

@@ -34,7 +34,7 @@ pub struct Settings {
     pub max_rebalance_notional: i64,
     /// Whether fills are recorded.
     pub recording: bool,
-    /// Whether sells run before buys.
+    /// Whether orders that would lower no cash run before the others.
     pub cash_first: bool,
 }
 
