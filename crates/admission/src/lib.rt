@@ -9,7 +9,6 @@ pub use cap::admit;
 pub use cap::is_capped;
 pub use cap::most_of;
 pub use place::place_by_drift;
-pub use place::place_by_symbol;
 pub use plan::add_order;
 pub use plan::insert_at;
 pub use run::notional_sum;
