@@ -17,6 +17,7 @@ use Rattle.position.specs.Symbols.{goodSymbol}
 use Rattle.table.specs.Keyed.{pick, seek}
 use Rattle.word_bytes.specs.Words.{bytesOf, turned}
 use Rattle.account.specs.declared.account.Account.{Account}
+use Rattle.account.specs.declared.holding.Held.{Held}
 use Rattle.account.specs.Account.{heldIn, soundAccount}
 use Rattle.account.specs.Calls.{absent, present, presentOr, positionOf, positionAt}
 use Rattle.account_bytes.specs.Sizes.{settingsLength}
@@ -54,10 +55,11 @@ told-by false w n words out e f = simp e
 pub number-in : (b : List ℕ) (w : Answer) (a : Account) (n : ℕ) → a ≡ accountIn b → n ≡ numberOf (unlessUnsound a w) → n ≡ numberOf (pick (soundIn b) w Unsound)
 number-in b w a n h e = e ∙ ap (λ (x : Account). numberOf (unlessUnsound x w)) h ∙ ap (λ (t : Bool). numberOf (pick t w Unsound)) (sym (sound-in b))
 
-pub told-queried : (b : List ℕ) (w : Answer) (a : Account) (n : ℕ) (ws words out : List ℕ) → a ≡ accountIn b → n ≡ numberOf (unlessUnsound a w) → ws ≡ words → eqb (numberOf w) 11 ≡ false →
-    tellIn n ws out ≡ queried b (8 * length words) w words out
+-- the words that the account gives
+pub told-queried : (gives : Account → List ℕ) (w : Answer) → eqb (numberOf w) 11 ≡ false → (b out : List ℕ) {a : Account} {n : ℕ} {ws : List ℕ}
+    → a ≡ accountIn b → n ≡ numberOf (unlessUnsound a w) → ws ≡ gives a → let words = gives (accountIn b) in tellIn n ws out ≡ queried b (8 * length words) w words out
 unfolding queried
-told-queried b w a n ws words out h e k f = ap (λ (l : List ℕ). tellIn n l out) k ∙ told-by (soundIn b) w n words out (number-in b w a n h e) f
+told-queried gives w f b out {a} {n} {ws} h e k = ap (λ (l : List ℕ). tellIn n l out) (k ∙ ap gives h) ∙ told-by (soundIn b) w n (gives (accountIn b)) out (number-in b w a n h e) f
 
 -- ---- positions
 present-done : (o : Option Position) → presentOr o .answer ≡ Done
@@ -85,6 +87,12 @@ place-by false g p = refl
 pub place-answer : (i : ℕ) (a : Account) → positionAt i a .answer ≡ unlessUnsound a Done
 unfolding positionAt
 place-answer i a = place-by (soundAccount a) (ltb i (a .positions .count)) _
+
+-- the words of the position that the account gives
+pub told-held : (gives : Account → Held) (w : Answer) → eqb (numberOf w) 11 ≡ false → ((a : Account) → gives a .answer ≡ unlessUnsound a w) → (b out : List ℕ) {a : Account} {h : Held} {n : ℕ} {ws : List ℕ}
+    → a ≡ accountIn b → h ≡ gives a → n ≡ numberOf (h .answer) → ws ≡ heldWords h → tellIn n ws out ≡ queried b 48 w (heldWords (gives (accountIn b))) out
+told-held gives w f each b out {a} e g n k =
+    told-queried (λ (x : Account). heldWords (gives x)) w f b out e (n ∙ ap (λ (x : Held). numberOf (x .answer)) g ∙ ap numberOf (each a)) (k ∙ ap heldWords g)
 
 -- "a position the account lacks is 0 with an absent mark"
 pub absent-is-zeros : (w : Answer) → bytesOf (heldWords (absent w)) ≡ replicate 48 0

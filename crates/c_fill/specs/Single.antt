@@ -2,7 +2,7 @@
 use Prim.Native.Nat.{ℕ, _*_}
 use mathlib.Core.Bool.{Bool, true}
 use mathlib.Core.List.{List, [], _∷_}
-use lib.Dec.{eqb, leb, ltb}
+use lib.Dec.{eqb, leb}
 use lib.IntN.{ℤ, pos}
 use lib.ListN.{length, getD}
 use lib.Signed.{leZ}
@@ -22,11 +22,9 @@ use Rattle.table.specs.Rows.{Cols, Counted, counted, posted, holding}
 use Rattle.fills.specs.declared.order.Book.{Book}
 use Rattle.fills.specs.declared.order.Order.{Order}
 use Rattle.fills.specs.declared.order.Terms.{Terms}
-use Rattle.fills.specs.declared.record.ExecutionKind.{ExecutionKind}
-use Rattle.fills.specs.declared.record.ExecutionKind.the-variants.{Rebalance, StopExit}
 use Rattle.fills.specs.declared.record.ExecutionRecord.{ExecutionRecord}
 use Rattle.fills.specs.Orders.{State}
-use Rattle.fills.specs.Records.{allWords, allInts, fronted}
+use Rattle.fills.specs.Records.{kindOf, goodKind, allWords, allInts, fronted}
 use Rattle.fills.specs.Inner.Runs.{order, recordsOf}
 use Rattle.fills.specs.Fill.{fill}
 use Rattle.c_fill.specs.declared.Ask.{Ask}
@@ -35,9 +33,6 @@ use Rattle.c_fill.specs.declared.Seen.{Seen}
 -- ---- what is asked
 abbrev pub asked : CostModel → ℤ → ℕ → ℕ → ℕ → ℤ → ℤ → Ask
 asked m step period kind s q price = record { costs = m; «quantity_step» = step; period = period; kind = kind; symbol = s; quantity = q; price = price }
-
-abbrev pub kindOf : ℕ → ExecutionKind
-kindOf n = pick (eqb n 0) Rebalance StopExit
 
 -- every fill is recorded
 abbrev pub termsOf : Ask → Terms
@@ -93,9 +88,9 @@ slotsOf s x l = slots
 abbrev pub soundIn : ℤ → Position → Bool
 soundIn cash p = both (leZ (pos 0) cash) (sound p)
 
--- "`quantity_step` at least 1"; "an unknown kind answers 1"
+-- "`quantity_step` at least 1"
 abbrev pub goodAsk : Ask → Bool
-goodAsk a = both (goodCosts (a .costs)) (both (leZ (pos 1) (a .«quantity_step»)) (ltb (a .kind) 2))
+goodAsk a = both (goodCosts (a .costs)) (both (leZ (pos 1) (a .«quantity_step»)) (goodKind (a .kind)))
 
 -- room for one record
 abbrev pub roomForOne : ℕ → ℕ → Bool

@@ -6,11 +6,10 @@ ghost use Rattle.cost_model.specs.Costs.{model};
 ghost use Rattle.table.specs.Rows.{cols, counted};
 ghost use Rattle.fills.specs.Records.{allWords, allInts, fronted};
 ghost use Rattle.fills.specs.Inner.Runs.{recordsOf};
-ghost use Rattle.c_fill.specs.Single.{kindOf, asked, termsOf, bookOf, positionIn, isNone, enteredIn, soundIn, goodAsk, refusalOf, seenBy, seenAfter, moneyOf, talliesOf, counting, slots, told, fillOne};
+ghost use Rattle.c_fill.specs.Single.{asked, termsOf, bookOf, positionIn, isNone, enteredIn, soundIn, goodAsk, refusalOf, seenBy, seenAfter, moneyOf, talliesOf, counting, slots, told, fillOne};
 use answer::Answer;
 use cost_model::CostModel;
 use fills::Book;
-use fills::ExecutionKind;
 use fills::Filled;
 use fills::Order;
 use fills::Terms;
@@ -65,21 +64,11 @@ fn asked(
     }
 }
 
-fn kind_of(number: u64) -> ExecutionKind
-    ensures { λ r. ⌜ r ≡ kindOf number ⌝ }
-{
-    if number == 0 {
-        ExecutionKind::Rebalance
-    } else {
-        ExecutionKind::StopExit
-    }
-}
-
 fn terms_of(a: Ask) -> Terms
     ensures { λ r. ⌜ r ≡ termsOf a ⌝ }
 {
     let costs = a.costs;
-    let kind = kind_of(a.kind);
+    let kind = fills::kind_of(a.kind);
     Terms {
         costs,
         quantity_step: a.quantity_step,

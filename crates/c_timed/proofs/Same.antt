@@ -17,17 +17,19 @@ use Rattle.account.specs.declared.account.Account.{Account}
 use Rattle.account.specs.declared.change.Changed.{Changed}
 use Rattle.account.specs.Account.{heldIn, withSeries}
 use Rattle.wanted.specs.Equity.{equityOf}
+use Rattle.account_bytes.specs.declared.account_words.ReadAccount.{ReadAccount}
+use Rattle.account_bytes.specs.Account.{readAccount}
 use Rattle.list_bytes.specs.declared.price.Prices.{Prices}
 use Rattle.list_bytes.specs.declared.target.Targets.{Targets}
 use Rattle.list_bytes.specs.Entries.{wholeList}
-use Rattle.list_bytes.specs.Lists.{targetsOf, pricesOf}
-use Rattle.list_bytes.proofs.Lists.{target-symbols-long, target-weights-long, price-symbols-long, price-prices-long}
+use Rattle.list_bytes.specs.Lists.{symbolsIn, pricesIn, targetsOf, pricesOf}
+use Rattle.list_bytes.proofs.Lists.{target-symbols-long, target-weights-long, price-symbols, price-prices, price-symbols-long, price-prices-long}
 use Rattle.portfolio.specs.declared.trade.Traded.{Traded}
 use Rattle.portfolio.specs.Answers.{places, returnAnswer}
 use Rattle.portfolio.specs.Rebalance.{rebalanced}
 use Rattle.portfolio.specs.Returns.{Recorded, nextSeries, recorded, recordedBy}
 use Rattle.portfolio.specs.Trades.{Filed, filed, filedBy}
-use Rattle.c_timed.specs.Calls.{ofOutcome, rebalanceCall, ofRecorded, returnCall}
+use Rattle.c_timed.specs.Calls.{accountIn, ofOutcome, rebalanceCall, ofRecorded, returnCall}
 
 -- ---- a return
 abbrev pub change : Answer → Account → Changed
@@ -90,6 +92,11 @@ module _ (l : List ℕ) {p : Prices} (e : p ≡ pricesOf l) where
 
   pub prices-lent : length (take (p .count) (p .price)) ≡ p .count
   prices-lent = rw e (price-prices-long l)
+
+-- a call on the account that was read, at the prices of a list that is whole
+pub called-at : {X : Type 0} (call : Account → List ℕ → List ℤ → X) (b l : List ℕ) {r : ReadAccount} {p : Prices} {x : X} → r ≡ readAccount b → p ≡ pricesOf l → wholeList 128 l ≡ true
+    → x ≡ call (r .account) (take (p .count) (p .symbol)) (take (p .count) (p .price)) → x ≡ call (accountIn b) (symbolsIn l) (pricesIn l)
+called-at call b l er ep w e = simp (er, ep, price-symbols l w, price-prices l w) at e
 
 -- ---- a front of a column that is as long as the count lies within it
 pub within : {A : Type 0} (n : ℕ) (l : List A) → length (take n l) ≡ n → n ≤ length l

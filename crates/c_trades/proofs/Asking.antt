@@ -13,6 +13,7 @@ use Rattle.answer.specs.declared.Answer.the-variants.{Done, BadSetting, TooLong
 use Rattle.table.specs.Keyed.{pick, both}
 use Rattle.call_lists.specs.Checks.{unless}
 use Rattle.fills.specs.declared.record.ExecutionKind.{ExecutionKind}
+use Rattle.fills.specs.Records.{goodKind}
 use Rattle.account.specs.declared.account.Account.{Account}
 use Rattle.account.specs.Account.{soundAccount}
 use Rattle.account_bytes.specs.Account.{readAccount}
@@ -20,7 +21,7 @@ use Rattle.portfolio.specs.Answers.{isDone, hasRoom, closeAnswer, rebalanceAnsw
 use Rattle.portfolio.specs.Rebalance.{refused, rebalanced}
 use Rattle.portfolio.specs.Close.{closed}
 use Rattle.portfolio.specs.Returns.{recorded}
-use Rattle.c_trades.specs.Asked.{accountIn, goodKind, asked, early, earlyOn}
+use Rattle.c_trades.specs.Asked.{accountIn, asked, early, earlyOn}
 
 module _ {X : Type 0} (refuse : Answer → X) (call : X) where
   by-tests : (g s k w : Bool) → (s ≡ false → call ≡ refuse Unsound)

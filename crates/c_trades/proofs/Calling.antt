@@ -17,12 +17,13 @@ use Rattle.account.specs.declared.account.Account.{Account}
 use Rattle.account.specs.declared.account.Ledger.{Ledger}
 use Rattle.account.specs.Account.{soundAccount, accountWith, ledgerOf}
 use Rattle.account_bytes.specs.Account.{accountOf, readAccount, readColumns}
+use Rattle.fills.specs.Records.{kindOf}
 use Rattle.list_bytes.specs.Lists.{symbolsIn, weightsIn, pricesIn}
 use Rattle.portfolio.specs.Answers.{isDone}
 use Rattle.portfolio.specs.Rebalance.{Outcome, rebalanced}
 use Rattle.portfolio.specs.Close.{closed}
 use Rattle.portfolio.specs.Returns.{Recorded, recorded}
-use Rattle.c_trades.specs.Asked.{accountIn, kindOf, asked, early, earlyOn, Holds}
+use Rattle.c_trades.specs.Asked.{accountIn, asked, early, earlyOn, Holds}
 use Rattle.c_trades.specs.Calls.{refusedIn}
 use Rattle.c_trades.specs.Told.{Told, tell, told}
 use Rattle.c_trades.specs.Returns.{Noted, note, noted, unrecorded}

@@ -3,13 +3,12 @@ use Prim.Native.Nat.{ℕ, _%_}
 use mathlib.Core.Path.{_≡_}
 use mathlib.Core.Bool.{Bool, true}
 use mathlib.Core.List.{List}
-use lib.Dec.{eqb, ltb}
+use lib.Dec.{eqb}
 use Rattle.answer.specs.declared.Answer.{Answer}
 use Rattle.answer.specs.declared.Answer.the-variants.{Done, BadSetting, TooLong, Unsound}
 use Rattle.table.specs.Keyed.{pick, both}
 use Rattle.table.specs.Rows.{Cols}
-use Rattle.fills.specs.declared.record.ExecutionKind.{ExecutionKind}
-use Rattle.fills.specs.declared.record.ExecutionKind.the-variants.{Rebalance, StopExit}
+use Rattle.fills.specs.Records.{goodKind}
 use Rattle.call_lists.specs.Checks.{unless}
 use Rattle.account.specs.declared.account.Account.{Account}
 use Rattle.account.specs.declared.account.Ledger.{Ledger}
@@ -24,13 +23,6 @@ accountIn b = readAccount b .account
 -- "Account bytes of the wrong length answer 11", as do a bad mark or flag and a NaN, and an account that is not sound
 abbrev pub soundIn : List ℕ → Bool
 soundIn b = both (readAccount b .good) (soundAccount (accountIn b))
-
--- "an unknown kind answers 1"
-abbrev pub goodKind : ℕ → Bool
-goodKind k = ltb k 2
-
-abbrev pub kindOf : ℕ → ExecutionKind
-kindOf k = pick (eqb k 0) Rebalance StopExit
 
 -- whether n bytes are a whole number of records
 abbrev pub wholeRun : ℕ → Bool

@@ -5,11 +5,12 @@ use lib.IntN.{ℤ}
 use lib.ListN.{length}
 use Rattle.answer.specs.declared.Answer.{Answer}
 use Rattle.table.specs.Keyed.{both}
+use Rattle.fills.specs.Records.{kindOf}
 use Rattle.list_bytes.specs.Entries.{wholeList}
 use Rattle.list_bytes.specs.Lists.{symbolsIn, weightsIn, pricesIn}
 use Rattle.portfolio.specs.Rebalance.{Outcome, refused, rebalanced}
 use Rattle.portfolio.specs.Close.{closed}
-use Rattle.c_trades.specs.Asked.{accountIn, kindOf, wholeRun, asked}
+use Rattle.c_trades.specs.Asked.{accountIn, wholeRun, asked}
 
 abbrev pub refusedIn : List ℕ → Answer → Outcome
 refusedIn b answer = refused answer (accountIn b)

@@ -5,22 +5,10 @@ ghost use Rattle.table.specs.Keyed.{both};
 ghost use Rattle.table.specs.Rows.{cols};
 ghost use Rattle.call_lists.specs.Checks.{unless};
 ghost use Rattle.account.specs.Account.{soundAccount, accountWith};
-ghost use Rattle.c_trades.specs.Asked.{kindOf, wholeRun, earlyOn};
+ghost use Rattle.c_trades.specs.Asked.{wholeRun, earlyOn};
 use account::Ledger;
 use account::sound_account;
 use answer::Answer;
-use fills::ExecutionKind;
-
-// The kind of a number that is known.
-pub(crate) fn kind_of(kind: u64) -> ExecutionKind
-    ensures { λ r. ⌜ r ≡ kindOf kind ⌝ }
-{
-    if kind == 0 {
-        ExecutionKind::Rebalance
-    } else {
-        ExecutionKind::StopExit
-    }
-}
 
 // Whether so many bytes are a whole number of records.
 pub(crate) fn whole_run(bytes: usize) -> bool

@@ -6,11 +6,10 @@ ghost use Rattle.table.specs.Rows.{cols};
 ghost use Rattle.account.specs.Account.{accountWith};
 ghost use Rattle.portfolio.specs.Answers.{places};
 ghost use Rattle.portfolio.specs.Close.{closed};
-ghost use Rattle.c_trades.specs.Asked.{kindOf};
+ghost use Rattle.fills.specs.Records.{kindOf};
 ghost use Rattle.c_trades.specs.Told.{tell, told};
 ghost use Rattle.c_trades.specs.Calls.{closeIn};
 use crate::asked::early;
-use crate::asked::kind_of;
 use crate::asked::whole_run;
 use crate::filing::finish;
 use crate::filing::places;
@@ -43,7 +42,7 @@ fn file_close(
     ensures { λ r. ⌜ tell r (now (account .exit)) (now (records .exit))
         ≡ told (closed (accountWith h (cols (now (symbol .entry)) (now (quantity .entry)) (now (average .entry)) (now (realized .entry)) (now (total .entry)))) s price period (kindOf kind) (places (length (now (words .entry))) (length (now (ints .entry))))) (now (account .entry)) (now (records .entry)) ⌝ }
 {
-    let k = kind_of(kind);
+    let k = fills::kind_of(kind);
     let t = close_on(
         h,
         symbol,

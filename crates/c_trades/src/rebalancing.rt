@@ -9,12 +9,11 @@ ghost use Rattle.list_bytes.specs.Entries.{wholeList};
 ghost use Rattle.list_bytes.specs.Lists.{symbolsIn, weightsIn, pricesIn};
 ghost use Rattle.portfolio.specs.Answers.{places};
 ghost use Rattle.portfolio.specs.Rebalance.{rebalanced};
-ghost use Rattle.c_trades.specs.Asked.{kindOf};
+ghost use Rattle.fills.specs.Records.{kindOf};
 ghost use Rattle.c_trades.specs.Told.{tell, told};
 ghost use Rattle.c_trades.specs.Calls.{rebalanceIn};
 use crate::asked::both;
 use crate::asked::early;
-use crate::asked::kind_of;
 use crate::asked::whole_run;
 use crate::filing::finish;
 use crate::filing::places;
@@ -52,7 +51,7 @@ fn file_rebalance(
         (symbolsIn (now (targets .entry))) (weightsIn (now (targets .entry))) (symbolsIn (now (prices .entry))) (pricesIn (now (prices .entry)))
         period (kindOf kind) (places (length (now (words .entry))) (length (now (ints .entry))))) (now (account .entry)) (now (records .entry)) ⌝ }
 {
-    let k = kind_of(kind);
+    let k = fills::kind_of(kind);
     let mut ts = [0u64; 64];
     let mut ws = [0.0f64; 64];
     let n = targets_into(targets, &mut ts, &mut ws);

@@ -12,7 +12,7 @@ use lib.ListN.{length, take, drop, getD, length-drop, drop-of-length-le}
 use lib.Seq.{drop-cons, take-all}
 use borrow.Author.Tests.{lt-ltb, le-ltb, le-leb, eq-eqb, ne-eqb, not-true}
 use Rattle.call_lists.specs.Lists.{among, distinct}
-use Rattle.table.specs.Keyed.{pick, both, ascending, Over, Rising}
+use Rattle.table.specs.Keyed.{pick, both, all, ascending, Over, Rising}
 use Rattle.table.proofs.Keyed.{ascending-rises, both-true}
 
 -- what a function of a list sees from place i on
@@ -23,13 +23,19 @@ module _ {A B : Type 0} (f : List A → B) (l : List A) (i : ℕ) where
   pub from-end : length l ≤ i → f (drop i l) ≡ f []
   from-end h = ap f (rw drop-of-length-le)
 
--- a test that holds of a list where it holds of each member
-module _ {A : Type 0} (f : List A → Bool) (t : A → Bool) (each : (x : A) (l : List A) → f (x ∷ l) ≡ both (t x) (f l)) (l : List A) (i : ℕ) (d : A) (h : i < length l) where
-  pub fails-at : t (getD l i d) ≡ false → f (drop i l) ≡ false
-  fails-at e = from-place f l i d h ∙ each _ _ ∙ simp e
+-- a loop that tests every member: those before place i hold, so those from there on decide
+abbrev pub Held : {A : Type 0} → (A → Bool) → List A → ℕ → Type 0
+Held t l i = (i ≤ length l) × (all t (drop i l) ≡ all t l)
 
-  pub holds-at : t (getD l i d) ≡ true → f (drop i l) ≡ f (drop (i + 1) l)
-  holds-at e = from-place f l i d h ∙ each _ _ ∙ simp e
+module _ {A : Type 0} (t : A → Bool) (l : List A) (i : ℕ) (held : Held t l i) where
+  pub fails-at : (d : A) → i < length l → t (getD l i d) ≡ false → false ≡ all t l
+  fails-at d h e = sym (from-place (all t) l i d h ∙ simp e) ∙ held .1
+
+  pub holds-at : (d : A) → i < length l → t (getD l i d) ≡ true → Held t l (i + 1)
+  holds-at d h e = (omega arith, sym (from-place (all t) l i d h ∙ simp e) ∙ held .1)
+
+  pub all-hold : length l ≤ i → true ≡ all t l
+  all-hold h = sym (from-end (all t) l i h) ∙ held .1
 
 -- "a price is below 1" as the code tests it
 pub below-one : (p : ℤ) → leZ (pos 1) p ≡ not (ltZ p (pos 1))

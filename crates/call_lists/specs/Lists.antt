@@ -8,7 +8,7 @@ use lib.Signed.{leZ}
 use lib.Ieee.{Float}
 use Rattle.doubles.specs.Doubles.{finite}
 use Rattle.position.specs.Symbols.{goodSymbol}
-use Rattle.table.specs.Keyed.{pick, both}
+use Rattle.table.specs.Keyed.{pick, both, all}
 
 -- whether the symbol stands in the list
 unfoldable pub among : ℕ → List ℕ → Bool
@@ -17,8 +17,7 @@ among s (k ∷ ks) = pick (eqb k s) true (among s ks)
 
 -- not "a symbol is bad"
 unfoldable pub allGood : List ℕ → Bool
-allGood [] = true
-allGood (s ∷ l) = both (goodSymbol s) (allGood l)
+allGood = all goodSymbol
 
 -- not "a symbol stands twice in one list"
 unfoldable pub distinct : List ℕ → Bool
@@ -27,13 +26,11 @@ distinct (s ∷ l) = both (not (among s l)) (distinct l)
 
 -- not "a weight is not finite"
 unfoldable pub allFinite : List Float → Bool
-allFinite [] = true
-allFinite (w ∷ l) = both (finite w) (allFinite l)
+allFinite = all finite
 
 -- not "a price is below 1"
 unfoldable pub allPriced : List ℤ → Bool
-allPriced [] = true
-allPriced (p ∷ l) = both (leZ (pos 1) p) (allPriced l)
+allPriced = all (leZ (pos 1))
 
 -- the price that the list gives a symbol; 0 where it gives none, which no listed price is
 unfoldable pub priceOf : List ℕ → List ℤ → ℕ → ℤ

@@ -2,7 +2,7 @@
 use Prim.Native.Nat.{ℕ, _+_, _*_}
 use mathlib.Core.Bool.{Bool}
 use mathlib.Core.List.{List, [], _∷_, _++_}
-use lib.Dec.{leb}
+use lib.Dec.{eqb, leb, ltb}
 use lib.ListN.{length, drop}
 use lib.Seq.{sets}
 use lib.IntN.{ℤ}
@@ -20,6 +20,14 @@ use Rattle.fills.specs.Orders.{paid}
 abbrev pub kindNumber : ExecutionKind → ℕ
 kindNumber Rebalance = 0
 kindNumber StopExit = 1
+
+-- 0 is a rebalance, and any other number a stop exit
+unfoldable pub kindOf : ℕ → ExecutionKind
+kindOf n = pick (eqb n 0) Rebalance StopExit
+
+-- "an unknown kind answers 1"
+abbrev pub goodKind : ℕ → Bool
+goodKind n = ltb n 2
 
 -- The record of q micro-shares filled, with the running count, and the cash before and after. The change saturates, so that it is defined for
 -- every input; of cash of at least 0 before and after it is the plain difference.

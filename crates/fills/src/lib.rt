@@ -13,4 +13,5 @@ pub use order::Terms;
 pub use record::ExecutionKind;
 pub use record::ExecutionRecord;
 pub use record::kind_number;
+pub use record::kind_of;
 pub use record::store;

@@ -4,7 +4,7 @@ ghost use Prim.Native.Nat.{_+_, _*_, _≤_};
 ghost use lib.ListN.{length};
 ghost use lib.Seq.{sets};
 ghost use Rattle.fills.specs.Inner.Deal.{recordBy};
-ghost use Rattle.fills.specs.Records.{kindNumber, wordsOf, intsOf, buffers, stored};
+ghost use Rattle.fills.specs.Records.{kindNumber, kindOf, wordsOf, intsOf, buffers, stored};
 use crate::deal::Deal;
 use crate::order::Order;
 use crate::order::Terms;
@@ -80,6 +80,16 @@ pub fn kind_number(k: ExecutionKind) -> u64
         ExecutionKind::Rebalance => 0,
         ExecutionKind::StopExit => 1,
     }
+}
+
+// The kind for which a number stands there.
+pub fn kind_of(n: u64) -> ExecutionKind
+    ensures { λ r. ⌜ r ≡ kindOf n ⌝ }
+{
+    if n == 0 {
+        return ExecutionKind::Rebalance;
+    }
+    ExecutionKind::StopExit
 }
 
 // Writes the four words of a record from place 4 times `at` on.

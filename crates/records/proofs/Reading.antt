@@ -11,10 +11,10 @@ use Rattle.table.proofs.Keyed.{both-false}
 use Rattle.fills.specs.declared.record.ExecutionKind.{ExecutionKind}
 use Rattle.fills.specs.declared.record.ExecutionKind.the-variants.{Rebalance, StopExit}
 use Rattle.fills.specs.declared.record.ExecutionRecord.{ExecutionRecord}
-use Rattle.fills.specs.Records.{kindNumber, wordsOf, intsOf, allWords, allInts, room, buffers, stored}
+use Rattle.fills.specs.Records.{kindNumber, kindOf, wordsOf, intsOf, allWords, allInts, room, buffers, stored}
 use Rattle.fills.proofs.Storing.{with-room}
 use Rattle.fills.proofs.Fronts.{words-long, ints-long}
-use Rattle.records.specs.Read.{kindOf, recordIn, recordAt, blank}
+use Rattle.records.specs.Read.{recordIn, recordAt, blank}
 use Rattle.records.specs.Run.{recordsAt}
 
 -- ---- by whether both slices have the place

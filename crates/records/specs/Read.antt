@@ -1,19 +1,13 @@
 -- The record that number slices hold at a place: four words and eight signed numbers, as `stored` writes them.
 use Prim.Native.Nat.{ℕ, _+_, _*_}
 use mathlib.Core.List.{List}
-use lib.Dec.{eqb}
 use lib.ListN.{getD}
 use lib.IntN.{ℤ, pos}
 use Rattle.table.specs.Keyed.{pick}
 use Rattle.position.specs.Rows.{shares, symbol}
-use Rattle.fills.specs.declared.record.ExecutionKind.{ExecutionKind}
-use Rattle.fills.specs.declared.record.ExecutionKind.the-variants.{Rebalance, StopExit}
+use Rattle.fills.specs.declared.record.ExecutionKind.the-variants.{Rebalance}
 use Rattle.fills.specs.declared.record.ExecutionRecord.{ExecutionRecord}
-use Rattle.fills.specs.Records.{buffers, room}
-
--- 0 is a rebalance, and any other number a stop exit
-unfoldable pub kindOf : ℕ → ExecutionKind
-kindOf n = pick (eqb n 0) Rebalance StopExit
+use Rattle.fills.specs.Records.{kindOf, buffers, room}
 
 unfoldable pub recordIn : List ℕ → List ℤ → ℕ → ExecutionRecord
 recordIn ws is i = record {

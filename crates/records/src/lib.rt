@@ -5,7 +5,6 @@ mod run;
 
 pub use into::close_position_into;
 pub use into::rebalance_into;
-pub use read::kind_of;
 pub use read::record_at;
 pub use run::collect;
 pub use run::store_record;

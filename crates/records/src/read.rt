@@ -2,21 +2,11 @@
 ghost use mathlib.Core.Path.{_≡_};
 ghost use Prim.Native.Nat.{_+_, _*_, _≤_};
 ghost use lib.ListN.{length};
-ghost use Rattle.records.specs.Read.{kindOf, recordIn, recordAt, blank};
+ghost use Rattle.records.specs.Read.{recordIn, recordAt, blank};
 use fills::ExecutionKind;
 use fills::ExecutionRecord;
 use position::Shares;
 use position::Symbol;
-
-// The kind for which a number stands among number slices.
-pub fn kind_of(n: u64) -> ExecutionKind
-    ensures { λ r. ⌜ r ≡ kindOf n ⌝ }
-{
-    if n == 0 {
-        return ExecutionKind::Rebalance;
-    }
-    ExecutionKind::StopExit
-}
 
 // What stands for a place that the slices lack.
 fn no_record() -> ExecutionRecord
@@ -45,7 +35,7 @@ fn record_in(words: &[u64], ints: &[i64], i: usize) -> ExecutionRecord
 {
     let w = i * 4;
     let n = i * 8;
-    let kind = kind_of(words[w + 2]);
+    let kind = fills::kind_of(words[w + 2]);
     ExecutionRecord {
         sequence: words[w],
         period_index: words[w + 1],

@@ -9,7 +9,6 @@ use Rattle.answer.specs.declared.Answer.the-variants.{Done}
 use Rattle.word_bytes.specs.Numbers.{unsignedOf}
 use Rattle.account.specs.declared.account.Account.{Account}
 use Rattle.account_bytes.proofs.Runs.{stored}
-use Rattle.c_accounts.specs.Entries.{accountIn}
 use Rattle.c_accounts.proofs.Telling.{told-queried}
 use Rattle.c_accounts.proofs.query.tc_cash.Statement.{statement}
 use Rattle.c_accounts.proofs.query.tc_cash.Tie as tie
@@ -42,8 +41,8 @@ returns c =
     let k = u .before .before in
     let a = k .before in
     let s = a .before .before .before .args in
-    let e = stored (cash-fits (u .before)) (u .unsigned .ensures) ∙ ap (λ (x : Account). unsignedOf (x .cash)) (a .account-in .ensures) in
-    t .tell .ensures ∙ told-queried (s .account .now) Done (a .account-in .result) (k .unless-unsound .result) (u .unsigned .result ∷ []) (unsignedOf (accountIn (s .account .now) .cash) ∷ []) (s .out .now) (a .account-in .ensures) (k .unless-unsound .ensures) (ap (λ (w : ℕ). w ∷ []) e) refl
+    let e = stored (cash-fits (u .before)) (u .unsigned .ensures) in
+    t .tell .ensures ∙ told-queried (λ (x : Account). unsignedOf (x .cash) ∷ []) Done refl (s .account .now) (s .out .now) (a .account-in .ensures) (k .unless-unsound .ensures) (ap (λ (w : ℕ). w ∷ []) e)
 
 pub tc-cash-spec : {M : Type 1} → statement M
 tc-cash-spec =

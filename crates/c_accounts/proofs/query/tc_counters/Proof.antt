@@ -1,10 +1,9 @@
 -- The words of the counters, told.
-use mathlib.Core.Path.{refl, _∙_, ap}
+use mathlib.Core.Path.{refl, _∙_}
 use borrow.Author.Needs.{needs}
 use Rattle.answer.specs.declared.Answer.the-variants.{Done}
 use Rattle.account.specs.declared.account.Account.{Account}
 use Rattle.account_bytes.specs.Account.{counterWords}
-use Rattle.c_accounts.specs.Entries.{accountIn}
 use Rattle.c_accounts.proofs.Telling.{told-queried}
 use Rattle.c_accounts.proofs.query.tc_counters.Statement.{statement}
 use Rattle.c_accounts.proofs.query.tc_counters.Tie as tie
@@ -34,8 +33,7 @@ returns c =
     let k = u .before in
     let a = k .before in
     let s = a .before .before .before .args in
-    let e = u .counter-words .ensures ∙ ap (λ (x : Account). counterWords (x .counters)) (a .account-in .ensures) in
-    t .tell .ensures ∙ told-queried (s .account .now) Done (a .account-in .result) (k .unless-unsound .result) (u .counter-words .result) (counterWords (accountIn (s .account .now) .counters)) (s .out .now) (a .account-in .ensures) (k .unless-unsound .ensures) e refl
+    t .tell .ensures ∙ told-queried (λ (x : Account). counterWords (x .counters)) Done refl (s .account .now) (s .out .now) (a .account-in .ensures) (k .unless-unsound .ensures) (u .counter-words .ensures)
 
 pub tc-counters-spec : {M : Type 1} → statement M
 tc-counters-spec =

@@ -1,14 +1,9 @@
 -- The words of the position, told.
-use mathlib.Core.Path.{refl, _∙_, ap}
+use mathlib.Core.Path.{refl, _∙_}
 use borrow.Author.Needs.{needs}
-use Rattle.answer.specs.Numbers.{numberOf}
 use Rattle.answer.specs.declared.Answer.the-variants.{Done}
 use Rattle.account.specs.Calls.{positionAt}
-use Rattle.account.specs.declared.holding.Held.{Held}
-use Rattle.account.specs.declared.account.Account.{Account}
-use Rattle.c_accounts.specs.Queries.{heldWords}
-use Rattle.c_accounts.specs.Entries.{accountIn}
-use Rattle.c_accounts.proofs.Telling.{told-queried, place-answer}
+use Rattle.c_accounts.proofs.Telling.{told-held, place-answer}
 use Rattle.c_accounts.proofs.query.tc_position_at.Statement.{statement}
 use Rattle.c_accounts.proofs.query.tc_position_at.Tie as tie
 
@@ -41,9 +36,7 @@ returns c =
     let p = k .before in
     let a = p .before in
     let s = a .before .before .before .args in
-    let n = k .number .ensures ∙ ap (λ (h : Held). numberOf (h .answer)) (p .position-at .ensures) ∙ ap numberOf (place-answer (s .index) (a .account-in .result)) in
-    let e = u .held-words .ensures ∙ ap heldWords (p .position-at .ensures) ∙ ap (λ (x : Account). heldWords (positionAt (s .index) x)) (a .account-in .ensures) in
-    t .tell .ensures ∙ told-queried (s .account .now) Done (a .account-in .result) (k .number .result) (u .held-words .result) (heldWords (positionAt (s .index) (accountIn (s .account .now)))) (s .out .now) (a .account-in .ensures) n e refl
+    t .tell .ensures ∙ told-held (positionAt (s .index)) Done refl (place-answer (s .index)) (s .account .now) (s .out .now) (a .account-in .ensures) (p .position-at .ensures) (k .number .ensures) (u .held-words .ensures)
 
 pub tc-position-at-spec : {M : Type 1} → statement M
 tc-position-at-spec =

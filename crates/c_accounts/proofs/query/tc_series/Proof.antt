@@ -1,10 +1,9 @@
 -- The words of the series, told.
-use mathlib.Core.Path.{refl, _∙_, ap}
+use mathlib.Core.Path.{refl, _∙_}
 use borrow.Author.Needs.{needs}
 use Rattle.answer.specs.declared.Answer.the-variants.{Done}
 use Rattle.account.specs.declared.account.Account.{Account}
 use Rattle.account_bytes.specs.Account.{seriesWords}
-use Rattle.c_accounts.specs.Entries.{accountIn}
 use Rattle.c_accounts.proofs.Telling.{told-queried}
 use Rattle.c_accounts.proofs.query.tc_series.Statement.{statement}
 use Rattle.c_accounts.proofs.query.tc_series.Tie as tie
@@ -34,8 +33,7 @@ returns c =
     let k = u .before in
     let a = k .before in
     let s = a .before .before .before .args in
-    let e = u .series-words .ensures ∙ ap (λ (x : Account). seriesWords (x .series)) (a .account-in .ensures) in
-    t .tell .ensures ∙ told-queried (s .account .now) Done (a .account-in .result) (k .unless-unsound .result) (u .series-words .result) (seriesWords (accountIn (s .account .now) .series)) (s .out .now) (a .account-in .ensures) (k .unless-unsound .ensures) e refl
+    t .tell .ensures ∙ told-queried (λ (x : Account). seriesWords (x .series)) Done refl (s .account .now) (s .out .now) (a .account-in .ensures) (k .unless-unsound .ensures) (u .series-words .ensures)
 
 pub tc-series-spec : {M : Type 1} → statement M
 tc-series-spec =

@@ -4,34 +4,20 @@ use mathlib.Core.Bool.{true}
 use borrow.Author.Needs.{needs}
 use borrow.Author.Tests.{not-true, not-false, eq-eqb, ne-eqb}
 use Rattle.list_bytes.specs.Entries.{wholeList}
-use Rattle.list_bytes.specs.Lists.{symbolsIn, pricesIn}
-use Rattle.list_bytes.proofs.Lists.{price-symbols, price-prices}
 use Rattle.c_timed.specs.Made.{left}
-use Rattle.c_timed.specs.Calls.{accountIn, returnCall, returnsIn}
-use Rattle.c_timed.proofs.Same.{prices-whole, symbols-lent, prices-lent, within}
+use Rattle.c_timed.specs.Calls.{returnCall, returnsIn}
+use Rattle.c_timed.proofs.Same.{prices-whole, symbols-lent, prices-lent, called-at, within}
 use Rattle.c_timed.proofs.recording.direct_return.Statement.{statement}
 use Rattle.c_timed.proofs.recording.direct_return.Tie as tie
 
 abbrev begun : tie.After-read-prices → tie.Start
 begun c = c .before .before .before .before .before
 
--- ---- the tests
 abbrev read : tie.Else1 → tie.After-read-prices
 read c = c .before .before .before
 
 is-whole : (c : tie.Else1) → wholeList 128 (begun (read c) .args .prices .now) ≡ true
 is-whole c = sym (prices-whole _ (read c .read-prices .ensures)) ∙ not-false _ (c .if1 .left)
-
--- ---- the call, of a list that is whole
-abbrev tested : tie.After-returns → tie.Else2
-tested c = c .before .before .before .before .before
-
-made : (c : tie.After-returns) → let a = begun (read (tested c .before)) .args in c .returns .result ≡ returnCall (accountIn (a .account .now)) (symbolsIn (a .prices .now)) (pricesIn (a .prices .now))
-made c =
-    let t = tested c .before in
-    let q = read t in
-    let ps = begun q .args .prices .now in
-    simp (q .before .read-account .ensures, q .read-prices .ensures, price-symbols ps (is-whole t), price-prices ps (is-whole t)) at (c .returns .ensures)
 
 read-account-requires : tie.Need-read-account-requires
 read-account-requires c κs = search needs
@@ -84,10 +70,12 @@ returns-3 : tie.Need-returns-3
 unfolding returnsIn
 returns-3 c =
     let k = c .before .before in
-    let t = k .before .before in
-    let e = tested t in
-    let a = begun (read (e .before)) .args in
-    simp (is-whole (e .before), eq-eqb _ _ (e .if2 .left)) (k .leave .ensures ∙ ap (λ x. left x (a .after .now)) (made t))
+    let m = k .before .before in
+    let e = m .before .before .before .before .before in
+    let t = e .before in
+    let q = read t in
+    simp (is-whole t, eq-eqb _ _ (e .if2 .left))
+    (k .leave .ensures ∙ ap (λ x. left x (begun q .args .after .now)) (called-at returnCall _ _ (q .before .read-account .ensures) (q .read-prices .ensures) (is-whole t) (m .returns .ensures)))
 
 pub direct-return-spec : {M : Type 1} → statement M
 direct-return-spec =

@@ -4,35 +4,21 @@ use mathlib.Core.Bool.{true}
 use borrow.Author.Needs.{needs}
 use borrow.Author.Tests.{not-true, not-false, eq-eqb, ne-eqb}
 use Rattle.list_bytes.specs.Entries.{wholeList}
-use Rattle.list_bytes.specs.Lists.{symbolsIn, pricesIn}
-use Rattle.list_bytes.proofs.Lists.{price-symbols, price-prices}
 use Rattle.queries.specs.Answers.{toldSnapshot}
 use Rattle.c_timed.specs.Made.{leftBoth}
-use Rattle.c_timed.specs.Calls.{accountIn, snapshotsIn}
-use Rattle.c_timed.proofs.Same.{prices-whole, symbols-lent, prices-lent, within}
+use Rattle.c_timed.specs.Calls.{snapshotsIn}
+use Rattle.c_timed.proofs.Same.{prices-whole, symbols-lent, prices-lent, called-at, within}
 use Rattle.c_timed.proofs.summary.direct_snapshot.Statement.{statement}
 use Rattle.c_timed.proofs.summary.direct_snapshot.Tie as tie
 
 abbrev begun : tie.After-read-prices → tie.Start
 begun c = c .before .before .before .before .before .before
 
--- ---- the tests
 abbrev read : tie.Else1 → tie.After-read-prices
 read c = c .before .before .before
 
 is-whole : (c : tie.Else1) → wholeList 128 (begun (read c) .args .prices .now) ≡ true
 is-whole c = sym (prices-whole _ (read c .read-prices .ensures)) ∙ not-false _ (c .if1 .left)
-
--- ---- the call, of a list that is whole
-abbrev tested : tie.After-snapshots → tie.Else3
-tested c = c .before .before .before .before .before
-
-made : (c : tie.After-snapshots) → let a = begun (read (tested c .before .before)) .args in c .snapshots .result ≡ toldSnapshot (accountIn (a .account .now)) (symbolsIn (a .prices .now)) (pricesIn (a .prices .now))
-made c =
-    let t = tested c .before .before in
-    let q = read t in
-    let ps = begun q .args .prices .now in
-    simp (q .before .read-account .ensures, q .read-prices .ensures, price-symbols ps (is-whole t), price-prices ps (is-whole t)) at (c .snapshots .ensures)
 
 read-account-requires : tie.Need-read-account-requires
 read-account-requires c κs = search needs
@@ -99,10 +85,14 @@ returns-4 : tie.Need-returns-4
 unfolding snapshotsIn
 returns-4 c =
     let k = c .before .before .before .before in
-    let t = k .before .before .before in
-    let e = tested t in
-    let a = begun (read (e .before .before)) .args in
-    simp (is-whole (e .before .before), eq-eqb _ _ (e .before .if2 .left), eq-eqb _ _ (e .if3 .left)) (k .leave-both .ensures ∙ ap (λ x. leftBoth x (a .figures .now) (a .weights .now)) (made t))
+    let m = k .before .before .before in
+    let e = m .before .before .before .before .before in
+    let t = e .before .before in
+    let q = read t in
+    let a = begun q .args in
+    simp (is-whole t, eq-eqb _ _ (e .before .if2 .left), eq-eqb _ _ (e .if3 .left))
+    (k .leave-both .ensures
+    ∙ ap (λ x. leftBoth x (a .figures .now) (a .weights .now)) (called-at toldSnapshot _ _ (q .before .read-account .ensures) (q .read-prices .ensures) (is-whole t) (m .snapshots .ensures)))
 
 pub direct-snapshot-spec : {M : Type 1} → statement M
 direct-snapshot-spec =

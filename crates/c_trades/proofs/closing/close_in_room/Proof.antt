@@ -10,7 +10,7 @@ use Rattle.table.specs.Rows.{Cols, cols}
 use Rattle.account.specs.Account.{accountWith}
 use Rattle.portfolio.specs.Rebalance.{Outcome}
 use Rattle.portfolio.specs.Close.{closed}
-use Rattle.c_trades.specs.Asked.{kindOf}
+use Rattle.fills.specs.Records.{kindOf}
 use borrow.Author.Needs.{needs}
 use Rattle.c_trades.proofs.Asking.{close-room}
 use Rattle.c_trades.proofs.Finishing.{Roomed, roomed, told-roomed}

@@ -10,7 +10,7 @@ use Rattle.portfolio.specs.declared.trade.Traded.{Traded}
 use Rattle.portfolio.specs.Answers.{places}
 use Rattle.portfolio.specs.Close.{closed}
 use Rattle.portfolio.specs.Trades.{tradedOn}
-use Rattle.c_trades.specs.Asked.{kindOf}
+use Rattle.fills.specs.Records.{kindOf}
 use Rattle.c_trades.proofs.Finishing.{Finished, finishing}
 use Rattle.c_trades.proofs.closing.file_close.Statement.{statement}
 use Rattle.c_trades.proofs.closing.file_close.Tie as tie

@@ -11,7 +11,7 @@ use Rattle.portfolio.specs.declared.trade.Traded.{Traded}
 use Rattle.portfolio.specs.Answers.{places}
 use Rattle.portfolio.specs.Rebalance.{rebalanced}
 use Rattle.portfolio.specs.Trades.{tradedOn}
-use Rattle.c_trades.specs.Asked.{kindOf}
+use Rattle.fills.specs.Records.{kindOf}
 use Rattle.c_trades.proofs.Finishing.{Finished, finishing}
 use Rattle.c_trades.proofs.rebalancing.file_rebalance.Statement.{statement}
 use Rattle.c_trades.proofs.rebalancing.file_rebalance.Tie as tie

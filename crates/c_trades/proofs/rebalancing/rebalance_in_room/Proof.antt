@@ -8,7 +8,7 @@ use Rattle.table.specs.Rows.{Cols, cols}
 use Rattle.account.specs.Account.{accountWith}
 use Rattle.list_bytes.specs.Lists.{symbolsIn, weightsIn, pricesIn}
 use Rattle.portfolio.specs.Rebalance.{Outcome, rebalanced}
-use Rattle.c_trades.specs.Asked.{kindOf}
+use Rattle.fills.specs.Records.{kindOf}
 use borrow.Author.Needs.{needs}
 use Rattle.c_trades.proofs.Asking.{rebalance-room}
 use Rattle.c_trades.proofs.Finishing.{Roomed, roomed, told-roomed}

@@ -1,18 +1,18 @@
 -- The weights passed are finite, so those that are left decide.
-use Prim.Native.Nat.{_≤_, _-_}
-use mathlib.Core.Path.{_≡_, refl, sym, _∙_}
+use Prim.Native.Nat.{_-_}
+use mathlib.Core.Path.{refl, sym, _∙_}
 use native.Mathlib.Omega.{arith}
 use borrow.Author.Needs.{needs}
 use borrow.Author.Tests.{not-true, not-false}
-use lib.ListN.{length, drop}
+use lib.ListN.{length}
 use Rattle.doubles.specs.Doubles.{finite}
 use Rattle.call_lists.specs.Lists.{allFinite}
-use Rattle.call_lists.proofs.Lists.{from-end, fails-at, holds-at}
+use Rattle.call_lists.proofs.Lists.{Held, fails-at, holds-at, all-hold}
 use Rattle.call_lists.proofs.list.all_finite.Statement.{statement}
 use Rattle.call_lists.proofs.list.all_finite.Tie as tie
 
 abbrev Inv-loop : tie.InvT-loop
-Inv-loop weights i₀ i = (i ≤ length weights) × (allFinite (drop i weights) ≡ allFinite weights)
+Inv-loop weights i₀ i = Held finite weights i
 
 abbrev μ-loop : tie.MeasureT-loop
 μ-loop weights i₀ i = length weights - i
@@ -32,8 +32,8 @@ is-finite-requires c κs = search needs
 returns : tie.Need-returns Inv-loop μ-loop
 unfolding allFinite
 returns c =
-    let l = c .before .before .before .before in
-    sym (fails-at allFinite finite (λ x l. refl) (l .before .before .args .weights .now) (l .loop .i) _ (c .before .before .before .loop-test .taken) (sym (c .before .is-finite .ensures) ∙ not-true _ (c .if1 .taken))) ∙ l .loop .inv .1
+    let n = c .before .before .before in
+    fails-at finite _ _ (n .before .loop .inv) _ (n .loop-test .taken) (sym (c .before .is-finite .ensures) ∙ not-true _ (c .if1 .taken))
 
 add-i : tie.Need-add-i Inv-loop μ-loop
 add-i c = search needs
@@ -42,14 +42,13 @@ loop-less : tie.Need-loop-less Inv-loop μ-loop
 loop-less c = search needs
 
 loop-again : tie.Need-loop-again Inv-loop μ-loop
-unfolding allFinite
 loop-again c =
-    let l = c .before .before .before .before in
-    (omega arith, sym (holds-at allFinite finite (λ x l. refl) (l .before .before .args .weights .now) (l .loop .i) _ (c .before .before .before .loop-test .taken) (sym (c .before .is-finite .ensures) ∙ not-false _ (c .if1 .left))) ∙ l .loop .inv .1)
+    let n = c .before .before .before in
+    holds-at finite _ _ (n .before .loop .inv) _ (n .loop-test .taken) (sym (c .before .is-finite .ensures) ∙ not-false _ (c .if1 .left))
 
 returns-2 : tie.Need-returns-2 Inv-loop μ-loop
 unfolding allFinite
-returns-2 c = sym (from-end allFinite _ _ (c .loop-test .left)) ∙ c .before .loop .inv .1
+returns-2 c = all-hold finite _ _ (c .before .loop .inv) (c .loop-test .left)
 
 pub all-finite-spec : {M : Type 1} → statement M
 all-finite-spec =

@@ -1,7 +1,7 @@
 -- By the sign of the quantity.
-use mathlib.Core.Path.{sym, _∙_}
+use mathlib.Core.Path.{_≡_, sym, _∙_}
 use mir.Syntax.{w64}
-use mir.Val.{SFits}
+use mir.Val.{SFits, toZ, ofZ}
 use mir.Facts.{toZ-ofZ}
 use Rattle.fills.specs.Orders.{paid}
 use Rattle.fills.specs.Inner.Deal.{dealOf}
@@ -9,8 +9,17 @@ use borrow.Author.Needs.{needs}
 use Rattle.fills.proofs.deal.deal_of.Statement.{statement}
 use Rattle.fills.proofs.deal.deal_of.Tie as tie
 
-listed-fits : (s : tie.Start) → SFits w64 (s .args .o .price)
-listed-fits s = search needs
+abbrev begun : tie.After-is-zero → tie.Start
+begun z = z .before .before .before
+
+-- the price of the deal, whatever is done
+price-is : (z : tie.After-is-zero) → toZ w64 (ofZ w64 (z .before .effective-price .result)) ≡ paid (begun z .args .t) (begun z .args .o)
+unfolding paid
+price-is z =
+    let e = z .before in
+    let fl : SFits w64 (begun z .args .o .price) = search needs in
+    let fe : SFits w64 (e .effective-price .result) = search needs in
+    toZ-ofZ fe ∙ simp (toZ-ofZ fl) at (e .effective-price .ensures)
 
 effective-price-requires : tie.Need-effective-price-requires
 effective-price-requires c κs = search needs
@@ -22,17 +31,11 @@ no-deal-requires : tie.Need-no-deal-requires
 no-deal-requires c κs = search needs
 
 returns : tie.Need-returns
-unfolding dealOf paid
+unfolding dealOf
 returns c =
-    let y = c .before in
-    let z = y .before in
-    let e = z .before in
-    let s = e .before .before in
-    let ep = simp (toZ-ofZ (listed-fits s)) at (e .effective-price .ensures) in
-    let fe : SFits w64 (e .effective-price .result) = search needs in
-    let bp = toZ-ofZ fe ∙ ep in
-    let h = sym (z .is-zero .ensures) ∙ y .if1 .taken in
-    rw h (simp (bp, toZ-ofZ (s .fits .cash)) at (c .no-deal .ensures))
+    let z = c .before .before in
+    let h = sym (z .is-zero .ensures) ∙ c .before .if1 .taken in
+    rw h (simp (price-is z, toZ-ofZ (begun z .fits .cash)) at (c .no-deal .ensures))
 
 is-positive-requires : tie.Need-is-positive-requires
 is-positive-requires c κs = search needs
@@ -44,36 +47,22 @@ sold-requires : tie.Need-sold-requires
 sold-requires c κs = search needs
 
 returns-2 : tie.Need-returns-2
-unfolding dealOf paid
+unfolding dealOf
 returns-2 c =
-    let x = c .before in
-    let p = x .before in
-    let y = p .before in
-    let z = y .before in
-    let e = z .before in
-    let s = e .before .before in
-    let ep = simp (toZ-ofZ (listed-fits s)) at (e .effective-price .ensures) in
-    let fe : SFits w64 (e .effective-price .result) = search needs in
-    let bp = toZ-ofZ fe ∙ ep in
-    let h = sym (z .is-zero .ensures) ∙ y .if1 .left in
-    let k = sym (p .is-positive .ensures) ∙ x .if2 .taken in
-    rw (h, k) (simp (bp, k, toZ-ofZ (s .fits .cash)) at (c .bought .ensures))
+    let p = c .before .before in
+    let z = p .before .before in
+    let h = sym (z .is-zero .ensures) ∙ p .before .if1 .left in
+    let k = sym (p .is-positive .ensures) ∙ c .before .if2 .taken in
+    rw (h, k) (simp (price-is z, toZ-ofZ (begun z .fits .cash)) at (c .bought .ensures))
 
 returns-3 : tie.Need-returns-3
-unfolding dealOf paid
+unfolding dealOf
 returns-3 c =
-    let x = c .before in
-    let p = x .before in
-    let y = p .before in
-    let z = y .before in
-    let e = z .before in
-    let s = e .before .before in
-    let ep = simp (toZ-ofZ (listed-fits s)) at (e .effective-price .ensures) in
-    let fe : SFits w64 (e .effective-price .result) = search needs in
-    let bp = toZ-ofZ fe ∙ ep in
-    let h = sym (z .is-zero .ensures) ∙ y .if1 .left in
-    let k = sym (p .is-positive .ensures) ∙ x .if2 .left in
-    rw (h, k) (simp (bp, k, toZ-ofZ (s .fits .cash)) at (c .sold .ensures))
+    let p = c .before .before in
+    let z = p .before .before in
+    let h = sym (z .is-zero .ensures) ∙ p .before .if1 .left in
+    let k = sym (p .is-positive .ensures) ∙ c .before .if2 .left in
+    rw (h, k) (simp (price-is z, toZ-ofZ (begun z .fits .cash)) at (c .sold .ensures))
 
 pub deal-of-spec : {M : Type 1} → statement M
 deal-of-spec =

@@ -1,12 +1,30 @@
 -- By whether anything remains.
-use mathlib.Core.Path.{sym, _∙_}
+use mathlib.Core.Path.{_≡_, sym, _∙_}
 use mir.Syntax.{w64}
-use mir.Val.{SFits}
+use mir.Val.{SFits, toZ, ofZ}
 use mir.Facts.{toZ-ofZ}
+use Rattle.sums.specs.Sums.{satSub, notional}
 use Rattle.fills.specs.Inner.Deal.{trimmedTo}
 use borrow.Author.Needs.{needs}
 use Rattle.fills.proofs.deal.trimmed_to.Statement.{statement}
 use Rattle.fills.proofs.deal.trimmed_to.Tie as tie
+
+abbrev begun : tie.After-is-zero → tie.Start
+begun z = z .before .before .before .before
+
+-- what the request lost, either way
+lost-is : (z : tie.After-is-zero) → let a = begun z .args in toZ w64 (ofZ w64 (z .before .saturating-sub .result)) ≡ satSub (notional (a .requested .0) (a .price)) (notional (a .got .0) (a .price))
+lost-is z =
+    let l = z .before in
+    let g = l .before in
+    let a = g .before in
+    let s = a .before in
+    let fa : SFits w64 (a .notional-of .result) = search needs in
+    let fg : SFits w64 (g .notional-of2 .result) = search needs in
+    let fl : SFits w64 (l .saturating-sub .result) = search needs in
+    let ea = simp (toZ-ofZ (s .fits .price)) at (a .notional-of .ensures) in
+    let eg = simp (toZ-ofZ (s .fits .price)) at (g .notional-of2 .ensures) in
+    toZ-ofZ fl ∙ simp (toZ-ofZ fa ∙ ea, toZ-ofZ fg ∙ eg) at (l .saturating-sub .ensures)
 
 notional-of-requires : tie.Need-notional-of-requires
 notional-of-requires c κs = search needs
@@ -26,23 +44,10 @@ no-deal-requires c κs = search needs
 returns : tie.Need-returns
 unfolding trimmedTo
 returns c =
-    let y = c .before in
-    let z = y .before in
-    let l = z .before in
-    let g = l .before in
-    let a = g .before in
-    let s = a .before in
-    let fa : SFits w64 (a .notional-of .result) = search needs in
-    let fg : SFits w64 (g .notional-of2 .result) = search needs in
-    let fl : SFits w64 (l .saturating-sub .result) = search needs in
-    let ea = simp (toZ-ofZ (s .fits .price)) at (a .notional-of .ensures) in
-    let eg = simp (toZ-ofZ (s .fits .price)) at (g .notional-of2 .ensures) in
-    let ba = toZ-ofZ fa ∙ ea in
-    let bg = toZ-ofZ fg ∙ eg in
-    let el = simp (ba, bg) at (l .saturating-sub .ensures) in
-    let bl = toZ-ofZ fl ∙ el in
-    let h = sym (z .is-zero .ensures) ∙ y .if1 .taken in
-    rw h (simp (toZ-ofZ (s .fits .price), toZ-ofZ (s .fits .cash), bl) at (c .no-deal .ensures))
+    let z = c .before .before in
+    let f = begun z .fits in
+    let h = sym (z .is-zero .ensures) ∙ c .before .if1 .taken in
+    rw h (simp (toZ-ofZ (f .price), toZ-ofZ (f .cash), lost-is z) at (c .no-deal .ensures))
 
 dealt-requires : tie.Need-dealt-requires
 dealt-requires c κs = search needs
@@ -50,23 +55,10 @@ dealt-requires c κs = search needs
 returns-2 : tie.Need-returns-2
 unfolding trimmedTo
 returns-2 c =
-    let y = c .before in
-    let z = y .before in
-    let l = z .before in
-    let g = l .before in
-    let a = g .before in
-    let s = a .before in
-    let fa : SFits w64 (a .notional-of .result) = search needs in
-    let fg : SFits w64 (g .notional-of2 .result) = search needs in
-    let fl : SFits w64 (l .saturating-sub .result) = search needs in
-    let ea = simp (toZ-ofZ (s .fits .price)) at (a .notional-of .ensures) in
-    let eg = simp (toZ-ofZ (s .fits .price)) at (g .notional-of2 .ensures) in
-    let ba = toZ-ofZ fa ∙ ea in
-    let bg = toZ-ofZ fg ∙ eg in
-    let el = simp (ba, bg) at (l .saturating-sub .ensures) in
-    let bl = toZ-ofZ fl ∙ el in
-    let h = sym (z .is-zero .ensures) ∙ y .if1 .left in
-    rw h (simp (toZ-ofZ (s .fits .price), toZ-ofZ (s .fits .cash), bl) at (c .dealt .ensures))
+    let z = c .before .before in
+    let f = begun z .fits in
+    let h = sym (z .is-zero .ensures) ∙ c .before .if1 .left in
+    rw h (simp (toZ-ofZ (f .price), toZ-ofZ (f .cash), lost-is z) at (c .dealt .ensures))
 
 pub trimmed-to-spec : {M : Type 1} → statement M
 trimmed-to-spec =

@@ -1,11 +1,6 @@
 -- The prices as listed, or the sorted ones that serve for them.
-use Prim.Native.Nat.{ℕ, _≤_}
-use mathlib.Core.Path.{_≡_, refl, _∙_, sym, ap}
-use mathlib.Core.List.{List, []}
-use native.Mathlib.Omega.{arith}
-use lib.IntN.{ℤ, pos}
-use lib.ListN.{length, take, replicate}
-use lib.Seq.{length-take-le}
+use mathlib.Core.Path.{_∙_, sym, ap}
+use mathlib.Core.List.{[]}
 use mir.Syntax.{w64}
 use mir.Val.{SFits}
 use mir.Facts.{toZ-ofZ}
@@ -13,47 +8,17 @@ use borrow.Author.Needs.{needs}
 use Rattle.sums.specs.Sums.{satAdd}
 use Rattle.table.proofs.Keyed.{ascending-rises}
 use Rattle.call_lists.proofs.Checks.{done-accepted}
-use Rattle.call_lists.proofs.Sorted.{Serves, sorted-serves}
+use Rattle.call_lists.proofs.Sorted.{Usable, sorted-usable}
 use Rattle.portfolio.proofs.Worths.{worth-same}
 use Rattle.portfolio.proofs.equity.equity_on.Statement.{statement}
 use Rattle.portfolio.proofs.equity.equity_on.Tie as tie
 
--- the columns before they are sorted into
-abbrev no-keys : List ℕ
-no-keys = replicate 128 0
-
-abbrev no-values : List ℤ
-no-values = replicate 128 (pos 0)
-
-keys-places : length no-keys ≡ 128
-keys-places = refl
-
-values-places : length no-values ≡ 128
-values-places = refl
+abbrev begun : tie.After-sort-prices → tie.Start
+begun c = c .before .before .before .before .before .before
 
 -- the sorted prices serve for the listed ones
-serves : (c : tie.After-sort-prices) → let s = c .before .before .before .before .before .before in
-    Serves (s .args .symbols .now) (s .args .prices .now) no-keys no-values (c .sort-prices .result) (c .sort-prices .last .1 .1 .0) (c .sort-prices .last .1 .1 .1 .0)
-serves c =
-    let s = c .before .before .before .before .before .before in
-    let ss = s .args .symbols .now in
-    let ps = s .args .prices .now in
-    let p = done-accepted [] [] ss ps (s .pre) in
-    let k : length ss ≤ length no-keys = omega (arith, p .pricesBound, keys-places) in
-    let v : length ss ≤ length no-values = omega (arith, p .pricesBound, values-places) in
-    sorted-serves ss ps no-keys no-values (p .pricesPaired) k v _ _ _ (c .sort-prices .ensures)
-
-keys-room : (c : tie.After-sort-prices) → c .sort-prices .result ≤ length (c .sort-prices .last .1 .1 .0)
-keys-room c =
-    let s = c .before .before .before .before .before .before in
-    let p = done-accepted [] [] (s .args .symbols .now) (s .args .prices .now) (s .pre) in
-    omega (arith, serves c .most, serves c .keysLength, p .pricesBound, keys-places)
-
-values-room : (c : tie.After-sort-prices) → c .sort-prices .result ≤ length (c .sort-prices .last .1 .1 .1 .0)
-values-room c =
-    let s = c .before .before .before .before .before .before in
-    let p = done-accepted [] [] (s .args .symbols .now) (s .args .prices .now) (s .pre) in
-    omega (arith, serves c .most, serves c .valuesLength, p .pricesBound, values-places)
+usable : (c : tie.After-sort-prices) → let a = begun c .args in Usable (a .symbols .now) (a .prices .now) (c .sort-prices .result) (c .sort-prices .last .1 .1 .0) (c .sort-prices .last .1 .1 .1 .0)
+usable c = let s = begun c in sorted-usable (done-accepted [] [] (s .args .symbols .now) (s .args .prices .now) (s .pre)) _ _ _ (c .sort-prices .ensures)
 
 is-ascending-requires : tie.Need-is-ascending-requires
 is-ascending-requires c κs = search needs
@@ -86,16 +51,16 @@ sort-prices-requires : tie.Need-sort-prices-requires
 sort-prices-requires c κs = search needs
 
 array-share-prefix-keys : tie.Need-array-share-prefix-keys
-array-share-prefix-keys c = keys-room (c .before .before)
+array-share-prefix-keys c = usable (c .before .before) .keysRoom
 
 slice-aggregate-total-worth : tie.Need-slice-aggregate-total-worth
-slice-aggregate-total-worth c = sym (length-take-le _ _ (keys-room (c .before .before .before)))
+slice-aggregate-total-worth c = usable (c .before .before .before) .keysLent
 
 array-share-prefix-values : tie.Need-array-share-prefix-values
-array-share-prefix-values c = values-room (c .before .before .before)
+array-share-prefix-values c = usable (c .before .before .before) .valuesRoom
 
 slice-aggregate-total-worth-2 : tie.Need-slice-aggregate-total-worth-2
-slice-aggregate-total-worth-2 c = sym (length-take-le _ _ (values-room (c .before .before .before .before)))
+slice-aggregate-total-worth-2 c = usable (c .before .before .before .before) .valuesLent
 
 total-worth-requires-2 : tie.Need-total-worth-requires-2
 total-worth-requires-2 c κs = search needs
@@ -108,11 +73,11 @@ returns-2 c =
     let a = c .saturating-add2 in
     let w = c .before .total-worth2 in
     let o = c .before .before .before .before .before .before in
-    let s = o .before .before .before .before .before .before in
+    let s = begun o in
     let fa : SFits w64 (a .result) = record { sfits = a .ok } in
     let fw : SFits w64 (w .result) = record { sfits = w .ok } in
     let e = simp (toZ-ofZ fw, toZ-ofZ (s .fits .cash)) at (a .ensures) in
-    let v = serves o in
+    let v = usable o in
     simp (toZ-ofZ fa) (e ∙ ap (satAdd (s .args .cash)) (w .ensures .settled (v .rising) ∙ worth-same _ _ (v .price) _ _ _))
 
 pub equity-on-spec : {M : Type 1} → statement M

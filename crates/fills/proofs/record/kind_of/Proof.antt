@@ -1,12 +1,15 @@
 -- By the number.
+use Rattle.fills.specs.Records.{kindOf}
 use borrow.Author.Tests.{eq-eqb, ne-eqb}
-use Rattle.c_fill.proofs.kind_of.Statement.{statement}
-use Rattle.c_fill.proofs.kind_of.Tie as tie
+use Rattle.fills.proofs.record.kind_of.Statement.{statement}
+use Rattle.fills.proofs.record.kind_of.Tie as tie
 
 returns : tie.Need-returns
+unfolding kindOf
 returns c = simp (eq-eqb _ _ (c .if1 .taken))
 
 returns-2 : tie.Need-returns-2
+unfolding kindOf
 returns-2 c = simp (ne-eqb _ _ (c .if1 .left))
 
 pub kind-of-spec : {M : Type 1} → statement M
