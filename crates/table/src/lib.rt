@@ -4,6 +4,9 @@ mod found;
 mod order;
 mod table;
 
+pub use column::open_double;
+pub use column::open_number;
+pub use column::open_symbol;
 pub use found::Found;
 pub use found::find;
 pub use order::ascends;
