@@ -12,13 +12,14 @@ use borrow.Author.Tests.{ltb-true, ltb-false, le-leb}
 use Rattle.table.specs.Keyed.{pick}
 use Rattle.table.specs.Places.{shorter}
 use Rattle.table.specs.Rows.{isZero}
+use Rattle.table.proofs.Places.{shorter-below}
 use Rattle.account.specs.declared.settings.Settings.{Settings}
 use Rattle.account.specs.declared.settings.TradeCap.{TradeCap}
 use Rattle.account.specs.declared.settings.TradeCap.the-variants.{Absent, AtMost}
 use Rattle.wanted.specs.declared.plan.PlannedOrder.{PlannedOrder}
 use Rattle.admission.specs.Admission.{capped, drawnBefore, insertBy, added, reached, mostIn, mostOf, notionalOf, admittedFrom, admitted}
 use Rattle.admission.specs.Columns.{Cols, Full, plans}
-use Rattle.admission.proofs.Plans.{plans-length, shorter-below}
+use Rattle.admission.proofs.Plans.{plans-length}
 use Rattle.admission.proofs.Inserting.{zipped, plans-zipped}
 
 -- ---- what stands past the first k decides none of the first k of the plan with one order more

@@ -8,32 +8,10 @@ use native.Mathlib.Numerals.{add-one}
 use lib.Dec.{ltb}
 use lib.ListN.{length}
 use borrow.Author.Tests.{ltb-true, ltb-false}
-use Rattle.table.specs.Keyed.{pick}
 use Rattle.table.specs.Places.{shorter}
+pub use Rattle.table.proofs.Places.{shorter-same}
 use Rattle.wanted.specs.declared.plan.PlannedOrder.{PlannedOrder}
 use Rattle.admission.specs.Columns.{Cols, orderAt, from, plans, placeOf}
-
--- ---- the count of places in use
-pub shorter-le : (n m : ℕ) → shorter n m ≤ m
-shorter-le n m = go (ltb n m) refl
-  where
-    go : (b : Bool) → ltb n m ≡ b → pick b n m ≤ m
-    go true e = omega (arith, ltb-true n m e)
-    go false e = omega arith
-
-pub shorter-below : (n m : ℕ) → shorter n m ≤ n
-shorter-below n m = go (ltb n m) refl
-  where
-    go : (b : Bool) → ltb n m ≡ b → pick b n m ≤ n
-    go true e = omega arith
-    go false e = omega (arith, ltb-false n m e)
-
-pub shorter-same : (n m : ℕ) → n ≤ m → shorter n m ≡ n
-shorter-same n m h = go (ltb n m) refl
-  where
-    go : (b : Bool) → ltb n m ≡ b → pick b n m ≡ n
-    go true e = refl
-    go false e = omega (arith, ltb-false n m e)
 
 -- ---- what stands from a place on
 module _ {A : Type 0} (f : ℕ → A) where

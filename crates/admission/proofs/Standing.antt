@@ -8,6 +8,7 @@ use lib.Ieee.{nan}
 use lib.ListN.{length}
 use Rattle.cost_model.specs.declared.CostModel.{CostModel}
 use Rattle.table.specs.Places.{shorter}
+use Rattle.table.proofs.Places.{shorter-within}
 use Rattle.account.specs.declared.settings.Settings.{Settings}
 use Rattle.wanted.specs.declared.plan.PlannedOrder.{PlannedOrder}
 use Rattle.admission.specs.Admission.{admitted}
@@ -15,7 +16,7 @@ use Rattle.admission.specs.Columns.{Cols, Full, orderAt, from, plans, Co
 use Rattle.admission.specs.Offers.{cutPlan}
 use Rattle.admission.specs.Running.{cashFirst}
 use Rattle.admission.specs.Runs.{runPlan}
-use Rattle.admission.proofs.Plans.{shorter-le, from-length, plans-length}
+use Rattle.admission.proofs.Plans.{from-length, plans-length}
 use Rattle.admission.proofs.Laying.{same-cols, full-laid, plans-laid}
 use Rattle.admission.proofs.Admitting.{kept-front}
 use Rattle.admission.proofs.Kept.{admitted-length, cashFirst-length}
@@ -30,7 +31,7 @@ laid-stands : (l : List PlannedOrder) (c : Cols) → length l ≤ 64 → Full c 
 laid-stands l c h f = record { full = full-laid l c h f; few = h; same = plans-laid l c h }
 
 plans-most : (n : ℕ) (c : Cols) → length (plans n c) ≤ 64
-plans-most n c = omega (arith, plans-length n c, shorter-le n 64)
+plans-most n c = omega (arith, plans-length n c, shorter-within n 64)
 
 module _ (s : Settings) (n : ℕ) (c : Cols) (f : Full c) where
   abbrev m : ℕ
@@ -48,10 +49,10 @@ module _ (s : Settings) (n : ℕ) (c : Cols) (f : Full c) where
   cut-laid =
       ap (counted (length l))
       (same-cols
-      (kept-front s (λ o. o .symbol .0) (λ o cut. refl) (c .symbol) 0 (orderAt c) (λ j. refl) m (omega (arith, f .symbol, shorter-le n 64)) l-few)
+      (kept-front s (λ o. o .symbol .0) (λ o cut. refl) (c .symbol) 0 (orderAt c) (λ j. refl) m (omega (arith, f .symbol, shorter-within n 64)) l-few)
       refl
-      (kept-front s (λ o. o .price) (λ o cut. refl) (c .price) (pos 0) (orderAt c) (λ j. refl) m (omega (arith, f .price, shorter-le n 64)) l-few)
-      (kept-front s (λ o. o .«drift_bps») (λ o cut. refl) (c .drift) nan (orderAt c) (λ j. refl) m (omega (arith, f .drift, shorter-le n 64)) l-few))
+      (kept-front s (λ o. o .price) (λ o cut. refl) (c .price) (pos 0) (orderAt c) (λ j. refl) m (omega (arith, f .price, shorter-within n 64)) l-few)
+      (kept-front s (λ o. o .«drift_bps») (λ o cut. refl) (c .drift) nan (orderAt c) (λ j. refl) m (omega (arith, f .drift, shorter-within n 64)) l-few))
 
   pub cut-stands : Stood (admitted s (plans n c)) (cutPlan s (counted n c))
   cut-stands = rw cut-laid (laid-stands (admitted s (plans n c)) c (omega (arith, admitted-length s (plans n c), plans-most n c)) f)

@@ -7,10 +7,10 @@ ghost use Rattle.admission.specs.Admission.{capped, reached, mostOf};
 ghost use Rattle.admission.specs.Columns.{cols, counted};
 ghost use Rattle.admission.specs.Offers.{partOffered, offered, cutPlan};
 use crate::column::whole_numbers;
-use crate::place::used;
 use account::Settings;
 use account::TradeCap;
 use position::Shares;
+use table::used;
 
 // What becomes of an order that is offered to the caps.
 pub(crate) enum Offered {
@@ -49,7 +49,7 @@ pub fn most_of(s: Settings) -> usize
 {
     let cap = s.max_trades_per_rebalance;
     match cap {
-        TradeCap::AtMost(most) => used(most as usize),
+        TradeCap::AtMost(most) => used(most as usize, 64),
         TradeCap::Absent => 64,
     }
 }
@@ -96,7 +96,7 @@ pub fn admit(quantity: &mut [i64; 64], price: &[i64; 64], n: usize, s: Settings)
         ≡ cutPlan s (counted n (cols k (now (quantity .entry)) (now (price .entry)) d))) ⌝ }
 {
     whole_numbers(*quantity);
-    let m = used(n);
+    let m = used(n, 64);
     let mut left = s.max_rebalance_notional;
     let mut i = 0usize;
     while i < m {

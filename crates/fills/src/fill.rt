@@ -1,6 +1,6 @@
 // Filling orders on lent columns.
 ghost use mathlib.Core.Path.{_≡_};
-ghost use Prim.Native.Nat.{_<_, min};
+ghost use Prim.Native.Nat.{_<_};
 ghost use lib.IntN.{pos};
 ghost use lib.ListN.{getD};
 ghost use Rattle.table.specs.Rows.{cols, Ordered};
@@ -131,13 +131,6 @@ fn keep(words: &mut [u64], ints: &mut [i64], f: Filled) -> Book
     Book { written, ..b }
 }
 
-// How many of the first m orders three columns of 64 have.
-fn at_most_64(m: usize) -> usize
-    ensures { λ r. ⌜ r ≡ min m 64 ⌝ }
-{
-    if m < 64 { m } else { 64 }
-}
-
 fn order_at(os: &[u64; 64], oq: &[i64; 64], op: &[i64; 64], k: usize) -> Order
     requires { ⌜ k < 64 ⌝ }
     ensures { λ r. ⌜ r ≡ order (getD (now (os .entry)) k 0) (getD (now (oq .entry)) k (pos 0)) (getD (now (op .entry)) k (pos 0)) ⌝ }
@@ -176,7 +169,7 @@ pub fn fill_all(
         r (cols (now (symbol .exit)) (now (quantity .exit)) (now (average .exit)) (now (realized .exit)) (now (total .exit)))
         (buffers (now (words .exit)) (now (ints .exit)) (r .written))) ⌝ }
 {
-    let n = at_most_64(m);
+    let n = table::used(m, 64);
     let mut b = b0;
     let mut k = 0usize;
     while k < n {

@@ -10,6 +10,7 @@ use lib.Ieee.{Float}
 use Rattle.table.specs.Places.{shorter}
 use Rattle.wanted.specs.declared.plan.PlannedOrder.{PlannedOrder}
 use Rattle.table.specs.Rows.{isZero}
+use Rattle.table.proofs.Places.{shorter-below}
 use Rattle.wanted.specs.Plan.{plannedClose, orderCount}
 use Rattle.wanted.proofs.Plans.{close-wanted}
 use Rattle.admission.specs.Admission.{capped, mostOf, added, addedAll}
@@ -17,7 +18,7 @@ use Rattle.admission.specs.Columns.{Cols, cols, Full, from, plans, Counted, cou
 use Rattle.admission.proofs.Inserting.{added-none, added-lists}
 use Rattle.admission.proofs.Kept.{added-length}
 use Rattle.admission.proofs.Limited.{added-take, plans-take}
-use Rattle.admission.proofs.Plans.{from-on, from-end, shorter-below}
+use Rattle.admission.proofs.Plans.{from-on, from-end}
 use Rattle.account.specs.declared.settings.Settings.{Settings}
 use Rattle.plan.specs.Adding.{keptWith, addedAllTo, closeAt, closesAt, targetAt, targetsAt}
 

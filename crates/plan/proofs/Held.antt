@@ -17,13 +17,13 @@ use Rattle.table.specs.declared.found.Found.the-variants.{At, Absent}
 use Rattle.table.specs.Rows.{Cols, zipped, rows, Full, Ordered, holding, heldAt, rowAt}
 use Rattle.table.proofs.Zipped.{zipped-length, zipped-at}
 use Rattle.table.proofs.Posting.{held-is-holding}
+use Rattle.table.proofs.Places.{shorter-same}
 use Rattle.account.specs.declared.settings.Settings.{Settings}
 use Rattle.wanted.specs.declared.plan.PlannedOrder.{PlannedOrder}
 use Rattle.wanted.specs.Plan.{closing, closings, targeting, targetings, wanted}
 use Rattle.admission.specs.Admission.{addedAll, admitted}
 use Rattle.admission.specs.Running.{planOf}
 use Rattle.admission.specs.Columns.{from}
-use Rattle.admission.proofs.Plans.{shorter-same}
 use Rattle.plan.specs.Adding.{closeAt, closesAt, quantityAt, targetAt, targetsAt, wantedAt}
 
 quantity-held : (f : Found) (s : ℕ) (c : Cols) → quantityAt f (c .quantity) ≡ heldAt f s c .quantity .0

@@ -3,7 +3,6 @@ ghost use mathlib.Core.Path.{_≡_};
 ghost use Rattle.call_lists.specs.Lists.{among};
 ghost use Rattle.admission.specs.Columns.{cols, counted};
 ghost use Rattle.plan.specs.Adding.{Closes};
-use crate::place::used;
 use account::Settings;
 use admission::add_order;
 use admission::is_capped;
@@ -12,6 +11,7 @@ use call_lists::is_among;
 use call_lists::quote;
 use position::Shares;
 use position::Symbol;
+use table::used;
 use wanted::planned_close;
 
 // Whether a symbol is a target. The hinted place is looked at first; the answer does not depend on the hint.

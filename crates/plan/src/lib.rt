@@ -1,6 +1,5 @@
 // The plan of a rebalance, made in lent columns: closes in symbol order, then targets in list order.
 mod close;
-mod place;
 mod plan;
 mod target;
 

@@ -4,7 +4,6 @@ ghost use lib.ListN.{take};
 ghost use Rattle.table.specs.Keyed.{Rising};
 ghost use Rattle.admission.specs.Columns.{cols, counted};
 ghost use Rattle.plan.specs.Adding.{quantityAt, Holds, Targets};
-use crate::place::used;
 use account::Settings;
 use admission::add_order;
 use admission::is_capped;
@@ -14,6 +13,7 @@ use position::Shares;
 use position::Symbol;
 use table::Found;
 use table::find;
+use table::used;
 use wanted::planned_target;
 
 // The quantity at a place that a search found, 0 where it found none.

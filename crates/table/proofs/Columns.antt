@@ -1,10 +1,13 @@
 -- Laws of columns: a place opened in one, and several side by side.
-use Prim.Native.Nat.{ℕ, zero, suc, _+_, _≤_, _<_}
+use Prim.Native.Nat.{ℕ, zero, suc, _+_, _-_, _≤_, _<_}
 use mathlib.Core.Path.{_≡_, refl, sym, ap, _∙_}
 use mathlib.Core.List.{List, [], _∷_}
 use native.Mathlib.Omega.{arith}
+use native.Mathlib.Numerals.{add-one}
 use lib.ListN.{length, take, drop, getD, set}
-use Rattle.table.specs.Rows.{pushed, opened, zip2}
+use borrow.Author.Tests.{lt-ltb, le-ltb, le-leb, lt-leb}
+use Rattle.table.specs.Rows.{pushed, opened, openedAt, zip2}
+use Rattle.table.proofs.Keyed.{both-false}
 
 -- ---- opening a place, one step of the loop
 module _ {A : Type 0} where
@@ -19,6 +22,39 @@ module _ {A : Type 0} where
   opened-last zero v (x ∷ l) = refl
   opened-last (suc j) v [] = refl
   opened-last (suc j) v (x ∷ l) = ap (λ t. x ∷ t) (opened-last j v l)
+
+  -- the loop at place j: what is carried, put there with the rest moved up, gives the column asked for
+  pub record Opening (i n : ℕ) (v : A) (l₀ : List A) (j : ℕ) (carry : A) (l : List A) : Type 0 where
+    pub within : j ≤ n
+    pub room : n < 64
+    pub same : opened j (n - j) carry l ≡ openedAt i n v l₀
+
+  module _ (i n : ℕ) (v : A) (l₀ : List A) where
+    pub opened-in : n < 64 → i ≤ n → openedAt i n v l₀ ≡ opened i (n - i) v l₀
+    unfolding openedAt
+    opened-in h g = simp (lt-ltb _ _ h, le-leb _ _ g)
+
+    pub opened-past : n < i → openedAt i n v l₀ ≡ l₀
+    unfolding openedAt
+    opened-past h = simp (lt-leb _ _ h, both-false)
+
+    pub opened-full : 64 ≤ n → openedAt i n v l₀ ≡ l₀
+    unfolding openedAt
+    opened-full h = simp (le-ltb _ _ h)
+
+    pub opening-first : n < 64 → i ≤ n → Opening i n v l₀ i v l₀
+    opening-first h g = record { within = g; room = h; same = sym (opened-in h g) }
+
+    pub opening-on : (j : ℕ) (carry d : A) (l : List A) → Opening i n v l₀ j carry l → j < n → Opening i n v l₀ (j + 1) (getD l j d) (set l j carry)
+    opening-on j carry d l o h =
+        let e : n - j ≡ suc (n - (j + 1)) = omega arith in
+        record { within = omega arith; room = o .room; same = rw add-one (opened-on j _ carry d l) ∙ rw e at (o .same) }
+
+    pub opening-last : (j : ℕ) (carry : A) (l : List A) → Opening i n v l₀ j carry l → n ≤ j → set l n carry ≡ openedAt i n v l₀
+    opening-last j carry l o h =
+        let e : j ≡ n = omega arith in
+        let z : n - n ≡ 0 = omega arith in
+        opened-last n carry l ∙ rw (e, z) at (o .same)
 
   length-pushed : (m : ℕ) (v : A) (l : List A) → length (pushed m v l) ≡ length l
   length-pushed m v [] = refl

@@ -1,5 +1,5 @@
 -- Laws of the search: what it may skip, what it finds, and what stands at the place that it finds.
-use Prim.Native.Nat.{ℕ, zero, suc, _+_, _≤_, _<_}
+use Prim.Native.Nat.{ℕ, zero, suc, _+_, _≤_, _<_, min}
 use mathlib.Core.Path.{_≡_, refl, sym, ap, _∙_}
 use mathlib.Core.List.{List, [], _∷_, map}
 use mathlib.Core.Bool.{Bool, true, false}
@@ -17,14 +17,24 @@ use Rattle.table.specs.declared.found.Found.the-variants.{At, Absent}
 use Rattle.table.proofs.Keyed.{rising-strict}
 use Rattle.table.proofs.Columns.{insertAt}
 
--- a count beyond the length takes the whole list
-pub shorter-within : (n m : ℕ) → shorter n m ≤ m
-shorter-within n m = go (ltb n m) refl
+-- ---- the count of places in use
+pub shorter-min : (n m : ℕ) → shorter n m ≡ min n m
+shorter-min n m = go (ltb n m) refl
   where
-    go : (b : Bool) → ltb n m ≡ b → pick b n m ≤ m
+    go : (b : Bool) → ltb n m ≡ b → pick b n m ≡ min n m
     go true e = omega (arith, ltb-true n m e)
-    go false e = omega arith
+    go false e = omega (arith, ltb-false n m e)
 
+pub shorter-within : (n m : ℕ) → shorter n m ≤ m
+shorter-within n m = omega (arith, shorter-min n m)
+
+pub shorter-below : (n m : ℕ) → shorter n m ≤ n
+shorter-below n m = omega (arith, shorter-min n m)
+
+pub shorter-same : (n m : ℕ) → n ≤ m → shorter n m ≡ n
+shorter-same n m h = omega (arith, shorter-min n m)
+
+-- a count beyond the length takes the whole list
 pub take-shorter : (n : ℕ) (l : List ℕ) → take (shorter n (length l)) l ≡ take n l
 take-shorter n l = go (ltb n (length l)) refl
   where
@@ -34,6 +44,7 @@ take-shorter n l = go (ltb n (length l)) refl
         let h = ltb-false n (length l) e in
         take-all (length l) l (omega arith) ∙ sym (take-all n l (omega (arith, h)))
 
+-- ---- what a search finds
 skips : (l : List ℕ) (k i s : ℕ) → ((j : ℕ) → j < i → getD l j 0 < s) → i ≤ length l → foundFrom k s l ≡ foundFrom (k + i) s (drop i l)
 skips l k zero s b h = let q : k ≡ k + 0 = omega arith in ap (λ m. foundFrom m s l) q
 skips [] k (suc i) s b h = absurd (omega arith)

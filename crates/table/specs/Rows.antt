@@ -105,6 +105,10 @@ opened zero m v l = pushed m v l
 opened (suc i) m v [] = []
 opened (suc i) m v (x ∷ l) = x ∷ opened i m v l
 
+-- the same among the first n of 64; a full column, or a place past the count, leaves the column as it is
+unfoldable pub openedAt : {A : Type 0} → ℕ → ℕ → A → List A → List A
+openedAt i n v l = pick (both (ltb n 64) (leb i n)) (opened i (n - i) v l) l
+
 abbrev pub setAll : ℕ → Position → Cols → Cols
 setAll i p c = cols (set (c .symbol) i (p .symbol .0)) (set (c .quantity) i (p .quantity .0)) (set (c .average) i (p .«avg_entry_price»)) (set (c .realized) i (p .«realized_pnl»)) (set (c .total) i (p .«total_cost»))
 

@@ -11,11 +11,11 @@ pub enum Found {
     Absent(usize),
 }
 
-// The count of a column's places in use, however many it is said to have.
-pub(crate) fn used(n: usize, length: usize) -> usize
-    ensures { λ r. ⌜ r ≡ shorter n length ⌝ }
+// The count of places in use, however many there are said to be.
+pub fn used(n: usize, most: usize) -> usize
+    ensures { λ r. ⌜ r ≡ shorter n most ⌝ }
 {
-    if n < length { n } else { length }
+    if n < most { n } else { most }
 }
 
 // Halves the places that are left until one is.

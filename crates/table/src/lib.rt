@@ -4,8 +4,12 @@ mod found;
 mod order;
 mod table;
 
+pub use column::open_double;
+pub use column::open_number;
+pub use column::open_symbol;
 pub use found::Found;
 pub use found::find;
+pub use found::used;
 pub use order::ascends;
 pub use order::is_ordered;
 pub use order::is_unused_zero;

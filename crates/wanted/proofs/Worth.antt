@@ -2,22 +2,20 @@
 use Prim.Native.Nat.{ℕ, zero, suc, _+_, _≤_, _<_}
 use mathlib.Core.Path.{_≡_, refl, sym, ap, _∙_}
 use mathlib.Core.List.{List, [], _∷_, _++_}
-use mathlib.Core.Bool.{Bool, true, false}
 use native.Mathlib.Omega.{arith}
 use native.Mathlib.Numerals.{add-one}
-use lib.Dec.{ltb}
 use lib.IntN.{ℤ, pos}
 use lib.ListN.{length, take, getD}
 use lib.Seq.{take-suc}
 use mir.Syntax.{w64}
 use mir.Val.{SFits}
-use borrow.Author.Tests.{ltb-true, ltb-false}
 use Rattle.sums.specs.Sums.{satAdd, value}
 use Rattle.sums.proofs.Ints.{satAdd-fits}
 use Rattle.position.specs.declared.position.Position.{Position}
 use Rattle.position.specs.Rows.{fresh}
-use Rattle.table.specs.Keyed.{pick, Rising}
+use Rattle.table.specs.Keyed.{Rising}
 use Rattle.table.specs.Places.{shorter}
+use Rattle.table.proofs.Places as places
 use Rattle.table.specs.Rows.{Cols, rows, zipped, Full}
 use Rattle.table.proofs.Zipped.{zipped-length, zipped-at}
 use Rattle.call_lists.specs.Lists.{priceOf}
@@ -46,19 +44,8 @@ worth-of-rows price c f (suc n) h =
     sym (ap (worthFrom price (pos 0)) (take-suc (zipped c) n (fresh 0) l) ∙ worth-snoc price (pos 0) (take n (zipped c)) _ ∙ rw (zipped-at c n f, sym (worth-of-rows price c f n (omega arith))))
 
 -- ---- a count of places
-pub shorter-most : (n : ℕ) → shorter n 64 ≤ 64
-shorter-most n = go (ltb n 64) refl
-  where
-    go : (b : Bool) → ltb n 64 ≡ b → pick b n 64 ≤ 64
-    go true e = omega (arith, ltb-true n 64 e)
-    go false e = omega arith
-
 pub shorter-same : (n : ℕ) → n ≤ 64 → shorter n 64 ≡ n
-shorter-same n h = go (ltb n 64) refl
-  where
-    go : (b : Bool) → ltb n 64 ≡ b → pick b n 64 ≡ n
-    go true e = refl
-    go false e = omega (arith, ltb-false n 64 e)
+shorter-same n h = places.shorter-same n 64 h
 
 -- what the function that sums them answers
 pub worth-settled : (c : Cols) (n : ℕ) (symbols : List ℕ) (prices : List ℤ) (r : ℤ) → Full c → n ≤ 64 → Rising symbols → Worth (c .symbol) (c .quantity) n symbols prices r → r ≡ worthFrom (priceOf symbols prices) (pos 0) (rows n c)

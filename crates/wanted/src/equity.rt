@@ -1,15 +1,8 @@
 // What the positions are worth at the listed prices.
 ghost use mathlib.Core.Path.{_≡_};
-ghost use Rattle.table.specs.Places.{shorter};
 ghost use Rattle.wanted.specs.Equity.{Worth};
 use call_lists::quote;
-
-// The count of places in use, however many there are said to be.
-fn used(n: usize) -> usize
-    ensures { λ r. ⌜ r ≡ shorter n 64 ⌝ }
-{
-    if n < 64 { n } else { 64 }
-}
+use table::used;
 
 // "the finished sum of position values in symbol order, each step saturating; a missing price counts 0". Symbols that ascend likely
 // find their prices each at the place after the last.
@@ -22,7 +15,7 @@ pub fn total_worth<'a>(
 ) -> i64
     ensures { λ r. ⌜ Worth (now (symbol .entry)) (now (quantity .entry)) n (now (symbols .entry)) (now (prices .entry)) r ⌝ }
 {
-    let m = used(n);
+    let m = used(n, 64);
     let mut sum = 0i64;
     let mut hint = 0usize;
     let mut i = 0usize;

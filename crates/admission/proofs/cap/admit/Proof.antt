@@ -10,10 +10,10 @@ use mir.Syntax.{w64}
 use mir.Val.{SFits, toZ, ofZ}
 use mir.Facts.{toZ-ofZ}
 use borrow.Author.Needs.{needs}
+use Rattle.table.proofs.Places.{shorter-within}
 use Rattle.admission.specs.Columns.{cols, orderAt, from, plans, counted}
 use Rattle.admission.specs.Admission.{admittedFrom, admitted}
 use Rattle.admission.specs.Offers.{offered}
-use Rattle.admission.proofs.Plans.{shorter-le}
 use Rattle.admission.proofs.Admitting.{admit-start, admit-on, admit-ends, admit-part, admit-all, cut-whole, cut-part}
 use Rattle.admission.proofs.cap.admit.Statement.{statement}
 use Rattle.admission.proofs.cap.admit.Tie as tie
@@ -59,7 +59,7 @@ loop-holds c =
     let s = c .before .before .before .before in
     let a = s .args in (
       omega arith,
-      omega (arith, u .ensures, shorter-le (a .n) 64),
+      omega (arith, u .ensures, shorter-within (a .n) 64),
       c .before .before .whole-numbers .ensures,
       refl,
       λ k d. simp (toZ-ofZ (fit-most s)) (admit-start (a .s) (a .n) (u .result) (cols k (a .quantity .now) (a .price .now) d) (u .ensures)),

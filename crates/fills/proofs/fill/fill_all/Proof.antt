@@ -3,6 +3,7 @@ use Prim.Native.Nat.{_-_, _≤_, _<_, min}
 use native.Mathlib.Omega.{arith}
 use borrow.Author.Needs.{needs}
 use Rattle.table.specs.Rows.{Cols, cols}
+use Rattle.table.proofs.Places.{shorter-min}
 use Rattle.fills.specs.Records.{buffers}
 use Rattle.fills.proofs.Running.{Going, going-first, going-on, going-last}
 use Rattle.fills.proofs.fill.fill_all.Statement.{statement}
@@ -22,10 +23,10 @@ abbrev turn : tie.After-ints Inv-loop μ-loop → tie.In-loop Inv-loop μ-loop
 turn c = c .before .before .before .before .before .before .before .before .before .before .before .before .before
 
 below : (c : tie.In-loop Inv-loop μ-loop) → c .before .loop .k < min (c .before .before .before .before .args .m) 64
-below c = omega (arith, c .loop-test .taken, c .before .before .at-most-64 .ensures)
+below c = omega (arith, c .loop-test .taken, c .before .before .used .ensures, shorter-min (c .before .before .before .before .args .m) 64)
 
-at-most-64-requires : tie.Need-at-most-64-requires Inv-loop μ-loop
-at-most-64-requires c κs = search needs
+used-requires : tie.Need-used-requires Inv-loop μ-loop
+used-requires c κs = search needs
 
 loop-holds : tie.Need-loop-holds Inv-loop μ-loop
 loop-holds c =
@@ -71,7 +72,7 @@ returns c v =
     let l = c .before in
     let s = l .before .before .before in
     let a = s .args in
-    let u : min (a .m) 64 ≤ l .loop .k = omega (arith, c .loop-test .left, l .before .at-most-64 .ensures) in
+    let u : min (a .m) 64 ≤ l .loop .k = omega (arith, c .loop-test .left, l .before .used .ensures, shorter-min (a .m) 64) in
     going-last (a .t) (a .m) (a .os .now) (a .oq .now) (a .op .now) (a .b0) (columns s) (buffers (a .words .now) (a .ints .now) (a .b0 .written))
     (l .loop .b) (cols (l .loop .symbol) (l .loop .quantity) (l .loop .average) (l .loop .realized) (l .loop .total)) (l .loop .words) (l .loop .ints) (l .loop .k) (l .loop .inv) u v
 
@@ -81,7 +82,7 @@ fill-all-spec =
     (tie.spec
     Inv-loop
     μ-loop
-    at-most-64-requires
+    used-requires
     loop-holds
     order-at-requires
     fill-one-requires

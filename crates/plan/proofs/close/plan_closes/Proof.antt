@@ -13,11 +13,11 @@ use mir.Val.{SFits, toZ, ofZ}
 use mir.Facts.{toZ-ofZ}
 use Rattle.table.specs.Keyed.{Rising}
 use Rattle.table.specs.Places.{shorter}
+use Rattle.table.proofs.Places.{shorter-within}
 use Rattle.call_lists.specs.Lists.{among, priceOf}
 use Rattle.admission.specs.Admission.{capped}
 use Rattle.admission.specs.Columns.{cols, counted, from, addedTo}
 use Rattle.admission.proofs.Inserting.{added-none}
-use Rattle.admission.proofs.Plans.{shorter-le}
 use Rattle.plan.specs.Adding.{addedAllTo, closeAt, closesAt, Closes}
 use Rattle.plan.proofs.Adding.{closes-start, counted-same, wanted-none, kept-with, adding-on, adding-end}
 use Rattle.plan.proofs.close.plan_closes.Statement.{statement}
@@ -45,7 +45,7 @@ loop-holds : tie.Need-loop-holds Inv-loop μ-loop
 loop-holds c =
     let u = c .before .before .used in
     let a = c .before .before .before .before .before .args in
-    (omega arith, omega (arith, u .ensures, shorter-le (a .n) 64), λ r. closes-start _ _ _ _ (a .n) (u .result) _ _ _ (u .ensures))
+    (omega arith, omega (arith, u .ensures, shorter-within (a .n) 64), λ r. closes-start _ _ _ _ (a .n) (u .result) _ _ _ (u .ensures))
 
 mul-k : tie.Need-mul-k Inv-loop μ-loop
 mul-k c = search needs

@@ -10,10 +10,10 @@ use mir.Val.{SFits, toZ, ofZ}
 use mir.Facts.{toZ-ofZ}
 use Rattle.table.specs.Keyed.{Rising}
 use Rattle.table.specs.Places.{shorter}
+use Rattle.table.proofs.Places.{shorter-within, shorter-below}
 use Rattle.call_lists.specs.Lists.{priceOf}
 use Rattle.admission.specs.Admission.{capped}
 use Rattle.admission.specs.Columns.{cols, counted, from, addedTo}
-use Rattle.admission.proofs.Plans.{shorter-le, shorter-below}
 use Rattle.plan.specs.Adding.{addedAllTo, targetAt, targetsAt, Targets}
 use Rattle.plan.proofs.Adding.{targets-start, kept-with, adding-on, adding-end}
 use Rattle.plan.proofs.target.plan_targets.Statement.{statement}
@@ -45,7 +45,7 @@ loop-holds c =
     let ws = length (a .weights .now) in (
       omega arith,
       omega (arith, u .ensures, shorter-below ts ws),
-      omega (arith, u .ensures, shorter-le ts ws),
+      omega (arith, u .ensures, shorter-within ts ws),
       λ r k. targets-start _ _ _ _ _ (a .targets .now) (a .weights .now) (u .result) _ (u .ensures),
     )
 

@@ -1,27 +1,27 @@
--- At each step what is carried, put at `j` with the rest moved up, gives the column asked for.
-use Prim.Native.Nat.{ℕ, suc, _≤_, _<_, _-_, _+_}
-use mathlib.Core.Path.{_≡_, refl, _∙_}
+-- The loop's laws at a signed number.
+use Prim.Native.Nat.{_-_}
+use mathlib.Core.Path.{sym, _∙_}
+use mathlib.Core.Logic.{⊎-elim}
 use native.Mathlib.Omega.{arith}
-use native.Mathlib.Numerals.{add-one}
 use borrow.Author.Needs.{needs}
 use lib.ListN.{getD}
 use lib.IntN.{pos}
 use mir.Syntax.{w64}
 use mir.Val.{SFits, toZ}
 use mir.Facts.{toZ-ofZ}
-use Rattle.table.specs.Rows.{opened}
-use Rattle.table.proofs.Columns.{opened-on, opened-last}
+use borrow.Author.Tests.{leb-true, leb-false}
+use Rattle.table.proofs.Columns.{Opening, opening-first, opening-on, opening-last, opened-past, opened-full}
 use Rattle.table.proofs.column.open_number.Statement.{statement}
 use Rattle.table.proofs.column.open_number.Tie as tie
 
 abbrev Inv-loop : tie.InvT-loop
-Inv-loop a₀ i n v carry₀ j₀ a carry j = (j ≤ n) × (n < 64) × (opened j (n - j) (toZ w64 carry) a ≡ opened i (n - i) (toZ w64 v) a₀)
+Inv-loop a₀ i n v carry₀ j₀ a carry j = Opening i n (toZ w64 v) a₀ j (toZ w64 carry) a
 
 abbrev μ-loop : tie.MeasureT-loop
 μ-loop a₀ i n v carry₀ j₀ a carry j = n - j
 
 loop-holds : tie.Need-loop-holds Inv-loop μ-loop
-loop-holds c = (c .pre .0, c .pre .1, refl)
+loop-holds c = opening-first _ _ _ _ (c .before .if1 .taken) (leb-true _ _ (c .if2 .taken))
 
 mul-q : tie.Need-mul-q Inv-loop μ-loop
 mul-q c = omega arith
@@ -43,10 +43,9 @@ loop-less c = omega arith
 
 loop-again : tie.Need-loop-again Inv-loop μ-loop
 loop-again c =
-    let b = c .before .before in
-    let e : b .before .args .n - b .loop .j ≡ suc (b .before .args .n - (b .loop .j + 1)) = omega arith in
-    let f : SFits w64 (getD (b .loop .a) (b .loop .j) (pos 0)) = search needs in
-    (omega arith, omega arith, simp (toZ-ofZ f) (rw add-one (opened-on (b .loop .j) _ _ _ (b .loop .a)) ∙ rw e at (b .loop .inv .2)))
+    let l = c .before .before .loop in
+    let f : SFits w64 (getD (l .numbers) (l .j) (pos 0)) = search needs in
+    simp (toZ-ofZ f) (opening-on _ _ _ _ (l .j) _ _ (l .numbers) (l .inv) (c .before .loop-test .taken))
 
 mul-carry-2 : tie.Need-mul-carry-2 Inv-loop μ-loop
 mul-carry-2 c = omega arith
@@ -56,10 +55,11 @@ element-set-from-carry-2 c = omega arith
 
 returns : tie.Need-returns Inv-loop μ-loop
 returns c =
-    let b = c .before in
-    let e : b .loop .j ≡ b .before .args .n = omega arith in
-    let z : b .before .args .n - b .before .args .n ≡ 0 = omega arith in
-    opened-last (b .before .args .n) _ (b .loop .a) ∙ rw (e, z) at (b .loop .inv .2) ∙ simp (toZ-ofZ (b .before .fits .v))
+    let l = c .before .loop in
+    opening-last _ _ _ _ (l .j) _ (l .numbers) (l .inv) (c .loop-test .left) ∙ simp (toZ-ofZ (c .before .before .before .before .fits .v))
+
+returns-2 : tie.Need-returns-2 Inv-loop μ-loop
+returns-2 c = sym (⊎-elim (λ w. opened-past _ _ _ _ (leb-false _ _ (w .1 .left))) (λ w. opened-full _ _ _ _ (w .left)) (c .if1 .came))
 
 pub open-number-spec : {M : Type 1} → statement M
 open-number-spec =
@@ -77,4 +77,5 @@ open-number-spec =
     loop-again
     mul-carry-2
     element-set-from-carry-2
-    returns)
+    returns
+    returns-2)

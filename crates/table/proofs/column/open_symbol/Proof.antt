@@ -1,21 +1,21 @@
--- At each step what is carried, put at `j` with the rest moved up, gives the column asked for.
-use Prim.Native.Nat.{ℕ, suc, _≤_, _<_, _-_, _+_}
-use mathlib.Core.Path.{_≡_, refl, _∙_}
+-- The loop's laws at a symbol.
+use Prim.Native.Nat.{_-_}
+use mathlib.Core.Path.{sym}
+use mathlib.Core.Logic.{⊎-elim}
 use native.Mathlib.Omega.{arith}
-use native.Mathlib.Numerals.{add-one}
-use Rattle.table.specs.Rows.{opened}
-use Rattle.table.proofs.Columns.{opened-on, opened-last}
+use borrow.Author.Tests.{leb-true, leb-false}
+use Rattle.table.proofs.Columns.{Opening, opening-first, opening-on, opening-last, opened-past, opened-full}
 use Rattle.table.proofs.column.open_symbol.Statement.{statement}
 use Rattle.table.proofs.column.open_symbol.Tie as tie
 
 abbrev Inv-loop : tie.InvT-loop
-Inv-loop a₀ i n v carry₀ j₀ a carry j = (j ≤ n) × (n < 64) × (opened j (n - j) carry a ≡ opened i (n - i) v a₀)
+Inv-loop a₀ i n v carry₀ j₀ a carry j = Opening i n v a₀ j carry a
 
 abbrev μ-loop : tie.MeasureT-loop
 μ-loop a₀ i n v carry₀ j₀ a carry j = n - j
 
 loop-holds : tie.Need-loop-holds Inv-loop μ-loop
-loop-holds c = (c .pre .0, c .pre .1, refl)
+loop-holds c = opening-first _ _ _ _ (c .before .if1 .taken) (leb-true _ _ (c .if2 .taken))
 
 mul-q : tie.Need-mul-q Inv-loop μ-loop
 mul-q c = omega arith
@@ -23,11 +23,11 @@ mul-q c = omega arith
 element-copy-out-q : tie.Need-element-copy-out-q Inv-loop μ-loop
 element-copy-out-q c = omega arith
 
-mul-a : tie.Need-mul-a Inv-loop μ-loop
-mul-a c = omega arith
+mul-symbols : tie.Need-mul-symbols Inv-loop μ-loop
+mul-symbols c = omega arith
 
-element-write-a : tie.Need-element-write-a Inv-loop μ-loop
-element-write-a c = omega arith
+element-write-symbols : tie.Need-element-write-symbols Inv-loop μ-loop
+element-write-symbols c = omega arith
 
 add-j : tie.Need-add-j Inv-loop μ-loop
 add-j c = omega arith
@@ -37,22 +37,22 @@ loop-less c = omega arith
 
 loop-again : tie.Need-loop-again Inv-loop μ-loop
 loop-again c =
-    let b = c .before .before in
-    let e : b .before .args .n - b .loop .j ≡ suc (b .before .args .n - (b .loop .j + 1)) = omega arith in
-    (omega arith, omega arith, (rw add-one (opened-on (b .loop .j) _ _ _ (b .loop .a)) ∙ rw e at (b .loop .inv .2)))
+    let l = c .before .before .loop in
+    opening-on _ _ _ _ (l .j) _ _ (l .symbols) (l .inv) (c .before .loop-test .taken)
 
-mul-a-2 : tie.Need-mul-a-2 Inv-loop μ-loop
-mul-a-2 c = omega arith
+mul-symbols-2 : tie.Need-mul-symbols-2 Inv-loop μ-loop
+mul-symbols-2 c = omega arith
 
-element-write-a-2 : tie.Need-element-write-a-2 Inv-loop μ-loop
-element-write-a-2 c = omega arith
+element-write-symbols-2 : tie.Need-element-write-symbols-2 Inv-loop μ-loop
+element-write-symbols-2 c = omega arith
 
 returns : tie.Need-returns Inv-loop μ-loop
 returns c =
-    let b = c .before in
-    let e : b .loop .j ≡ b .before .args .n = omega arith in
-    let z : b .before .args .n - b .before .args .n ≡ 0 = omega arith in
-    opened-last (b .before .args .n) _ (b .loop .a) ∙ rw (e, z) at (b .loop .inv .2)
+    let l = c .before .loop in
+    opening-last _ _ _ _ (l .j) _ (l .symbols) (l .inv) (c .loop-test .left)
+
+returns-2 : tie.Need-returns-2 Inv-loop μ-loop
+returns-2 c = sym (⊎-elim (λ w. opened-past _ _ _ _ (leb-false _ _ (w .1 .left))) (λ w. opened-full _ _ _ _ (w .left)) (c .if1 .came))
 
 pub open-symbol-spec : {M : Type 1} → statement M
 open-symbol-spec =
@@ -63,11 +63,12 @@ open-symbol-spec =
     loop-holds
     mul-q
     element-copy-out-q
-    mul-a
-    element-write-a
+    mul-symbols
+    element-write-symbols
     add-j
     loop-less
     loop-again
-    mul-a-2
-    element-write-a-2
-    returns)
+    mul-symbols-2
+    element-write-symbols-2
+    returns
+    returns-2)

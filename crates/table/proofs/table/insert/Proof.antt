@@ -7,6 +7,7 @@ use mir.Syntax.{w64}
 use mir.Val.{SFits}
 use mir.Facts.{toZ-ofZ}
 use Rattle.table.specs.Rows.{cols}
+use Rattle.table.proofs.Columns.{opened-in}
 use borrow.Author.Needs.{needs}
 use Rattle.table.proofs.table.insert.Statement.{statement}
 use Rattle.table.proofs.table.insert.Tie as tie
@@ -51,12 +52,14 @@ returns c =
     let c0 = c1 .before .before .before in
     let s = c0 .before .before in
     let fq : SFits w64 (c1 .before .raw .result) = search needs in
+    let h = s .pre .1 in
+    let g = s .pre .0 in
     same-cols
-    (c0 .open-symbol .ensures)
-    (simp (toZ-ofZ fq ∙ c1 .before .raw .ensures) at (c1 .open-number .ensures))
-    (simp (toZ-ofZ (fit-a s)) at (c2 .open-number2 .ensures))
-    (simp (toZ-ofZ (fit-g s)) at (c3 .open-number3 .ensures))
-    (simp (toZ-ofZ (fit-t s)) at (c .open-number4 .ensures))
+    (c0 .open-symbol .ensures ∙ opened-in _ _ _ _ h g)
+    (simp (toZ-ofZ fq ∙ c1 .before .raw .ensures) at (c1 .open-number .ensures) ∙ opened-in _ _ _ _ h g)
+    (simp (toZ-ofZ (fit-a s)) at (c2 .open-number2 .ensures) ∙ opened-in _ _ _ _ h g)
+    (simp (toZ-ofZ (fit-g s)) at (c3 .open-number3 .ensures) ∙ opened-in _ _ _ _ h g)
+    (simp (toZ-ofZ (fit-t s)) at (c .open-number4 .ensures) ∙ opened-in _ _ _ _ h g)
 
 pub insert-spec : {M : Type 1} → statement M
 insert-spec =

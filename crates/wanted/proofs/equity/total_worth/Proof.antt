@@ -10,9 +10,10 @@ use mir.Val.{toZ, SFits}
 use mir.Facts.{toZ-ofZ}
 use Rattle.table.specs.Keyed.{Rising}
 use Rattle.table.specs.Places.{shorter}
+use Rattle.table.proofs.Places.{shorter-within}
 use Rattle.call_lists.specs.Lists.{priceOf}
 use Rattle.wanted.specs.Equity.{worthPlaces}
-use Rattle.wanted.proofs.Worth.{worth-none, worth-on, shorter-most}
+use Rattle.wanted.proofs.Worth.{worth-none, worth-on}
 use Rattle.wanted.proofs.equity.total_worth.Statement.{statement}
 use Rattle.wanted.proofs.equity.total_worth.Tie as tie
 
@@ -29,7 +30,7 @@ used-requires c κs = search needs
 loop-holds : tie.Need-loop-holds Inv-loop μ-loop
 loop-holds c =
     let a = c .before .before .args in
-    (omega arith, omega (arith, c .used .ensures, shorter-most (a .n)), λ r. sym (worth-none _ (a .symbol .now) (a .quantity .now)))
+    (omega arith, omega (arith, c .used .ensures, shorter-within (a .n) 64), λ r. sym (worth-none _ (a .symbol .now) (a .quantity .now)))
 
 mul-quote : tie.Need-mul-quote Inv-loop μ-loop
 mul-quote c = search needs
