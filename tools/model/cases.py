@@ -68,10 +68,10 @@ def case_l(cash_first):
     return a.cash, a.trimmed_count
 
 
-def cash_first(cash, costs, shares, prices, targets=(), **settings):
-    """A rebalance in cash-first mode from whole shares held: the answer, the symbols as they filled, the cash left."""
+def cash_first(cash, costs, shares, prices, targets=(), mode=True, **settings):
+    """A rebalance in cash-first mode, or by symbol, from whole shares held: the answer, the symbols as they filled, the cash left."""
     held = {s: Position(n * WHOLE, prices[s], 0, n * prices[s]) for s, n in shares.items()}
-    a = account(cash, costs, held, recording=True, cash_first=True, **settings)
+    a = account(cash, costs, held, recording=True, cash_first=mode, **settings)
     answer, a, records = model.rebalance(a, list(targets), list(prices.items()), 0, "rebalance")
     return answer, "".join(chr(r.symbol >> 56) for r in records), a.cash
 
@@ -79,6 +79,7 @@ def cash_first(cash, costs, shares, prices, targets=(), **settings):
 # Document 02, request 1. At a price of 7 a gap of 1 becomes 142,857 micro-shares, which are worth 0.
 CASH_FIRST = [
     ("a sale below the floor", cash_first(0, FIFTEEN, {A: 1, B: 1}, {A: 10, B: 25}), (0, "BA", 5)),
+    ("a sale below the floor, by symbol", cash_first(0, FIFTEEN, {A: 1, B: 1}, {A: 10, B: 25}, mode=False), (0, "B", 10)),
     ("a sale for its commission", cash_first(0, FIFTEEN, {A: 1, B: 1, C: 1}, {A: 10, B: 15, C: 25}), (0, "BCA", 5)),
     ("a sale at price 0", cash_first(100, Costs(0.0, 10_000.0, 0), {B: 1}, {A: 25, B: 20}, [(A, 0.25)]), (0, "BA", 50)),
     ("buys worth 0", cash_first(20, FREE, {B: 1}, {A: 7, B: 80, C: 30, D: 7}, [(D, 0.01), (C, 0.3), (A, 0.01)], quantity_step=1),

@@ -102,7 +102,7 @@ impl Account {
         self.under(s)
     }
 
-    // "admitted sells run before admitted buys, each by symbol"
+    // "those that lower no cash first, then the others, each group by symbol"
     pub fn set_cash_first(self, on: bool) -> Changed
         ensures { λ r. ⌜ r ≡ changed (withCashFirst on (self .settings)) self ⌝ }
     {

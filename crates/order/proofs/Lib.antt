@@ -6,5 +6,6 @@ pub mod OrderTheorem
 pub mod Accounts
 pub mod OwnOrders
 pub mod CashFirst
+pub mod Called
 pub mod Cases
 pub mod Counters

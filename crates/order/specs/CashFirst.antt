@@ -49,8 +49,8 @@ begins c = stateOf (c .account)
 abbrev pub left : Call → Account
 left c = rebalanced (c .account) (c .targets) (c .weights) (c .symbols) (c .prices) (c .period) (c .kind) (c .room) .account
 
--- What is asked: the mode, a call that is done (so its account is sound), and "cash plus all cash raised inside the signed 64-bit range". That its orders are
--- not zero, for different symbols and have table room follows.
+-- What is asked: columns of 64 places, as every account of the code has; the mode; a call that is done, so that its account is sound; and "cash plus all cash raised
+-- inside the signed 64-bit range". That its orders are not zero, for different symbols and have table room follows.
 pub record InCashFirst (c : Call) : Type 0 where
   pub columns : Full (columnsOf (c .account .positions))
   pub mode : c .account .settings .«cash_first» ≡ true

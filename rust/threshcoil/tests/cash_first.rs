@@ -74,8 +74,11 @@ fn l_a_sale_pays_for_a_buy() {
 /// "cash 0, floor 15, no other cost; A sold for 10, B sold for 25 .. fills B, then A, and ends at 5"
 #[test]
 fn a_sale_below_the_floor_waits_for_the_one_that_pays_for_it() {
-    let account = holding(0, Settings::new(FIFTEEN), &[(b'A', 10), (b'B', 25)]);
+    let mut account = holding(0, Settings::new(FIFTEEN), &[(b'A', 10), (b'B', 25)]);
     assert_eq!(rebalanced(account, &[], &[(b'A', 10), (b'B', 25)]), [('B', 10), ('A', 5)]);
+    // By symbol it is skipped.
+    account.set_cash_first(false).expect("done");
+    assert_eq!(rebalanced(account, &[], &[(b'A', 10), (b'B', 25)]), [('B', 10)]);
 }
 
 /// "those that lower no cash first": a sale for just its commission is one of them.
