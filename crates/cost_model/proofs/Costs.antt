@@ -1,7 +1,7 @@
--- What callers need of costs: at least the floor, never falling as the notional rises, and the bounds of an effective price.
+-- What callers need of costs: at least the floor and at most the ceiling, never falling as the notional rises, and the bounds of an effective price.
 use Prim.Native.Nat.{ℕ, zero, _≤_, _<_, _^_}
-use mathlib.Core.Path.{_≡_, refl}
-use mathlib.Core.Bool.{Bool, true, false, cond, _&&_}
+use mathlib.Core.Path.{_≡_, refl, sym, _∙_, subst}
+use mathlib.Core.Bool.{Bool, true, false, cond, _&&_, _||_}
 use native.Mathlib.Omega.{arith}
 use lib.IntN.{ℤ, pos, negsuc, natAbs}
 use lib.Signed.{ltZ, leZ}
@@ -14,9 +14,10 @@ use Rattle.doubles.specs.Doubles.{finite}
 use Rattle.doubles.proofs.Laws.{toI64-fits}
 use Rattle.doubles.proofs.Chain.{buy-price-above-zero, sell-price-not-negative}
 use Rattle.doubles.proofs.Chain as Chain
-use Rattle.sums.proofs.Ints.{P, N, natAbs-parts, P-fits, N-fits, le-yes, lt-yes, lt-no, le-is}
+use Rattle.sums.proofs.Ints.{P, N, natAbs-parts, P-fits, N-fits, le-yes, lt-yes, lt-no, le-is, ge-is, le-refl, le-trans, eq-of}
+use Rattle.position.specs.Shares.{isZero}
 use Rattle.cost_model.specs.Costs as Costs
-use Rattle.cost_model.specs.Costs.{tenThousand, commission, atLeast, cost, slippageFactor, slipped, effective, goodRate, goodCosts}
+use Rattle.cost_model.specs.Costs.{tenThousand, commission, atLeast, uncapped, atMost, cost, slippageFactor, slipped, effective, goodRate, goodCeiling, goodCosts}
 use Rattle.cost_model.specs.declared.CostModel.{CostModel}
 
 -- ---- tests
@@ -44,6 +45,7 @@ pub record Good (m : CostModel) : Type 0 where
   pub slippage-low : T (le Costs.zero (m .«slippage_bps»))
   pub slippage-high : T (le (m .«slippage_bps») tenThousand)
   pub floor : leZ (pos 0) (m .«min_commission») ≡ true
+  pub ceiling : goodCeiling (m .«min_commission») (m .«max_commission») ≡ true
 
 pub good-parts : (m : CostModel) → goodCosts m ≡ true → Good m
 unfolding goodCosts goodRate
@@ -51,12 +53,14 @@ good-parts m g =
     let r = and-left (goodRate (m .«commission_bps»)) _ g in
     let s = and-right (goodRate (m .«commission_bps»)) _ g in
     let t = and-right (le Costs.zero (m .«slippage_bps»)) _ s in
+    let u = and-right (le (m .«slippage_bps») tenThousand) _ t in
     record {
       finite-rate = holds (finite (m .«commission_bps»)) (and-left (finite (m .«commission_bps»)) _ r);
       rate = holds (le Costs.zero (m .«commission_bps»)) (and-right (finite (m .«commission_bps»)) _ r);
       slippage-low = holds (le Costs.zero (m .«slippage_bps»)) (and-left (le Costs.zero (m .«slippage_bps»)) _ s);
       slippage-high = holds (le (m .«slippage_bps») tenThousand) (and-left (le (m .«slippage_bps») tenThousand) _ t);
-      floor = and-right (le (m .«slippage_bps») tenThousand) _ t;
+      floor = and-left (leZ (pos 0) (m .«min_commission»)) _ u;
+      ceiling = and-right (leZ (pos 0) (m .«min_commission»)) _ u;
     }
 
 -- ---- the larger of two
@@ -86,27 +90,112 @@ at-least-fits f c a b = go (ltZ c f)
     go true = a
     go false = b
 
+-- ---- the lesser of two, where there is a ceiling
+at-most-mono : (k c d : ℤ) → leZ c d ≡ true → leZ (atMost k c) (atMost k d) ≡ true
+unfolding atMost
+at-most-mono k c d h = go (isZero k) (ltZ k c) (ltZ k d) refl refl
+  where
+    go : (z s t : Bool) → ltZ k c ≡ s → ltZ k d ≡ t → leZ (cond z c (cond s k c)) (cond z d (cond t k d)) ≡ true
+    go true s t a b = h
+    go false true true a b = le-refl k
+    go false true false a b = le-is k d (omega (arith, lt-yes k c a, le-yes c d h))
+    go false false true a b = le-is c k (omega (arith, lt-no k c a))
+    go false false false a b = h
+
+at-most-fits : (k c : ℤ) → SFits w64 k → SFits w64 c → SFits w64 (atMost k c)
+unfolding atMost
+at-most-fits k c a b = go (isZero k) (ltZ k c)
+  where
+    go : (z t : Bool) → SFits w64 (cond z c (cond t k c))
+    go true t = b
+    go false true = a
+    go false false = b
+
+ceiling-or-less : (k c : ℤ) → isZero k ≡ false → leZ (atMost k c) k ≡ true
+unfolding atMost
+ceiling-or-less k c z = rw z (go (ltZ k c) refl)
+  where
+    go : (t : Bool) → ltZ k c ≡ t → leZ (cond t k c) k ≡ true
+    go true e = le-refl k
+    go false e = le-is c k (omega (arith, lt-no k c e))
+
+-- what the ceiling does not reach stays
+at-most-unreached : (k c : ℤ) → leZ c k ≡ true → atMost k c ≡ c
+unfolding atMost
+at-most-unreached k c h = go (isZero k) (ge-is k c (omega (arith, le-yes c k h)))
+  where
+    go : (z : Bool) → ltZ k c ≡ false → cond z c (cond (ltZ k c) k c) ≡ c
+    go true e = refl
+    go false e = rw e
+
+-- what reaches it is the ceiling
+at-most-reached : (k c : ℤ) → isZero k ≡ false → leZ k c ≡ true → atMost k c ≡ k
+unfolding atMost
+at-most-reached k c z h = rw z (go (ltZ k c) refl)
+  where
+    go : (t : Bool) → ltZ k c ≡ t → cond t k c ≡ k
+    go true e = refl
+    go false e = eq-of c k (omega (arith, lt-no k c e, le-yes k c h))
+
+-- a good ceiling leaves the floor as it is
+good-ceiling-keeps : (f k : ℤ) → goodCeiling f k ≡ true → atMost k f ≡ f
+unfolding goodCeiling atMost
+good-ceiling-keeps f k g = go (isZero k) refl g
+  where
+    go : (z : Bool) → isZero k ≡ z → z || leZ f k ≡ true → atMost k f ≡ f
+    go true e h = rw e
+    go false e h = at-most-unreached k f h
+
 -- ---- costs
-pub cost-at-least-floor : (m : CostModel) (n : ℤ) → leZ (m .«min_commission») (cost m n) ≡ true
+uncapped-at-least-floor : (m : CostModel) (n : ℤ) → leZ (m .«min_commission») (uncapped m n) ≡ true
+unfolding uncapped
+uncapped-at-least-floor m n = floor-or-more (m .«min_commission») (commission (m .«commission_bps») (natAbs n))
+
+-- an account without a ceiling pays document 01's commission
+pub cost-without-ceiling : (m : CostModel) (n : ℤ) → isZero (m .«max_commission») ≡ true → cost m n ≡ uncapped m n
+unfolding cost atMost
+cost-without-ceiling m n z = rw z
+
+-- and so does a fill whose commission the ceiling does not reach
+pub cost-unreached : (m : CostModel) (n : ℤ) → leZ (uncapped m n) (m .«max_commission») ≡ true → cost m n ≡ uncapped m n
 unfolding cost
-cost-at-least-floor m n = floor-or-more (m .«min_commission») (commission (m .«commission_bps») (natAbs n))
+cost-unreached m n h = at-most-unreached (m .«max_commission») (uncapped m n) h
+
+-- a ceiling equal to the floor is a flat fee
+pub cost-flat : (m : CostModel) (n : ℤ) → isZero (m .«max_commission») ≡ false → m .«max_commission» ≡ m .«min_commission» → cost m n ≡ m .«min_commission»
+unfolding cost
+cost-flat m n z e =
+    at-most-reached (m .«max_commission») (uncapped m n) z (subst (λ (k : ℤ). leZ k (uncapped m n) ≡ true) (sym e) (uncapped-at-least-floor m n)) ∙ e
+
+pub cost-at-most-ceiling : (m : CostModel) (n : ℤ) → isZero (m .«max_commission») ≡ false → leZ (cost m n) (m .«max_commission») ≡ true
+unfolding cost
+cost-at-most-ceiling m n z = ceiling-or-less (m .«max_commission») (uncapped m n) z
+
+-- at least the lesser of floor and ceiling, whatever they are
+pub cost-at-least-lesser : (m : CostModel) (n : ℤ) → leZ (atMost (m .«max_commission») (m .«min_commission»)) (cost m n) ≡ true
+unfolding cost
+cost-at-least-lesser m n = at-most-mono (m .«max_commission») (m .«min_commission») (uncapped m n) (uncapped-at-least-floor m n)
+
+pub cost-at-least-floor : (m : CostModel) (n : ℤ) → goodCosts m ≡ true → leZ (m .«min_commission») (cost m n) ≡ true
+cost-at-least-floor m n g =
+    subst (λ (f : ℤ). leZ f (cost m n) ≡ true) (good-ceiling-keeps (m .«min_commission») (m .«max_commission») (good-parts m g .ceiling)) (cost-at-least-lesser m n)
 
 pub cost-nonneg : (m : CostModel) (n : ℤ) → goodCosts m ≡ true → leZ (pos 0) (cost m n) ≡ true
-cost-nonneg m n g = le-is (pos 0) (cost m n) (omega (arith, le-yes (pos 0) (m .«min_commission») (good-parts m g .floor), le-yes (m .«min_commission») (cost m n) (cost-at-least-floor m n)))
+cost-nonneg m n g = le-trans (pos 0) (m .«min_commission») (cost m n) (good-parts m g .floor) (cost-at-least-floor m n g)
 
-pub cost-fits : (m : CostModel) (n : ℤ) → SFits w64 (m .«min_commission») → SFits w64 (cost m n)
-unfolding cost commission
-cost-fits m n f = at-least-fits (m .«min_commission») _ f (toI64-fits _)
+pub cost-fits : (m : CostModel) (n : ℤ) → SFits w64 (m .«min_commission») → SFits w64 (m .«max_commission») → SFits w64 (cost m n)
+unfolding cost uncapped commission
+cost-fits m n f k = at-most-fits (m .«max_commission») _ k (at-least-fits (m .«min_commission») _ f (toI64-fits _))
 
 size-fits : (n : ℤ) → SFits w64 n → natAbs n < 2 ^ 64
 size-fits n f = omega (arith, natAbs-parts n, P-fits n f, N-fits n f)
 
 -- the cost never falls as the notional rises, in size
 pub cost-mono-size : (m : CostModel) (n k : ℤ) → goodCosts m ≡ true → SFits w64 k → natAbs n ≤ natAbs k → leZ (cost m n) (cost m k) ≡ true
-unfolding cost commission
+unfolding cost uncapped commission
 cost-mono-size m n k g f h =
     let p = good-parts m g in
-    at-least-mono (m .«min_commission») _ _ (told _ (Chain.cost-mono (m .«commission_bps») (natAbs n) (natAbs k) (p .finite-rate) (p .rate) h (size-fits k f)))
+    at-most-mono (m .«max_commission») _ _ (at-least-mono (m .«min_commission») _ _ (told _ (Chain.cost-mono (m .«commission_bps») (natAbs n) (natAbs k) (p .finite-rate) (p .rate) h (size-fits k f))))
 
 pub cost-mono : (m : CostModel) (n k : ℤ) → goodCosts m ≡ true → SFits w64 k → leZ (pos 0) n ≡ true → leZ n k ≡ true → leZ (cost m n) (cost m k) ≡ true
 cost-mono m (pos n) (pos k) g f z h = cost-mono-size m (pos n) (pos k) g f (leb-true n k h)

@@ -1,10 +1,11 @@
--- Commission and slippage: document 01, 'Sums' and 'Numbers that bound an account'.
+-- Commission and slippage: document 01, 'Sums' and 'Numbers that bound an account', and the ceiling of document 02, request 3.
 use Prim.Native.Nat.{ℕ}
-use mathlib.Core.Bool.{Bool, true, false, cond, _&&_}
+use mathlib.Core.Bool.{Bool, true, false, cond, _&&_, _||_}
 use lib.IntN.{ℤ, pos, natAbs}
 use lib.Signed.{ltZ, leZ}
 use lib.Ieee.{Float, fin, binary64, add, mul, div, le}
 use Rattle.doubles.specs.Doubles.{finite, toI64, ofI64, ofU64, roundAway}
+use Rattle.position.specs.Shares.{isZero}
 use Rattle.cost_model.specs.declared.CostModel.{CostModel}
 
 abbrev pub zero : Float
@@ -17,8 +18,12 @@ one = fin false 1 (pos 0)
 abbrev pub tenThousand : Float
 tenThousand = fin false 625 (pos 4)
 
+-- "the two rates and the floor travel together as one value": without a ceiling
 abbrev pub model : Float → Float → ℤ → CostModel
-model c s m = record { «commission_bps» = c; «slippage_bps» = s; «min_commission» = m }
+model c s m = record { «commission_bps» = c; «slippage_bps» = s; «min_commission» = m; «max_commission» = pos 0 }
+
+abbrev pub withCeiling : ℤ → CostModel → CostModel
+withCeiling k m = record { «commission_bps» = m .«commission_bps»; «slippage_bps» = m .«slippage_bps»; «min_commission» = m .«min_commission»; «max_commission» = k }
 
 abbrev pub free : CostModel
 free = model zero zero (pos 0)
@@ -31,9 +36,17 @@ commission bps n = toI64 (roundAway (div binary64 (mul binary64 (ofU64 n) bps) t
 unfoldable pub atLeast : ℤ → ℤ → ℤ
 atLeast floor c = cond (ltZ c floor) floor c
 
--- The notional counts by its magnitude.
+-- Document 02, 3: "today's commission". The notional counts by its magnitude.
+unfoldable pub uncapped : CostModel → ℤ → ℤ
+uncapped m n = atLeast (m .«min_commission») (commission (m .«commission_bps») (natAbs n))
+
+-- "Settings gain a ceiling, 0 meaning none": of the ceiling and a commission
+unfoldable pub atMost : ℤ → ℤ → ℤ
+atMost ceiling c = cond (isZero ceiling) c (cond (ltZ ceiling c) ceiling c)
+
+-- "`compute_cost` answers the lesser of today's commission and the ceiling"
 unfoldable pub cost : CostModel → ℤ → ℤ
-cost m n = atLeast (m .«min_commission») (commission (m .«commission_bps») (natAbs n))
+cost m n = atMost (m .«max_commission») (uncapped m n)
 
 -- a buy's sign is 1, a sale's -1
 abbrev pub sign : Bool → Float
@@ -55,6 +68,14 @@ effective m buys price = slipped (slippageFactor m buys) price
 unfoldable pub goodRate : Float → Bool
 goodRate x = finite x && le zero x
 
+-- Document 02, 3: "1 also when a non-zero ceiling is below `min_commission`": of floor and ceiling
+unfoldable pub goodCeiling : ℤ → ℤ → Bool
+goodCeiling floor ceiling = isZero ceiling || leZ floor ceiling
+
 -- and "`slippage_bps` from 0 to 10,000", "`min_commission` .. at least 0"
 unfoldable pub goodCosts : CostModel → Bool
-goodCosts m = goodRate (m .«commission_bps») && (le zero (m .«slippage_bps») && (le (m .«slippage_bps») tenThousand && leZ (pos 0) (m .«min_commission»)))
+goodCosts m =
+    goodRate (m .«commission_bps»)
+    && (le zero (m .«slippage_bps»)
+    && (le (m .«slippage_bps») tenThousand
+    && (leZ (pos 0) (m .«min_commission») && goodCeiling (m .«min_commission») (m .«max_commission»))))

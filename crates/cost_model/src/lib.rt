@@ -2,11 +2,11 @@
 ghost use mathlib.Core.Path.{_≡_};
 ghost use lib.IntN.{natAbs};
 ghost use Rattle.position.specs.Shares.{isPositive};
-ghost use Rattle.cost_model.specs.Costs.{free, commission, cost, sign, slippageFactor, slipped, effective, goodRate, goodCosts};
+ghost use Rattle.cost_model.specs.Costs.{free, commission, atLeast, atMost, cost, sign, slippageFactor, slipped, effective, goodRate, goodCeiling, goodCosts};
 use position::Shares;
 
-// Transaction costs: a commission in basis points of notional with a minimum per fill, and slippage as price impact. "The two rates and the floor
-// travel together as one value."
+// Transaction costs: a commission in basis points of notional with a minimum and a maximum per fill, and slippage as price impact. "The two rates and
+// the floor travel together as one value", and the ceiling with them.
 pub struct CostModel {
     // Commission in basis points (1 bps = 0.01%).
     pub commission_bps: f64,
@@ -14,6 +14,8 @@ pub struct CostModel {
     pub slippage_bps: f64,
     // Minimum commission per fill (cents).
     pub min_commission: i64,
+    // Maximum commission per fill (cents); 0 is none.
+    pub max_commission: i64,
 }
 
 impl CostModel {
@@ -25,6 +27,7 @@ impl CostModel {
             commission_bps: 0.0,
             slippage_bps: 0.0,
             min_commission: 0,
+            max_commission: 0,
         }
     }
 
@@ -41,19 +44,18 @@ impl CostModel {
         if !(self.slippage_bps <= 10_000.0) {
             return false;
         }
-        0 <= self.min_commission
+        if !(0 <= self.min_commission) {
+            return false;
+        }
+        good_ceiling(self.min_commission, self.max_commission)
     }
 
     // Commission for a trade of the given notional (cents), for every notional and every rate: a NaN counts 0, and what is too large saturates.
     pub fn compute_cost(self, notional: i64) -> i64
         ensures { λ r. ⌜ r ≡ cost self notional ⌝ }
     {
-        let charged = commission(self.commission_bps, notional);
-        if charged < self.min_commission {
-            self.min_commission
-        } else {
-            charged
-        }
+        let rated = commission(self.commission_bps, notional);
+        at_most(self.max_commission, at_least(self.min_commission, rated))
     }
 
     // The factor that slippage puts on a buy's price or on a sale's.
@@ -91,6 +93,23 @@ fn commission(bps: f64, notional: i64) -> i64
     doubles::round_to_i64(amount * bps / 10_000.0)
 }
 
+// ".. and at least `min_commission`."
+fn at_least(floor: i64, charged: i64) -> i64
+    ensures { λ r. ⌜ r ≡ atLeast floor charged ⌝ }
+{
+    if charged < floor { floor } else { charged }
+}
+
+// "the lesser of today's commission and the ceiling", "0 meaning none"
+fn at_most(ceiling: i64, charged: i64) -> i64
+    ensures { λ r. ⌜ r ≡ atMost ceiling charged ⌝ }
+{
+    if ceiling == 0 {
+        return charged;
+    }
+    if ceiling < charged { ceiling } else { charged }
+}
+
 fn side(buying: bool) -> f64
     ensures { λ r. ⌜ r ≡ sign buying ⌝ }
 {
@@ -104,4 +123,14 @@ fn good_rate(x: f64) -> bool
         return false;
     }
     0.0 <= x
+}
+
+// A ceiling equal to the floor is good: a flat fee.
+fn good_ceiling(floor: i64, ceiling: i64) -> bool
+    ensures { λ r. ⌜ r ≡ goodCeiling floor ceiling ⌝ }
+{
+    if ceiling == 0 {
+        return true;
+    }
+    floor <= ceiling
 }

@@ -1,40 +1,41 @@
--- The larger of commission and floor.
+-- The commission, then the floor, then the ceiling.
 use mathlib.Core.Path.{_∙_}
 use mir.Syntax.{w64}
 use mir.Val.{SFits}
 use mir.Facts.{toZ-ofZ}
 use borrow.Author.Needs.{needs}
-use Rattle.cost_model.specs.Costs.{cost, atLeast}
+use Rattle.cost_model.specs.Costs.{uncapped, cost}
 use Rattle.cost_model.proofs.CostModel.compute_cost.Statement.{statement}
 use Rattle.cost_model.proofs.CostModel.compute_cost.Tie as tie
 
 floor-fits : (s : tie.Start) → SFits w64 (s .args .self .«min_commission»)
 floor-fits s = search needs
 
+ceiling-fits : (s : tie.Start) → SFits w64 (s .args .self .«max_commission»)
+ceiling-fits s = search needs
+
 commission-requires : tie.Need-commission-requires
 commission-requires c κs = search needs
 
-returns : tie.Need-returns
-unfolding cost atLeast
-returns c =
-    let k = c .before .before .before .before in
-    let s = k .before in
-    let fr : SFits w64 (k .commission .result) = search needs in
-    let ff = floor-fits s in
-    let e = simp (toZ-ofZ (s .fits .notional)) at (k .commission .ensures) in
-    let t = simp (toZ-ofZ fr, toZ-ofZ ff) at (c .before .if1 .taken) in
-    rw (simp e at t) (toZ-ofZ ff)
+at-least-requires : tie.Need-at-least-requires
+at-least-requires c κs = search needs
 
-returns-2 : tie.Need-returns-2
-unfolding cost atLeast
-returns-2 c =
-    let k = c .before .before .before in
+at-most-requires : tie.Need-at-most-requires
+at-most-requires c κs = search needs
+
+returns : tie.Need-returns
+unfolding cost uncapped
+returns c =
+    let l = c .before .before in
+    let k = l .before .before in
     let s = k .before in
-    let fr : SFits w64 (k .commission .result) = search needs in
-    let ff = floor-fits s in
-    let e = simp (toZ-ofZ (s .fits .notional)) at (k .commission .ensures) in
-    let t = simp (toZ-ofZ fr, toZ-ofZ ff) at (c .if1 .left) in
-    rw (simp e at t) (toZ-ofZ fr ∙ e)
+    let fc : SFits w64 (k .commission .result) = search needs in
+    let fl : SFits w64 (l .at-least .result) = search needs in
+    let fm : SFits w64 (c .at-most .result) = search needs in
+    let rated = simp (toZ-ofZ (s .fits .notional)) at (k .commission .ensures) in
+    let floored = simp (toZ-ofZ (floor-fits s), toZ-ofZ fc) at (l .at-least .ensures) in
+    let capped = simp (toZ-ofZ (ceiling-fits s), toZ-ofZ fl) at (c .at-most .ensures) in
+    toZ-ofZ fm ∙ capped ∙ simp (floored, rated)
 
 pub compute-cost-spec : {M : Type 1} → statement M
-compute-cost-spec = tie.close (tie.spec commission-requires returns returns-2)
+compute-cost-spec = tie.close (tie.spec commission-requires at-least-requires at-most-requires returns)
