@@ -26,7 +26,7 @@ use Rattle.word_bytes.specs.Words.{wordsIn, wordsOf, bytesOf}
 use Rattle.word_bytes.specs.Numbers.{signedOf, unsignedOf, floatOf, patternOf}
 use Rattle.word_bytes.proofs.Words.{Words, Octets, length-words, words-bytes, length-bytes, words-fit, bytes-words}
 use Rattle.word_bytes.proofs.Numbers.{signed-unsigned, unsigned-signed, unsigned-lt, float-pattern, pattern-float, pattern-lt}
-use Rattle.account_bytes.specs.Sizes.{settingsSize, settingsLength, commissionAt, slippageAt, bandAt, capMarkAt, capCountAt, recordingAt, cashFirstAt, ceilingAt, coverRuleAt, longOnlyAt}
+use Rattle.account_bytes.specs.Sizes.{settingsSize, settingsLength, commissionAt, slippageAt, bandAt, capMarkAt, capCountAt, recordingAt, cashFirstAt, coverRuleAt, longOnlyAt}
 use Rattle.account_bytes.specs.Settings.{flagWord, flagOf, isFlag, isNumber, capMark, capCount, capOf, isCap, costsOf, settingsWords, settingsAt, areRates, areFlags, spareSettings, areSettings, gotSettings, noSettings, holdSettings, readSettings, writtenSettings}
 use Rattle.account_bytes.proofs.Writing.{length-settings}
 use Rattle.account_bytes.proofs.Lists.{run, run-is, word-lt}
@@ -42,6 +42,7 @@ pub record Kept (s : Settings) : Type 0 where
   pub commission : T (fits binary64 (costsOf s .«commission_bps»))
   pub slippage : T (fits binary64 (costsOf s .«slippage_bps»))
   pub floor : SFits w64 (costsOf s .«min_commission»)
+  pub ceiling : SFits w64 (costsOf s .«max_commission»)
   pub step : SFits w64 (s .«quantity_step»)
   pub lowest : SFits w64 (s .«min_order_value»)
   pub highest : SFits w64 (s .«max_order_value»)
@@ -144,6 +145,7 @@ settings-back s k =
       signed-unsigned (s .«max_rebalance_notional») (k .notional),
       flag-back (s .recording),
       flag-back (s .«cash_first»),
+      signed-unsigned (costsOf s .«max_commission») (k .ceiling),
     )
 
 pub are-back : (s : Settings) → Kept s → areSettings 0 (settingsWords s) ≡ true
@@ -175,6 +177,7 @@ settings-fit s k =
       unsigned-lt (s .«max_rebalance_notional») (k .notional),
       flag-lt (s .recording),
       flag-lt (s .«cash_first»),
+      unsigned-lt (costsOf s .«max_commission») (k .ceiling),
     )
 
 -- the same words where the settings come after another word
@@ -206,15 +209,13 @@ flags : (from : ℕ) (ws : List ℕ) → areFlags from ws ≡ true → Flags fro
 flags from ws e = let a = both-true _ _ e in record { recording = a .0; first = a .1 }
 
 record Spare (from : ℕ) (ws : List ℕ) : Type 0 where
-  ceiling : getD ws (from + ceilingAt) 0 ≡ 0
   cover : getD ws (from + coverRuleAt) 0 ≡ 0
   long-only : getD ws (from + longOnlyAt) 0 ≡ 0
 
 spare : (from : ℕ) (ws : List ℕ) → spareSettings from ws ≡ true → Spare from ws
 spare from ws e =
     let a = both-true _ _ e in
-    let b = both-true _ _ (a .1) in
-    record { ceiling = eqb-true _ 0 (a .0); cover = eqb-true _ 0 (b .0); long-only = eqb-true _ 0 (b .1) }
+    record { cover = eqb-true _ 0 (a .0); long-only = eqb-true _ 0 (a .1) }
 
 record Tested (from : ℕ) (ws : List ℕ) : Type 0 where
   rate : Rates from ws
@@ -250,7 +251,6 @@ words-back from ws o e =
       count-of-cap (getD ws (from + capMarkAt) 0) (getD ws (from + capCountAt) 0) (t .cap),
       word-of-flag (getD ws (from + recordingAt) 0) (t .flag .recording),
       word-of-flag (getD ws (from + cashFirstAt) 0) (t .flag .first),
-      t .none .ceiling,
       t .none .cover,
       t .none .long-only,
     )

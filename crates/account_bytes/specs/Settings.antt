@@ -9,13 +9,13 @@ use Rattle.word_bytes.specs.Words.{wordsOf, bytesOf}
 use Rattle.word_bytes.specs.Numbers.{signedOf, unsignedOf, floatOf, patternOf}
 use Rattle.table.specs.Keyed.{pick, both}
 use Rattle.cost_model.specs.declared.CostModel.{CostModel}
-use Rattle.cost_model.specs.Costs.{model}
+use Rattle.cost_model.specs.Costs.{model, withCeiling}
 use Rattle.account.specs.declared.settings.Rules.{Rules}
 use Rattle.account.specs.declared.settings.Settings.{Settings}
 use Rattle.account.specs.declared.settings.TradeCap.{TradeCap}
 use Rattle.account.specs.declared.settings.TradeCap.the-variants.{Absent, AtMost}
 use Rattle.account.specs.Settings.{settings, zeroSettings}
-use Rattle.account_bytes.specs.Sizes.{settingsLength, commissionAt, slippageAt, minCommissionAt, stepAt, minOrderAt, maxOrderAt, bandAt, capMarkAt, capCountAt, maxNotionalAt, recordingAt, cashFirstAt, ceilingAt, coverRuleAt, longOnlyAt}
+use Rattle.account_bytes.specs.Sizes.{settingsLength, commissionAt, slippageAt, minCommissionAt, stepAt, minOrderAt, maxOrderAt, bandAt, capMarkAt, capCountAt, maxNotionalAt, recordingAt, cashFirstAt, maxCommissionAt, coverRuleAt, longOnlyAt}
 use Rattle.account_bytes.specs.declared.setting_words.ReadSettings.{ReadSettings}
 
 -- ---- marks: 1 for yes, 0 for no
@@ -51,7 +51,7 @@ capOf mark n = pick (eqb mark 0) Absent (AtMost n)
 unfoldable pub isCap : ℕ → ℕ → Bool
 isCap mark n = pick (eqb mark 0) (eqb n 0) (eqb mark 1)
 
--- ---- costs: "the two rates and the floor travel together as one value"
+-- ---- costs: "the two rates and the floor travel together as one value", and the ceiling with them, whose word stands behind the other settings
 abbrev pub costsOf : Settings → CostModel
 costsOf s = s .rules .«cost_model»
 
@@ -59,7 +59,9 @@ abbrev pub costWords : CostModel → List ℕ
 costWords m = patternOf (m .«commission_bps») ∷ patternOf (m .«slippage_bps») ∷ unsignedOf (m .«min_commission») ∷ []
 
 abbrev pub costsAt : ℕ → List ℕ → CostModel
-costsAt from ws = model (floatOf (getD ws (from + commissionAt) 0)) (floatOf (getD ws (from + slippageAt) 0)) (signedOf (getD ws (from + minCommissionAt) 0))
+costsAt from ws =
+    withCeiling (signedOf (getD ws (from + maxCommissionAt) 0))
+    (model (floatOf (getD ws (from + commissionAt) 0)) (floatOf (getD ws (from + slippageAt) 0)) (signedOf (getD ws (from + minCommissionAt) 0)))
 
 -- what is chosen at opening
 abbrev pub rulesAt : ℕ → List ℕ → Rules
@@ -78,7 +80,7 @@ settingsWords s =
     ∷ unsignedOf (s .«max_rebalance_notional»)
     ∷ flagWord (s .recording)
     ∷ flagWord (s .«cash_first»)
-    ∷ 0
+    ∷ unsignedOf (costsOf s .«max_commission»)
     ∷ 0
     ∷ 0
     ∷ [])
@@ -111,9 +113,8 @@ areFlags from ws =
 
 abbrev pub spareSettings : ℕ → List ℕ → Bool
 spareSettings from ws =
-    both (isZero (getD ws (from + ceilingAt) 0))
-    (both (isZero (getD ws (from + coverRuleAt) 0))
-    (isZero (getD ws (from + longOnlyAt) 0)))
+    both (isZero (getD ws (from + coverRuleAt) 0))
+    (isZero (getD ws (from + longOnlyAt) 0))
 
 -- No rate a NaN, the count of an absent cap 0, marks and flags 0 or 1, and 0 where no setting stands. So no two runs of words hold the same settings.
 unfoldable pub areSettings : ℕ → List ℕ → Bool

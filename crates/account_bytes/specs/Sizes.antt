@@ -46,10 +46,10 @@ recordingAt = 10
 abbrev pub cashFirstAt : ℕ
 cashFirstAt = 11
 
--- three words that stand for no setting: 0
-abbrev pub ceilingAt : ℕ
-ceilingAt = 12
+abbrev pub maxCommissionAt : ℕ
+maxCommissionAt = 12
 
+-- two words that stand for no setting: 0
 abbrev pub coverRuleAt : ℕ
 coverRuleAt = 13
 

@@ -12,10 +12,10 @@ use crate::sizes::BAND_AT;
 use crate::sizes::CAP_COUNT_AT;
 use crate::sizes::CAP_MARK_AT;
 use crate::sizes::CASH_FIRST_AT;
-use crate::sizes::CEILING_AT;
 use crate::sizes::COMMISSION_AT;
 use crate::sizes::COVER_RULE_AT;
 use crate::sizes::LONG_ONLY_AT;
+use crate::sizes::MAX_COMMISSION_AT;
 use crate::sizes::MAX_NOTIONAL_AT;
 use crate::sizes::MAX_ORDER_AT;
 use crate::sizes::MIN_COMMISSION_AT;
@@ -132,10 +132,9 @@ fn spare_settings(bytes: &[u8], from: usize) -> bool
     requires { ⌜ from ≤ settingsFrom ⌝ }
     ensures { λ r. ⌜ r ≡ spareSettings from (wordsOf (now (bytes .entry))) ⌝ }
 {
-    let ceiling = is_zero(word_at(bytes, from + CEILING_AT));
     let cover_rule = is_zero(word_at(bytes, from + COVER_RULE_AT));
     let long_only = is_zero(word_at(bytes, from + LONG_ONLY_AT));
-    both(ceiling, both(cover_rule, long_only))
+    both(cover_rule, long_only)
 }
 
 // Whether the words from a place on are words of settings.
@@ -160,6 +159,7 @@ fn costs_at(bytes: &[u8], from: usize) -> CostModel
         commission_bps: rate_at(bytes, from + COMMISSION_AT),
         slippage_bps: rate_at(bytes, from + SLIPPAGE_AT),
         min_commission: number_at(bytes, from + MIN_COMMISSION_AT),
+        max_commission: number_at(bytes, from + MAX_COMMISSION_AT),
     }
 }
 
@@ -204,7 +204,7 @@ pub(crate) fn settings_words(s: Settings) -> [u64; SETTINGS_WORDS]
         unsigned(s.max_rebalance_notional),
         flag_word(s.recording),
         flag_word(s.cash_first),
-        0,
+        unsigned(m.max_commission),
         0,
         0,
     ]

@@ -28,9 +28,9 @@ pub const MAX_NOTIONAL_AT: usize = 9;
 pub const RECORDING_AT: usize = 10;
 
 pub const CASH_FIRST_AT: usize = 11;
-// Three words that stand for no setting: 0.
-pub const CEILING_AT: usize = 12;
 
+pub const MAX_COMMISSION_AT: usize = 12;
+// Two words that stand for no setting: 0.
 pub const COVER_RULE_AT: usize = 13;
 
 pub const LONG_ONLY_AT: usize = 14;

@@ -112,14 +112,24 @@ pub fn lowers_cash(quantity: Shares, price: i64, costs: CostModel) -> bool
     0 < cash_taken(quantity, paid, costs)
 }
 
-// A guess at the largest notional that cash pays for with its commission: by the rate or by the floor, whichever leaves less, and
-// one more or less where the rounding was against it.
+// What is left of cash after the ceiling, if there is one, where that is more than n.
+fn past_ceiling(n: i64, cash: i64, ceiling: i64) -> i64 {
+    if ceiling == 0 {
+        return n;
+    }
+    let capped = sums::saturating_sub(cash, ceiling);
+    if n < capped { capped } else { n }
+}
+
+// A guess at the largest notional that cash pays for with its commission: by the rate or by the floor, whichever leaves less, unless
+// the ceiling leaves more, and one more or less where the rounding was against it.
 fn guessed_notional(cash: i64, costs: CostModel) -> i64 {
     let flat = sums::saturating_sub(cash, costs.min_commission);
     let rated = doubles::to_i64(
         doubles::i64_to_f64(cash) / (1.0 + costs.commission_bps / 10_000.0),
     );
-    let n = if flat < rated { flat } else { rated };
+    let least = if flat < rated { flat } else { rated };
+    let n = past_ceiling(least, cash, costs.max_commission);
     let more = sums::saturating_add(n, 1);
     if sums::saturating_add(more, costs.compute_cost(more)) <= cash {
         return more;

@@ -22,8 +22,21 @@ add-number-at c = search needs
 number-at-requires : tie.Need-number-at-requires
 number-at-requires c κs = search needs
 
+add-number-at-2 : tie.Need-add-number-at-2
+add-number-at-2 c = search needs
+
+number-at-requires-2 : tie.Need-number-at-requires-2
+number-at-requires-2 c κs = search needs
+
 returns : tie.Need-returns
-returns c = simp (c .before .before .rate-at .ensures, c .before .rate-at2 .ensures, kept (record { sfits = c .number-at .ok }) (c .number-at .ensures))
+returns c =
+    let n = c .before in
+    simp (
+      n .before .before .rate-at .ensures,
+      n .before .rate-at2 .ensures,
+      kept (record { sfits = n .number-at .ok }) (n .number-at .ensures),
+      kept (record { sfits = c .number-at2 .ok }) (c .number-at2 .ensures),
+    )
 
 pub costs-at-spec : {M : Type 1} → statement M
 costs-at-spec =
@@ -35,4 +48,6 @@ costs-at-spec =
     rate-at-requires-2
     add-number-at
     number-at-requires
+    add-number-at-2
+    number-at-requires-2
     returns)

@@ -7,6 +7,24 @@ use borrow.Author.Needs.{needs}
 use Rattle.account_bytes.proofs.setting_words.settings_words.Statement.{statement}
 use Rattle.account_bytes.proofs.setting_words.settings_words.Tie as tie
 
+floor-fits : (s : tie.Start) → SFits w64 (costsOf (s .args .s) .«min_commission»)
+floor-fits s = search needs
+
+step-fits : (s : tie.Start) → SFits w64 (s .args .s .«quantity_step»)
+step-fits s = search needs
+
+lowest-fits : (s : tie.Start) → SFits w64 (s .args .s .«min_order_value»)
+lowest-fits s = search needs
+
+highest-fits : (s : tie.Start) → SFits w64 (s .args .s .«max_order_value»)
+highest-fits s = search needs
+
+notional-fits : (s : tie.Start) → SFits w64 (s .args .s .«max_rebalance_notional»)
+notional-fits s = search needs
+
+ceiling-fits : (s : tie.Start) → SFits w64 (costsOf (s .args .s) .«max_commission»)
+ceiling-fits s = search needs
+
 pattern-requires : tie.Need-pattern-requires
 pattern-requires c κs = search needs
 
@@ -43,28 +61,28 @@ flag-word-requires c κs = search needs
 flag-word-requires-2 : tie.Need-flag-word-requires-2
 flag-word-requires-2 c κs = search needs
 
+unsigned-requires-6 : tie.Need-unsigned-requires-6
+unsigned-requires-6 c κs = search needs
+
 returns : tie.Need-returns
 unfolding settingsWords
 returns c =
-    let a = c .before .before .before .before .before .before .before .before .before .before .before .before .before .before .before .before .before .before .args .s in
-    let f1 : SFits w64 (costsOf a .«min_commission») = search needs in
-    let f2 : SFits w64 (a .«quantity_step») = search needs in
-    let f3 : SFits w64 (a .«min_order_value») = search needs in
-    let f4 : SFits w64 (a .«max_order_value») = search needs in
-    let f5 : SFits w64 (a .«max_rebalance_notional») = search needs in
+    let z = c .before .before in
+    let s = z .before .before .before .before .before .before .before .before .before .before .before .before .before .before .before .before .before .before in
     simp (
-      c .before .before .before .before .before .before .before .before .before .before .before .before .before .before .before .before .pattern .ensures,
-      c .before .before .before .before .before .before .before .before .before .before .before .before .before .before .before .pattern2 .ensures,
-      stored f1 (c .before .before .before .before .before .before .before .before .before .before .before .before .before .unsigned .ensures),
-      stored f2 (c .before .before .before .before .before .before .before .before .before .before .before .unsigned2 .ensures),
-      stored f3 (c .before .before .before .before .before .before .before .before .before .unsigned3 .ensures),
-      stored f4 (c .before .before .before .before .before .before .before .unsigned4 .ensures),
-      c .before .before .before .before .before .before .pattern3 .ensures,
-      c .before .before .before .before .before .cap-mark .ensures,
-      c .before .before .before .before .cap-count .ensures,
-      stored f5 (c .before .before .unsigned5 .ensures),
-      c .before .flag-word .ensures,
-      c .flag-word2 .ensures,
+      z .before .before .before .before .before .before .before .before .before .before .before .before .before .before .before .before .pattern .ensures,
+      z .before .before .before .before .before .before .before .before .before .before .before .before .before .before .before .pattern2 .ensures,
+      stored (floor-fits s) (z .before .before .before .before .before .before .before .before .before .before .before .before .before .unsigned .ensures),
+      stored (step-fits s) (z .before .before .before .before .before .before .before .before .before .before .before .unsigned2 .ensures),
+      stored (lowest-fits s) (z .before .before .before .before .before .before .before .before .before .unsigned3 .ensures),
+      stored (highest-fits s) (z .before .before .before .before .before .before .before .unsigned4 .ensures),
+      z .before .before .before .before .before .before .pattern3 .ensures,
+      z .before .before .before .before .before .cap-mark .ensures,
+      z .before .before .before .before .cap-count .ensures,
+      stored (notional-fits s) (z .before .before .unsigned5 .ensures),
+      z .before .flag-word .ensures,
+      z .flag-word2 .ensures,
+      stored (ceiling-fits s) (c .unsigned6 .ensures),
     )
 
 pub settings-words-spec : {M : Type 1} → statement M
@@ -83,4 +101,5 @@ settings-words-spec =
     unsigned-requires-5
     flag-word-requires
     flag-word-requires-2
+    unsigned-requires-6
     returns)

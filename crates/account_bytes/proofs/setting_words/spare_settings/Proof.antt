@@ -21,20 +21,8 @@ word-at-requires-2 c κs = search needs
 is-zero-requires-2 : tie.Need-is-zero-requires-2
 is-zero-requires-2 c κs = search needs
 
-add-word-at-3 : tie.Need-add-word-at-3
-add-word-at-3 c = search needs
-
-word-at-requires-3 : tie.Need-word-at-requires-3
-word-at-requires-3 c κs = search needs
-
-is-zero-requires-3 : tie.Need-is-zero-requires-3
-is-zero-requires-3 c κs = search needs
-
 both-requires : tie.Need-both-requires
 both-requires c κs = search needs
-
-both-requires-2 : tie.Need-both-requires-2
-both-requires-2 c κs = search needs
 
 returns : tie.Need-returns
 returns c = cc
@@ -49,9 +37,5 @@ spare-settings-spec =
     add-word-at-2
     word-at-requires-2
     is-zero-requires-2
-    add-word-at-3
-    word-at-requires-3
-    is-zero-requires-3
     both-requires
-    both-requires-2
     returns)
