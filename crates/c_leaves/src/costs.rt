@@ -1,17 +1,24 @@
-// Commission and slippage: the two rates and the floor, one number each. Total as in the Rust, whatever the rates.
+// Commission and slippage: the two rates and the floor, one number each, and the ceiling where a leaf asks for one. Total as in the Rust,
+// whatever the rates. A leaf without a ceiling has none: 0.
 ghost use mathlib.Core.Path.{_≡_};
 ghost use Rattle.position.specs.Shares.{isPositive};
-ghost use Rattle.cost_model.specs.Costs.{model, cost, effective, goodCosts};
+ghost use Rattle.cost_model.specs.Costs.{model, withCeiling, cost, effective, goodCosts};
 use cost_model::CostModel;
 use position::Shares;
 
-pub(crate) fn costs_of(commission_bps: f64, slippage_bps: f64, min_commission: i64) -> CostModel
-    ensures { λ r. ⌜ r ≡ model «commission_bps» «slippage_bps» «min_commission» ⌝ }
+pub(crate) fn costs_of(
+    commission_bps: f64,
+    slippage_bps: f64,
+    min_commission: i64,
+    max_commission: i64,
+) -> CostModel
+    ensures { λ r. ⌜ r ≡ withCeiling «max_commission» (model «commission_bps» «slippage_bps» «min_commission») ⌝ }
 {
     CostModel {
         commission_bps,
         slippage_bps,
         min_commission,
+        max_commission,
     }
 }
 
@@ -20,7 +27,20 @@ pub(crate) fn costs_of(commission_bps: f64, slippage_bps: f64, min_commission: i
 pub extern "C" fn tc_good_costs(commission_bps: f64, slippage_bps: f64, min_commission: i64) -> bool
     ensures { λ r. ⌜ r ≡ goodCosts (model «commission_bps» «slippage_bps» «min_commission») ⌝ }
 {
-    let costs = costs_of(commission_bps, slippage_bps, min_commission);
+    tc_good_costs_with_ceiling(commission_bps, slippage_bps, min_commission, 0)
+}
+
+// "1 also when a non-zero ceiling is below `min_commission`"
+#[no_mangle]
+pub extern "C" fn tc_good_costs_with_ceiling(
+    commission_bps: f64,
+    slippage_bps: f64,
+    min_commission: i64,
+    max_commission: i64,
+) -> bool
+    ensures { λ r. ⌜ r ≡ goodCosts (withCeiling «max_commission» (model «commission_bps» «slippage_bps» «min_commission»)) ⌝ }
+{
+    let costs = costs_of(commission_bps, slippage_bps, min_commission, max_commission);
     costs.is_good()
 }
 
@@ -34,7 +54,21 @@ pub extern "C" fn tc_compute_cost(
 ) -> i64
     ensures { λ r. ⌜ r ≡ cost (model «commission_bps» «slippage_bps» «min_commission») notional ⌝ }
 {
-    let costs = costs_of(commission_bps, slippage_bps, min_commission);
+    tc_compute_cost_with_ceiling(commission_bps, slippage_bps, min_commission, 0, notional)
+}
+
+// "the lesser of today's commission and the ceiling", "0 meaning none"
+#[no_mangle]
+pub extern "C" fn tc_compute_cost_with_ceiling(
+    commission_bps: f64,
+    slippage_bps: f64,
+    min_commission: i64,
+    max_commission: i64,
+    notional: i64,
+) -> i64
+    ensures { λ r. ⌜ r ≡ cost (withCeiling «max_commission» (model «commission_bps» «slippage_bps» «min_commission»)) notional ⌝ }
+{
+    let costs = costs_of(commission_bps, slippage_bps, min_commission, max_commission);
     costs.compute_cost(notional)
 }
 
@@ -49,6 +83,6 @@ pub extern "C" fn tc_effective_price(
 ) -> i64
     ensures { λ r. ⌜ r ≡ effective (model «commission_bps» «slippage_bps» «min_commission») (isPositive quantity) price ⌝ }
 {
-    let costs = costs_of(commission_bps, slippage_bps, min_commission);
+    let costs = costs_of(commission_bps, slippage_bps, min_commission, 0);
     costs.effective_price(Shares::from_raw(quantity), price)
 }

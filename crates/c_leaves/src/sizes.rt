@@ -1,7 +1,7 @@
 // What an order may be: its notional, size, truncation and drift, and the cash that it needs.
 ghost use mathlib.Core.Path.{_≡_};
 ghost use Rattle.sums.specs.Sums.{notional};
-ghost use Rattle.cost_model.specs.Costs.{model};
+ghost use Rattle.cost_model.specs.Costs.{model, withCeiling};
 ghost use Rattle.sizing.specs.Sizing.{sized, cutTo, drift};
 ghost use Rattle.sizing.specs.Afford.{need, affordable};
 use crate::costs::costs_of;
@@ -54,7 +54,29 @@ pub extern "C" fn tc_buy_cash_required(
 ) -> i64
     ensures { λ r. ⌜ r ≡ need (model «commission_bps» «slippage_bps» «min_commission») quantity price ⌝ }
 {
-    let costs = costs_of(commission_bps, slippage_bps, min_commission);
+    tc_buy_cash_required_with_ceiling(
+        quantity,
+        price,
+        commission_bps,
+        slippage_bps,
+        min_commission,
+        0,
+    )
+}
+
+// The same under a ceiling.
+#[no_mangle]
+pub extern "C" fn tc_buy_cash_required_with_ceiling(
+    quantity: i64,
+    price: i64,
+    commission_bps: f64,
+    slippage_bps: f64,
+    min_commission: i64,
+    max_commission: i64,
+) -> i64
+    ensures { λ r. ⌜ r ≡ need (withCeiling «max_commission» (model «commission_bps» «slippage_bps» «min_commission»)) quantity price ⌝ }
+{
+    let costs = costs_of(commission_bps, slippage_bps, min_commission, max_commission);
     sizing::buy_cash_required(Shares::from_raw(quantity), price, costs)
 }
 
@@ -71,6 +93,32 @@ pub extern "C" fn tc_largest_affordable_buy_qty(
 ) -> i64
     ensures { λ r. ⌜ r ≡ affordable (model «commission_bps» «slippage_bps» «min_commission») step cash requested price ⌝ }
 {
-    let costs = costs_of(commission_bps, slippage_bps, min_commission);
+    tc_largest_affordable_buy_qty_with_ceiling(
+        requested,
+        cash,
+        step,
+        price,
+        commission_bps,
+        slippage_bps,
+        min_commission,
+        0,
+    )
+}
+
+// The same under a ceiling.
+#[no_mangle]
+pub extern "C" fn tc_largest_affordable_buy_qty_with_ceiling(
+    requested: i64,
+    cash: i64,
+    step: i64,
+    price: i64,
+    commission_bps: f64,
+    slippage_bps: f64,
+    min_commission: i64,
+    max_commission: i64,
+) -> i64
+    ensures { λ r. ⌜ r ≡ affordable (withCeiling «max_commission» (model «commission_bps» «slippage_bps» «min_commission»)) step cash requested price ⌝ }
+{
+    let costs = costs_of(commission_bps, slippage_bps, min_commission, max_commission);
     sizing::largest_affordable_buy_qty(Shares::from_raw(requested), cash, step, price, costs).raw()
 }

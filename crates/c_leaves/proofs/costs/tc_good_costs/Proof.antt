@@ -1,17 +1,14 @@
--- What `is_good` ensures, each signed number read back from its bits.
+-- What `tc_good_costs_with_ceiling` ensures at no ceiling, each signed number read back from its bits.
 use mathlib.Core.Path.{_∙_}
 use mir.Facts.{toZ-ofZ}
 use Rattle.c_leaves.proofs.costs.tc_good_costs.Statement.{statement}
 use Rattle.c_leaves.proofs.costs.tc_good_costs.Tie as tie
 
-costs-of-requires : tie.Need-costs-of-requires
-costs-of-requires c κs = tt
-
-is-good-requires : tie.Need-is-good-requires
-is-good-requires c κs = tt
+tc-good-costs-with-ceiling-requires : tie.Need-tc-good-costs-with-ceiling-requires
+tc-good-costs-with-ceiling-requires c κs = tt
 
 returns : tie.Need-returns
-returns c = c .is-good .ensures ∙ simp (c .before .costs-of .ensures, toZ-ofZ (c .before .before .fits .min-commission))
+returns c = c .tc-good-costs-with-ceiling .ensures ∙ simp (toZ-ofZ (c .before .fits .min-commission))
 
 pub tc-good-costs-spec : {M : Type 1} → statement M
-tc-good-costs-spec = tie.close (tie.spec costs-of-requires is-good-requires returns)
+tc-good-costs-spec = tie.close (tie.spec tc-good-costs-with-ceiling-requires returns)

@@ -1,26 +1,14 @@
--- What `largest_affordable_buy_qty` ensures, each signed number read back from its bits.
+-- What `tc_largest_affordable_buy_qty_with_ceiling` ensures at no ceiling, each signed number read back from its bits.
 use mathlib.Core.Path.{_∙_}
 use mir.Facts.{toZ-ofZ}
 use Rattle.c_leaves.proofs.sizes.tc_largest_affordable_buy_qty.Statement.{statement}
 use Rattle.c_leaves.proofs.sizes.tc_largest_affordable_buy_qty.Tie as tie
 
-costs-of-requires : tie.Need-costs-of-requires
-costs-of-requires c κs = tt
-
-from-raw-requires : tie.Need-from-raw-requires
-from-raw-requires c κs = tt
-
-largest-affordable-buy-qty-requires : tie.Need-largest-affordable-buy-qty-requires
-largest-affordable-buy-qty-requires c κs = tt
-
-raw-requires : tie.Need-raw-requires
-raw-requires c κs = tt
+tc-largest-affordable-buy-qty-with-ceiling-requires : tie.Need-tc-largest-affordable-buy-qty-with-ceiling-requires
+tc-largest-affordable-buy-qty-with-ceiling-requires c κs = tt
 
 returns : tie.Need-returns
-returns c =
-    let q = c .before .before in
-    let s = q .before .before in
-    toZ-ofZ (record { sfits = c .raw .ok }) ∙ c .raw .ensures ∙ simp (c .before .largest-affordable-buy-qty .ensures, q .from-raw .ensures, q .before .costs-of .ensures, toZ-ofZ (s .fits .min-commission), toZ-ofZ (s .fits .requested), toZ-ofZ (s .fits .cash), toZ-ofZ (s .fits .step), toZ-ofZ (s .fits .price))
+returns c = toZ-ofZ (record { sfits = c .tc-largest-affordable-buy-qty-with-ceiling .ok }) ∙ c .tc-largest-affordable-buy-qty-with-ceiling .ensures ∙ simp (toZ-ofZ (c .before .fits .requested), toZ-ofZ (c .before .fits .cash), toZ-ofZ (c .before .fits .step), toZ-ofZ (c .before .fits .price), toZ-ofZ (c .before .fits .min-commission))
 
 pub tc-largest-affordable-buy-qty-spec : {M : Type 1} → statement M
-tc-largest-affordable-buy-qty-spec = tie.close (tie.spec costs-of-requires from-raw-requires largest-affordable-buy-qty-requires raw-requires returns)
+tc-largest-affordable-buy-qty-spec = tie.close (tie.spec tc-largest-affordable-buy-qty-with-ceiling-requires returns)
