@@ -2,7 +2,7 @@
 ghost use mathlib.Core.Path.{_≡_};
 ghost use Prim.Native.Nat.{_≤_};
 ghost use lib.ListN.{length};
-ghost use Rattle.cost_model.specs.Costs.{model};
+ghost use Rattle.cost_model.specs.Costs.{model, withCeiling};
 ghost use Rattle.table.specs.Rows.{cols, counted};
 ghost use Rattle.fills.specs.Records.{allWords, allInts, fronted};
 ghost use Rattle.fills.specs.Inner.Runs.{recordsOf};
@@ -33,35 +33,6 @@ struct Ask {
 struct Seen {
     filled: Filled,
     position: Position,
-}
-
-fn asked(
-    commission_bps: f64,
-    slippage_bps: f64,
-    min_commission: i64,
-    quantity_step: i64,
-    period: u64,
-    kind: u64,
-    symbol: u64,
-    quantity: i64,
-    price: i64,
-) -> Ask
-    ensures { λ r. ⌜ r ≡ asked (model «commission_bps» «slippage_bps» «min_commission») «quantity_step» period kind symbol quantity price ⌝ }
-{
-    let costs = CostModel {
-        commission_bps,
-        slippage_bps,
-        min_commission,
-    };
-    Ask {
-        costs,
-        quantity_step,
-        period,
-        kind,
-        symbol,
-        quantity,
-        price,
-    }
 }
 
 fn terms_of(a: Ask) -> Terms
@@ -279,6 +250,37 @@ fn counting(f: Filled) -> u64
     if f.recorded { 256 } else { 0 }
 }
 
+// Into the lent places, which a refusal leaves as found.
+fn fill_asked(
+    a: Ask,
+    money: &mut [i64],
+    tallies: &mut [u64],
+    words: &mut [u64],
+    ints: &mut [i64],
+) -> u64
+    ensures { λ r. ⌜ told r (slots (now (money .exit)) (now (tallies .exit)) (now (words .exit)) (now (ints .exit)))
+        ≡ fillOne a (slots (now (money .entry)) (now (tallies .entry)) (now (words .entry)) (now (ints .entry))) ⌝ }
+{
+    if money.len() != 6 {
+        return 11;
+    }
+    if tallies.len() != 2 {
+        return 11;
+    }
+    let b = book_of(money, tallies);
+    let p = position_in(a.symbol, money);
+    let answer = refusal(a, b.cash, p, words.len(), ints.len());
+    let number = answer::number(answer);
+    if number != 0 {
+        return number;
+    }
+    let seen = fill_alone(a, b, p);
+    put_money(money, seen.filled.book, seen.position);
+    put_tallies(tallies, seen.filled.book);
+    keep(words, ints, seen.filled);
+    counting(seen.filled)
+}
+
 // The settings of a fill as numbers, the order, and the lent places: cash, shortfall and the position's quantity, average, realized profit and total cost;
 // the counts of trimmed fills and of records; and room for one record or more, as four words and eight numbers. A refusal leaves all as found.
 // The answer's number, and 256 times the count of records that were written.
@@ -302,33 +304,60 @@ pub extern "C" fn tc_fill(
         ≡ fillOne (asked (model «commission_bps» «slippage_bps» «min_commission») «quantity_step» period kind symbol quantity price)
         (slots (now (money .entry)) (now (tallies .entry)) (now (words .entry)) (now (ints .entry))) ⌝ }
 {
-    if money.len() != 6 {
-        return 11;
-    }
-    if tallies.len() != 2 {
-        return 11;
-    }
-    let a = asked(
+    tc_fill_with_ceiling(
         commission_bps,
         slippage_bps,
         min_commission,
+        0,
         quantity_step,
         period,
         kind,
         symbol,
         quantity,
         price,
-    );
-    let b = book_of(money, tallies);
-    let p = position_in(symbol, money);
-    let answer = refusal(a, b.cash, p, words.len(), ints.len());
-    let number = answer::number(answer);
-    if number != 0 {
-        return number;
-    }
-    let seen = fill_alone(a, b, p);
-    put_money(money, seen.filled.book, seen.position);
-    put_tallies(tallies, seen.filled.book);
-    keep(words, ints, seen.filled);
-    counting(seen.filled)
+        money,
+        tallies,
+        words,
+        ints,
+    )
+}
+
+// The same under a ceiling, 0 for none.
+#[no_mangle]
+pub extern "C" fn tc_fill_with_ceiling(
+    commission_bps: f64,
+    slippage_bps: f64,
+    min_commission: i64,
+    max_commission: i64,
+    quantity_step: i64,
+    period: u64,
+    kind: u64,
+    symbol: u64,
+    quantity: i64,
+    price: i64,
+    money: &mut [i64],
+    tallies: &mut [u64],
+    words: &mut [u64],
+    ints: &mut [i64],
+) -> u64
+    ensures { λ r. ⌜ told r (slots (now (money .exit)) (now (tallies .exit)) (now (words .exit)) (now (ints .exit)))
+        ≡ fillOne (asked (withCeiling «max_commission» (model «commission_bps» «slippage_bps» «min_commission»)) «quantity_step» period kind symbol quantity price)
+        (slots (now (money .entry)) (now (tallies .entry)) (now (words .entry)) (now (ints .entry))) ⌝ }
+{
+    let costs = CostModel {
+        commission_bps,
+        slippage_bps,
+        min_commission,
+        max_commission,
+    };
+    let a = Ask {
+        costs,
+        quantity_step,
+        period,
+        kind,
+        symbol,
+        quantity,
+        price,
+    };
+    fill_asked(a, money, tallies, words, ints)
 }
