@@ -6,14 +6,15 @@ use Rattle.sums.specs.Sums.{clamp64, satAdd, satSub, satNeg, satAbs, value, not
 use Rattle.doubles.specs.Doubles.{roundAway}
 use Rattle.position.specs.Shares.{isZero}
 use Rattle.position.specs.Symbols.{bytesFrom, leading, zeros, padded, goodSymbol}
-use Rattle.position.specs.Fills.{soundNumbers, sound, applied, sameSide, closedBy, gain, realizedBy, closed, reduced}
-use Rattle.cost_model.specs.Costs.{cost, commission, atLeast, slippageFactor, slipped, effective, goodRate, goodCosts}
-use Rattle.sizing.specs.Sizing.{drift}
+use Rattle.position.specs.Fills.{soundNumbers, sound, applied, sameSide, entered, closedBy, gain, realizedBy, closed, reduced}
+use Rattle.cost_model.specs.Costs.{cost, commission, atLeast, uncapped, atMost, slippageFactor, slipped, effective, goodRate, goodCeiling, goodCosts}
+use Rattle.sizing.specs.Sizing.{above, drift}
+use Rattle.sizing.specs.Afford.{need, fits, largest, affordable}
 use Rattle.sizing.specs.Cash.{cashTaken, cashChange}
 use Rattle.table.specs.Rows.{zipped, unused, ordered}
 use Rattle.fills.specs.Orders.{paid}
 use Rattle.fills.specs.Records.{recordOf}
-use Rattle.fills.specs.Fill.{fillsWhole, made, settled, fill, fillAll}
+use Rattle.fills.specs.Fill.{fillsWhole, made, counted, settled, trimmedFill, fill, fillAll}
 use Rattle.account.specs.Settings.{goodRules, goodSettings}
 use Rattle.account.specs.Account.{soundAccount, soundScalars, soundColumns, soundPlaces, tableOf}
 use Rattle.call_lists.specs.Lists.{among, allGood, distinct, allFinite, allPriced, priceOf}
@@ -29,5 +30,5 @@ use Rattle.cases.specs.Rows.{allRight}
 use Rattle.cases.specs.Requests.{requests}
 
 pub requests-hold : allRight requests ≡ true
-unfolding rebalanced afterRebalance afterPlan accountAfter admittedPlan rebalanceAnswer hasRoom notHeld soundAccount soundScalars soundColumns soundPlaces tableOf goodRules goodSettings goodCosts goodRate zipped unused ordered goodSymbol bytesFrom leading zeros padded soundNumbers sound shortEnough listsAnswer among allGood distinct allFinite allPriced priceOf worthFrom equityOf planOf wanted closings closing plannedClose Plan.ordered withinBand underMaximum limited targetings drift capped insertBy added addedAll admittedFrom admitted inRunningOrder cashFirst parted sortedWith cashChange cashTaken notionalFrom fillAll fill fillsWhole settled made recordOf paid applied sameSide closedBy gain realizedBy closed reduced isZero cost commission atLeast effective slipped slippageFactor value notional clamp64 satAdd satSub satNeg satAbs roundAway add mul div lt le ofInt toSigned
+unfolding rebalanced afterRebalance afterPlan accountAfter admittedPlan rebalanceAnswer hasRoom notHeld soundAccount soundScalars soundColumns soundPlaces tableOf goodRules goodSettings goodCeiling goodCosts goodRate zipped unused ordered goodSymbol bytesFrom leading zeros padded soundNumbers sound shortEnough listsAnswer among allGood distinct allFinite allPriced priceOf worthFrom equityOf planOf wanted closings closing plannedClose Plan.ordered withinBand underMaximum limited targetings drift capped insertBy added addedAll admittedFrom admitted inRunningOrder cashFirst parted sortedWith cashChange cashTaken notionalFrom fillAll fill fillsWhole settled counted trimmedFill need fits largest affordable above made recordOf paid applied sameSide entered closedBy gain realizedBy closed reduced isZero cost commission atLeast uncapped atMost effective slipped slippageFactor value notional clamp64 satAdd satSub satNeg satAbs roundAway add mul div lt le ofInt toSigned
 requests-hold = refl

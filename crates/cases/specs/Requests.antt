@@ -3,11 +3,11 @@ use Prim.Native.Nat.{ℕ}
 use mathlib.Core.Bool.{Bool, true, false}
 use mathlib.Core.List.{List, [], _∷_, _++_, map}
 use lib.IntN.{ℤ, pos, negsuc}
-use lib.Ieee.{nan}
+use lib.Ieee.{nan, fin}
 use Rattle.answer.specs.Numbers.{numberOf}
 use Rattle.position.specs.Rows.{row, held}
 use Rattle.cost_model.specs.declared.CostModel.{CostModel}
-use Rattle.cost_model.specs.Costs.{model, zero, free}
+use Rattle.cost_model.specs.Costs.{model, withCeiling, zero, free, cost, goodCosts}
 use Rattle.fills.specs.declared.record.ExecutionKind.the-variants.{Rebalance}
 use Rattle.account.specs.declared.account.Account.{Account}
 use Rattle.account.specs.Settings.{ofCosts, openingSettings, withRecording, withCashFirst}
@@ -18,7 +18,9 @@ use Rattle.wanted.specs.Plan.{planned}
 use Rattle.admission.specs.Running.{cashFirst}
 use Rattle.portfolio.specs.Rebalance.{Outcome, rebalanced}
 use Rattle.cases.specs.Rows.{Row, says}
-use Rattle.cases.specs.Table.{whole}
+use Rattle.fills.specs.Fill.{fill}
+use Rattle.cases.specs.Table as Table
+use Rattle.cases.specs.Table.{whole, oneIf, tenBps, termsAt, cashOnly, amount, outcome}
 
 -- ---- 1, cash-first order
 -- the symbols "A" and "B"
@@ -73,5 +75,42 @@ abbrev pub case-1-sale-for-0 : Row
 case-1-sale-for-0 =
     says (runOf floor15 (order 1 (whole (negsuc 0)) (pos 14) ∷ order 2 (whole (negsuc 0)) (pos 15) ∷ order 3 (whole (negsuc 0)) (pos 16) ∷ [])) (pos 2 ∷ pos 3 ∷ pos 1 ∷ [])
 
+-- ---- 3, a commission ceiling
+-- a ceiling equal to the floor is a flat fee: case b's costs, "10 bps, minimum 100", under a ceiling of 100
+abbrev pub case-3-flat : Row
+case-3-flat = says (cost (withCeiling (pos 100) tenBps) (pos 1000000) ∷ cost (withCeiling (pos 100) tenBps) (pos 10000) ∷ []) (pos 100 ∷ pos 100 ∷ [])
+
+-- 100 shares at 1,000 with cash 100,050 and 10 bps: the commission of 100 lets 99 of them fit, and a ceiling of 50 all of them
+abbrev pub boughtUnder : ℤ → List ℤ
+boughtUnder ceiling =
+    outcome
+    (fill (termsAt (withCeiling ceiling (model (fin false 5 (pos 1)) zero (pos 0))) (whole (pos 1))) (Table.order 1 (whole (pos 100)) (pos 1000)) (cashOnly (pos 100050)))
+
+abbrev pub case-3-trimmed : Row
+case-3-trimmed = says (boughtUnder (pos 0)) (whole (pos 99) ∷ pos 1 ∷ pos 1000 ∷ pos 951 ∷ [])
+
+abbrev pub case-3-whole : Row
+case-3-whole = says (boughtUnder (pos 50)) (whole (pos 100) ∷ pos 0 ∷ pos 0 ∷ pos 0 ∷ [])
+
+-- one share sold at 20 with cash 5 and 20,000 bps: the commission of 40 would take cash below 0, and a ceiling of 25 takes it to 0
+abbrev pub soldUnder : ℤ → List ℤ
+soldUnder ceiling =
+    outcome (fill (termsAt (withCeiling ceiling (model (fin false 625 (pos 5)) zero (pos 0))) (whole (pos 1))) (Table.order 1 (whole (negsuc 0)) (pos 20)) (cashOnly (pos 5)))
+
+abbrev pub case-3-skipped : Row
+case-3-skipped = says (soldUnder (pos 0)) (pos 0 ∷ pos 0 ∷ pos 0 ∷ pos 5 ∷ [])
+
+abbrev pub case-3-sold : Row
+case-3-sold = says (soldUnder (pos 25)) (whole (negsuc 0) ∷ pos 0 ∷ pos 0 ∷ pos 0 ∷ [])
+
+-- "1 also when a non-zero ceiling is below `min_commission`": of 0, 99, 100 and -1 beside a floor of 100
+abbrev pub goodUnder : ℤ → ℤ
+goodUnder ceiling = oneIf (goodCosts (withCeiling ceiling tenBps))
+
+abbrev pub case-3-good : Row
+case-3-good = says (goodUnder (pos 0) ∷ goodUnder (pos 99) ∷ goodUnder (pos 100) ∷ goodUnder (negsuc 0) ∷ []) (pos 1 ∷ pos 0 ∷ pos 1 ∷ pos 0 ∷ [])
+
 abbrev pub requests : List Row
-requests = case-1 ∷ case-1-as-planned ∷ case-1-buy-of-0 ∷ case-1-sale-for-0 ∷ []
+requests =
+    case-1 ∷ case-1-as-planned ∷ case-1-buy-of-0 ∷ case-1-sale-for-0
+    ∷ case-3-flat ∷ case-3-trimmed ∷ case-3-whole ∷ case-3-skipped ∷ case-3-sold ∷ case-3-good ∷ []

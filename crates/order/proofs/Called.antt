@@ -11,7 +11,7 @@ use Rattle.position.specs.Shares.{isZero}
 use Rattle.position.specs.Rows.{row}
 use Rattle.position.specs.Symbols.{bytesFrom, leading, zeros, padded, goodSymbol}
 use Rattle.position.specs.Fills.{soundNumbers, sound, applied, sameSide, closedBy, gain, realizedBy, closed, reduced}
-use Rattle.cost_model.specs.Costs.{model, zero, cost, commission, atLeast, slippageFactor, slipped, effective, goodRate, goodCosts}
+use Rattle.cost_model.specs.Costs.{model, zero, cost, commission, atLeast, uncapped, atMost, slippageFactor, slipped, effective, goodRate, goodCeiling, goodCosts}
 use Rattle.sizing.specs.Sizing.{above, drift}
 use Rattle.sizing.specs.Cash.{cashTaken, cashChange}
 use Rattle.table.specs.Rows.{zipped, unused, ordered}
@@ -63,7 +63,7 @@ case = record {
 }
 
 pub asked : InCashFirst case
-unfolding total cashRaised above admittedPlan rebalanceAnswer hasRoom notHeld soundAccount soundScalars soundColumns soundPlaces tableOf goodRules goodSettings goodCosts goodRate zipped unused ordered goodSymbol bytesFrom leading zeros padded soundNumbers sound shortEnough listsAnswer among allGood distinct allFinite allPriced priceOf worthFrom equityOf planOf wanted closings closing plannedClose Plan.ordered withinBand underMaximum limited targetings drift capped insertBy added addedAll admittedFrom admitted cashChange cashTaken cost commission atLeast effective slipped slippageFactor value notional clamp64 satAdd satSub satNeg satAbs roundAway add mul div lt le ofInt toSigned isZero
+unfolding total cashRaised above admittedPlan rebalanceAnswer hasRoom notHeld soundAccount soundScalars soundColumns soundPlaces tableOf goodRules goodSettings goodCeiling goodCosts goodRate zipped unused ordered goodSymbol bytesFrom leading zeros padded soundNumbers sound shortEnough listsAnswer among allGood distinct allFinite allPriced priceOf worthFrom equityOf planOf wanted closings closing plannedClose Plan.ordered withinBand underMaximum limited targetings drift capped insertBy added addedAll admittedFrom admitted cashChange cashTaken cost commission atLeast uncapped atMost effective slipped slippageFactor value notional clamp64 satAdd satSub satNeg satAbs roundAway add mul div lt le ofInt toSigned isZero
 asked = record {
   columns = record { symbol = refl; quantity = refl; average = refl; realized = refl; total = refl };
   mode = refl;
@@ -72,9 +72,9 @@ asked = record {
 }
 
 pub b-then-a : FillsAll case (sell B (pos 25) ∷ sell A (pos 10) ∷ [])
-unfolding allWhole admittedPlan tableOf zipped listsAnswer among priceOf worthFrom equityOf planOf wanted closings closing plannedClose Plan.ordered withinBand underMaximum limited targetings drift capped insertBy added addedAll admittedFrom admitted cashTaken fill fillsWhole settled made recordOf paid applied sameSide closedBy gain realizedBy closed reduced isZero cost commission atLeast effective slipped slippageFactor value notional clamp64 satAdd satSub satNeg satAbs roundAway add mul div lt le ofInt toSigned
+unfolding allWhole admittedPlan tableOf zipped listsAnswer among priceOf worthFrom equityOf planOf wanted closings closing plannedClose Plan.ordered withinBand underMaximum limited targetings drift capped insertBy added addedAll admittedFrom admitted cashTaken fill fillsWhole settled made recordOf paid applied sameSide closedBy gain realizedBy closed reduced isZero cost commission atLeast uncapped atMost effective slipped slippageFactor value notional clamp64 satAdd satSub satNeg satAbs roundAway add mul div lt le ofInt toSigned
 b-then-a = record { runs = swap; whole = refl }
 
 pub ends-at-5 : left case .cash ≡ pos 5
-unfolding fillAll tableOf zipped fill fillsWhole settled made recordOf paid applied sameSide closedBy gain realizedBy closed reduced isZero cashTaken cost commission atLeast effective slipped slippageFactor value notional clamp64 satAdd satSub satNeg satAbs roundAway add mul div lt le ofInt toSigned
+unfolding fillAll tableOf zipped fill fillsWhole settled made recordOf paid applied sameSide closedBy gain realizedBy closed reduced isZero cashTaken cost commission atLeast uncapped atMost effective slipped slippageFactor value notional clamp64 satAdd satSub satNeg satAbs roundAway add mul div lt le ofInt toSigned
 ends-at-5 = carries-demand-3 case asked .leaves _ b-then-a .cash

@@ -11,7 +11,7 @@ use Rattle.sums.specs.Sums.{clamp64, satAdd, satSub, satAbs, value, notional, p
 use Rattle.doubles.specs.Doubles.{roundAway}
 use Rattle.position.specs.Shares.{isZero}
 use Rattle.position.specs.Fills.{applied, sameSide, entered, averaged, grown, closedBy, gain, realizedBy, closedCost, closed, partlyClosed, reduced}
-use Rattle.cost_model.specs.Costs.{cost, commission, atLeast, effective, slipped, slippageFactor, goodCosts, goodRate}
+use Rattle.cost_model.specs.Costs.{cost, commission, atLeast, uncapped, atMost, effective, slipped, slippageFactor, goodCeiling, goodCosts, goodRate}
 use Rattle.sizing.specs.Sizing.{above}
 use Rattle.sizing.specs.Afford.{need, fits, largest, affordable}
 use Rattle.sizing.specs.Cash.{cashTaken, cashChange}
@@ -44,7 +44,7 @@ pub record Evaluated : Type 0 where
   buy-first-at-100 : AllWhole free buyFirst (opened (pos 100))
 
 pub evaluated : Evaluated
-unfolding total cashRaised cashChange allWhole fillAll fill fillsWhole settled trimmedFill counted made cashTaken paid need fits largest affordable above goodCosts goodRate effective slipped slippageFactor cost commission atLeast applied sameSide entered averaged grown closedBy gain realizedBy closedCost closed partlyClosed reduced isZero value notional priceAt clamp64 satAdd satSub satAbs roundAway add mul div le ofInt toSigned
+unfolding total cashRaised cashChange allWhole fillAll fill fillsWhole settled trimmedFill counted made cashTaken paid need fits largest affordable above goodCeiling goodCosts goodRate effective slipped slippageFactor cost commission atLeast uncapped atMost applied sameSide entered averaged grown closedBy gain realizedBy closedCost closed partlyClosed reduced isZero value notional priceAt clamp64 satAdd satSub satAbs roundAway add mul div le ofInt toSigned
 evaluated = record {
   runs-come-out = refl;
   small-sale-lowers-cash = refl;

@@ -7,11 +7,13 @@ use crate::row::same_int;
 use crate::row::shares;
 use cost_model::CostModel;
 
+// The Rust has no ceiling.
 pub(crate) fn costs_of(commission_bps: u64, slippage_bps: u64, min_commission: u64) -> CostModel {
     CostModel {
         commission_bps: float(commission_bps),
         slippage_bps: float(slippage_bps),
         min_commission: int(min_commission),
+        max_commission: 0,
     }
 }
 

@@ -25,6 +25,7 @@ fn opened(r: Row, equity: &mut [i64]) -> Changed {
         commission_bps: float(head(r, 3)),
         slippage_bps: float(head(r, 4)),
         min_commission: signed(head(r, 5)),
+        max_commission: 0,
     };
     if head(r, 13) == 0 {
         let mut none = [0i64; 0];

@@ -43,6 +43,7 @@ fn costs_of(told: &[u8]) -> CostModel {
         commission_bps: rate(told, 1),
         slippage_bps: rate(told, 2),
         min_commission: number(told, 3),
+        max_commission: 0,
     }
 }
 
