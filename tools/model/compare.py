@@ -39,7 +39,7 @@ def held(symbol, p):
 
 def settings_line(s):
     c = s.costs
-    costs = f"{digits(c.commission_bps)} {digits(c.slippage_bps)} {c.min_commission}"
+    costs = f"{digits(c.commission_bps)} {digits(c.slippage_bps)} {c.min_commission} {c.max_commission}"
     limits = f"{s.quantity_step} {s.min_order_value} {s.max_order_value} {digits(s.no_trade_band_bps)}"
     cap = "none" if s.max_trades_per_rebalance is None else s.max_trades_per_rebalance
     return f"settings {costs} {limits} {cap} {s.max_rebalance_notional} {int(s.recording)} {int(s.cash_first)}"
@@ -77,8 +77,8 @@ def call(account, line):
     verb, *words = line.split(" ")
     words = [word for word in words if word]
     if verb == "open":
-        costs = Costs(double(words[1]), double(words[2]), int(words[3]))
-        answer, account = model.opened(int(words[0]), costs, int(words[4]))
+        costs = Costs(double(words[1]), double(words[2]), int(words[3]), int(words[4]))
+        answer, account = model.opened(int(words[0]), costs, int(words[5]))
         return account, [f"answer {answer}"]
     if verb == "set":
         answer, account = model.with_setting(account, **{words[0]: setting(*words)})
