@@ -13,6 +13,8 @@ pub enum Kind {
     Flag,
     /// 0 or 1, of the count that is the next word: beside the mark 0 that is 0.
     Mark,
+    /// 0, or a signed number from the one of another row on, the floor, which has this place in its table.
+    Ceiling(usize),
     /// Must be 0.
     Reserved,
 }
@@ -53,7 +55,7 @@ words! {
     MaxRebalanceNotional Amount(0);
     Recording Flag;
     CashFirst Flag;
-    Ceiling Reserved;
+    MaxCommission Ceiling(Setting::MinCommission as usize);
     CoverRule Reserved;
     LongOnly Reserved;
 }

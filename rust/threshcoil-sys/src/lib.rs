@@ -4,7 +4,9 @@
 
 mod accounts;
 pub mod layout;
+mod lent;
 pub use accounts::*;
+pub use lent::*;
 
 unsafe extern "C" {
     pub safe fn tc_mul_high(a: u64, b: u64) -> u64;
@@ -42,6 +44,20 @@ unsafe extern "C" {
         price: i64,
     ) -> i64;
 
+    pub safe fn tc_good_costs_with_ceiling(
+        commission_bps: f64,
+        slippage_bps: f64,
+        min_commission: i64,
+        max_commission: i64,
+    ) -> bool;
+    pub safe fn tc_compute_cost_with_ceiling(
+        commission_bps: f64,
+        slippage_bps: f64,
+        min_commission: i64,
+        max_commission: i64,
+        notional: i64,
+    ) -> i64;
+
     pub safe fn tc_good_symbol(symbol: u64) -> bool;
     pub safe fn tc_sound_position(symbol: u64, quantity: i64, average: i64, realized: i64, total: i64) -> bool;
     pub safe fn tc_market_value(symbol: u64, quantity: i64, average: i64, realized: i64, total: i64, price: i64)
@@ -75,104 +91,22 @@ unsafe extern "C" {
         slippage_bps: f64,
         min_commission: i64,
     ) -> i64;
-}
-
-mod lent {
-    unsafe extern "C" {
-        pub fn tc_apply_fill(symbol: u64, numbers: *mut i64, count: usize, quantity: i64, price: i64) -> u64;
-        pub fn tc_figures(
-            returns: *const f64,
-            count: usize,
-            rates: *mut f64,
-            rate_count: usize,
-            counts: *mut u64,
-            count_count: usize,
-        ) -> u64;
-        pub fn tc_fill(
-            commission_bps: f64,
-            slippage_bps: f64,
-            min_commission: i64,
-            quantity_step: i64,
-            period: u64,
-            kind: u64,
-            symbol: u64,
-            quantity: i64,
-            price: i64,
-            money: *mut i64,
-            money_count: usize,
-            tallies: *mut u64,
-            tally_count: usize,
-            words: *mut u64,
-            word_count: usize,
-            ints: *mut i64,
-            int_count: usize,
-        ) -> u64;
-    }
-}
-
-/// A fill on a position whose quantity, average, realized profit and total cost are the four numbers, before and after.
-/// The answer is document 01's number; a refusal leaves the numbers as found.
-pub fn tc_apply_fill(symbol: u64, numbers: &mut [i64], quantity: i64, price: i64) -> u64 {
-    // SAFETY: the pointer and the count are the slice's, and it is lent for the call alone.
-    unsafe { lent::tc_apply_fill(symbol, numbers.as_mut_ptr(), numbers.len(), quantity, price) }
-}
-
-/// The figures of a return series: six rates (total return, maximum drawdown, win rate, profit factor, payoff ratio,
-/// Kelly) and three counts (all, winning and losing returns). A refusal leaves both as found.
-pub fn tc_figures(returns: &[f64], rates: &mut [f64], counts: &mut [u64]) -> u64 {
-    // SAFETY: each pointer and count are a slice's, and no two of the slices overlap.
-    unsafe {
-        lent::tc_figures(
-            returns.as_ptr(),
-            returns.len(),
-            rates.as_mut_ptr(),
-            rates.len(),
-            counts.as_mut_ptr(),
-            counts.len(),
-        )
-    }
-}
-
-/// One fill as an account of at most one position makes it. The money is cash, shortfall and the position's quantity,
-/// average, realized profit and total cost; the tallies are the counts of trimmed fills and of records, before and after;
-/// a record takes four words and eight numbers. What is returned is document 01's number, and 256 times the count of records
-/// that were written, 0 or 1; a refusal leaves all as found.
-#[allow(clippy::too_many_arguments)]
-pub fn tc_fill(
-    commission_bps: f64,
-    slippage_bps: f64,
-    min_commission: i64,
-    quantity_step: i64,
-    period: u64,
-    kind: u64,
-    symbol: u64,
-    quantity: i64,
-    price: i64,
-    money: &mut [i64],
-    tallies: &mut [u64],
-    words: &mut [u64],
-    ints: &mut [i64],
-) -> u64 {
-    // SAFETY: each pointer and count are a slice's, and no two of the slices overlap.
-    unsafe {
-        lent::tc_fill(
-            commission_bps,
-            slippage_bps,
-            min_commission,
-            quantity_step,
-            period,
-            kind,
-            symbol,
-            quantity,
-            price,
-            money.as_mut_ptr(),
-            money.len(),
-            tallies.as_mut_ptr(),
-            tallies.len(),
-            words.as_mut_ptr(),
-            words.len(),
-            ints.as_mut_ptr(),
-            ints.len(),
-        )
-    }
+    pub safe fn tc_buy_cash_required_with_ceiling(
+        quantity: i64,
+        price: i64,
+        commission_bps: f64,
+        slippage_bps: f64,
+        min_commission: i64,
+        max_commission: i64,
+    ) -> i64;
+    pub safe fn tc_largest_affordable_buy_qty_with_ceiling(
+        requested: i64,
+        cash: i64,
+        step: i64,
+        price: i64,
+        commission_bps: f64,
+        slippage_bps: f64,
+        min_commission: i64,
+        max_commission: i64,
+    ) -> i64;
 }

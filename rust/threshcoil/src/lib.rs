@@ -11,7 +11,7 @@
 //! use threshcoil::{Account, Context, CostModel, ExecutionKind, ExecutionRecord, Price, Settings, Symbol, Target};
 //!
 //! # fn main() -> Result<(), threshcoil::Refusal> {
-//! let costs = CostModel { commission_bps: 10.0, slippage_bps: 0.0, min_commission: 100 };
+//! let costs = CostModel { commission_bps: 10.0, slippage_bps: 0.0, min_commission: 100, max_commission: 0 };
 //! let (mut equity, mut returns) = ([0; 16], [0.0; 16]);
 //! let mut account = Account::open(1_000_000, &Settings { recording: true, ..Settings::new(costs) }, &mut equity)?;
 //!

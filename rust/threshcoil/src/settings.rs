@@ -13,6 +13,8 @@ pub struct CostModel {
     pub slippage_bps: f64,
     /// The least commission of a fill, at least 0.
     pub min_commission: i64,
+    /// The most commission of a fill, at least the least one; 0 is none.
+    pub max_commission: i64,
 }
 
 /// All settings of an account. The costs are fixed at opening; the others have setters.
@@ -74,6 +76,7 @@ impl Settings {
             (Setting::MaxRebalanceNotional, self.max_rebalance_notional.to_le_bytes()),
             (Setting::Recording, u64::from(self.recording).to_le_bytes()),
             (Setting::CashFirst, u64::from(self.cash_first).to_le_bytes()),
+            (Setting::MaxCommission, costs.max_commission.to_le_bytes()),
         ] {
             bytes::put(&mut bytes, setting as usize, word);
         }
@@ -86,8 +89,9 @@ impl Settings {
         let amount = |setting| i64::from_le_bytes(word(setting));
         let count = |setting| u64::from_le_bytes(word(setting));
         let [commission_bps, slippage_bps] = [Setting::CommissionBps, Setting::SlippageBps].map(rate);
+        let [min_commission, max_commission] = [Setting::MinCommission, Setting::MaxCommission].map(amount);
         Settings {
-            cost_model: CostModel { commission_bps, slippage_bps, min_commission: amount(Setting::MinCommission) },
+            cost_model: CostModel { commission_bps, slippage_bps, min_commission, max_commission },
             quantity_step: amount(Setting::QuantityStep),
             min_order_value: amount(Setting::MinOrderValue),
             max_order_value: amount(Setting::MaxOrderValue),
