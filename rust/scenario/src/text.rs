@@ -100,7 +100,7 @@ fn settings(s: &Settings) -> String {
 }
 
 fn costs(c: &Costs) -> String {
-    format!("{} {} {}", bits(c.commission_bps), bits(c.slippage_bps), c.min_commission)
+    format!("{} {} {} {}", bits(c.commission_bps), bits(c.slippage_bps), c.min_commission, c.max_commission)
 }
 
 fn held(p: &Held) -> String {
