@@ -9,7 +9,7 @@ mod generate;
 mod plan;
 mod random;
 mod spoil;
-mod text;
+pub mod text;
 
 pub use cash_first::cash_first;
 pub use ceiling::ceiling;
