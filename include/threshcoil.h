@@ -22,7 +22,8 @@ extern "C" {
 #define TC_MAX_PRICES 128
 #define TC_MAX_RETURNS 4096
 
-/* The words of settings, eight bytes each, by their places. The last three are spare: 0. */
+/* The words of settings, eight bytes each, by their places. The ceiling, TC_MAX_COMMISSION_AT, is 0 for none, or at least the
+ * floor, TC_MIN_COMMISSION_AT. The last two are spare: 0. */
 enum tc_settings_word {
     TC_COMMISSION_AT = 0,
     TC_SLIPPAGE_AT = 1,
@@ -36,7 +37,7 @@ enum tc_settings_word {
     TC_MAX_NOTIONAL_AT = 9,
     TC_RECORDING_AT = 10,
     TC_CASH_FIRST_AT = 11,
-    TC_CEILING_AT = 12,
+    TC_MAX_COMMISSION_AT = 12,
     TC_COVER_RULE_AT = 13,
     TC_LONG_ONLY_AT = 14,
     TC_SETTINGS_WORDS = 15
@@ -194,11 +195,16 @@ int64_t tc_shares_whole(int64_t a);
 double tc_shares_to_f64(int64_t a);
 
 /* Costs. tc_effective_price takes the listed price and gives the effective one: up for a quantity above 0, down for any
- * other, 0 too. tc_compute_cost uses no slippage. */
+ * other, 0 too. tc_compute_cost uses no slippage. Here and below a leaf with a ceiling takes the most commission of a fill, 0
+ * for none; the leaf of the same name without one means none. */
 bool tc_good_costs(double commission_bps, double slippage_bps, int64_t min_commission);
 int64_t tc_compute_cost(double commission_bps, double slippage_bps, int64_t min_commission, int64_t notional);
 int64_t tc_effective_price(double commission_bps, double slippage_bps, int64_t min_commission, int64_t quantity,
                            int64_t price);
+bool tc_good_costs_with_ceiling(double commission_bps, double slippage_bps, int64_t min_commission,
+                                int64_t max_commission);
+int64_t tc_compute_cost_with_ceiling(double commission_bps, double slippage_bps, int64_t min_commission,
+                                     int64_t max_commission, int64_t notional);
 
 /* One position. Market value and profit take any price. tc_apply_fill takes the effective price, which may be 0, and four
  * numbers: quantity, average, realized profit and total cost; another count of them answers 11. */
@@ -216,9 +222,13 @@ uint64_t tc_fill(double commission_bps, double slippage_bps, int64_t min_commiss
                  uint64_t kind, uint64_t symbol, int64_t quantity, int64_t price, int64_t *money, size_t money_count,
                  uint64_t *tallies, size_t tally_count, uint64_t *words, size_t word_count, int64_t *ints,
                  size_t int_count);
+uint64_t tc_fill_with_ceiling(double commission_bps, double slippage_bps, int64_t min_commission, int64_t max_commission,
+                              int64_t quantity_step, uint64_t period, uint64_t kind, uint64_t symbol, int64_t quantity,
+                              int64_t price, int64_t *money, size_t money_count, uint64_t *tallies, size_t tally_count,
+                              uint64_t *words, size_t word_count, int64_t *ints, size_t int_count);
 
-/* Sizing. tc_size_qty and tc_truncate_qty_to_max_value take the listed price, the last two the effective one. A price or a
- * step of 0 gives 0. tc_drift_bps_of at equity 0 is an infinity, or a NaN for the value 0. */
+/* Sizing. tc_size_qty and tc_truncate_qty_to_max_value take the listed price, what a buy needs and can afford the effective
+ * one. A price or a step of 0 gives 0. tc_drift_bps_of at equity 0 is an infinity, or a NaN for the value 0. */
 int64_t tc_notional_of(int64_t quantity, int64_t price);
 int64_t tc_size_qty(int64_t gap, int64_t price, int64_t step);
 int64_t tc_truncate_qty_to_max_value(int64_t quantity, int64_t price, int64_t step, int64_t max_value);
@@ -227,6 +237,11 @@ int64_t tc_buy_cash_required(int64_t quantity, int64_t price, double commission_
                              int64_t min_commission);
 int64_t tc_largest_affordable_buy_qty(int64_t requested, int64_t cash, int64_t step, int64_t price, double commission_bps,
                                       double slippage_bps, int64_t min_commission);
+int64_t tc_buy_cash_required_with_ceiling(int64_t quantity, int64_t price, double commission_bps, double slippage_bps,
+                                          int64_t min_commission, int64_t max_commission);
+int64_t tc_largest_affordable_buy_qty_with_ceiling(int64_t requested, int64_t cash, int64_t step, int64_t price,
+                                                   double commission_bps, double slippage_bps, int64_t min_commission,
+                                                   int64_t max_commission);
 
 #ifdef __cplusplus
 }

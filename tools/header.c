@@ -1,4 +1,5 @@
-/* Compiled with the header and linked with the archive: some of document 01's cases, and document 02's of request 1, asked from C. */
+/* Compiled with the header and linked with the archive: some of document 01's cases, document 02's of request 1, and a ceiling
+ * of its request 3, asked from C. */
 #include "threshcoil.h"
 
 #include <stdio.h>
@@ -44,6 +45,9 @@ static void leaves(void)
     held("b, on 10,000", tc_compute_cost(10, 0, 100, 10000), 100);
     held("c, on 5", tc_compute_cost(1000, 0, 0, 5), 1);
     held("c, on 4", tc_compute_cost(1000, 0, 0, 4), 0);
+    held("b under a ceiling, on 1,000,000", tc_compute_cost_with_ceiling(10, 0, 100, 500, 1000000), 500);
+    held("b under a ceiling, on 300,000", tc_compute_cost_with_ceiling(10, 0, 100, 500, 300000), 300);
+    held("b under no ceiling, on 1,000,000", tc_compute_cost_with_ceiling(10, 0, 100, 0, 1000000), 1000);
     held("h, 1,999", tc_size_qty(1999, 1000, TC_SCALE), 1000000);
     held("h, -1,999", tc_size_qty(-1999, 1000, TC_SCALE), -1000000);
     held("h, step 1,000", tc_size_qty(1999, 1000, 1000), 1999000);
@@ -126,11 +130,70 @@ static void case_of_cash_first(void)
     held("02, cash", (int64_t)word(cash, 0), 5);
 }
 
+/* 100 shares at 1,000, 10 bps, floor and ceiling 50: a commission of 50 and not 100, so that cash of 100,050 buys them all. */
+static void ceiling_of_a_fill(void)
+{
+    int64_t all = 100 * (int64_t)TC_SCALE;
+    held("ceiling, a flat fee is good", tc_good_costs_with_ceiling(10, 0, 50, 50), true);
+    held("ceiling, none is good", tc_good_costs_with_ceiling(10, 0, 50, 0), true);
+    held("ceiling, below the floor it is bad", tc_good_costs_with_ceiling(10, 0, 50, 49), false);
+    held("ceiling, needed without it", tc_buy_cash_required(all, 1000, 10, 0, 50), 100100);
+    held("ceiling, needed", tc_buy_cash_required_with_ceiling(all, 1000, 10, 0, 50, 50), 100050);
+    held("ceiling, afforded without it", tc_largest_affordable_buy_qty(all, 100050, TC_SCALE, 1000, 10, 0, 50),
+         99 * (int64_t)TC_SCALE);
+    held("ceiling, afforded", tc_largest_affordable_buy_qty_with_ceiling(all, 100050, TC_SCALE, 1000, 10, 0, 50, 50), all);
+
+    int64_t money[6] = {100050}, ints[8];
+    uint64_t tallies[2] = {0}, words[4], symbol = 0x4141504c00000000;
+    uint64_t r = tc_fill_with_ceiling(10, 0, 50, 50, TC_SCALE, 0, TC_REBALANCE, symbol, all, 1000, money, 6, tallies, 2, words,
+                                      4, ints, 8);
+    held("ceiling, a fill", (int64_t)r, TC_DONE + 256);
+    held("ceiling, filled", ints[0], all);
+    held("ceiling, cost", ints[5], 50);
+    held("ceiling, cash", money[0], 0);
+    held("ceiling, trimmed", (int64_t)tallies[0], 0);
+    r = tc_fill_with_ceiling(10, 0, 50, 49, TC_SCALE, 0, TC_REBALANCE, symbol, all, 1000, money, 6, tallies, 2, words, 4, ints,
+                             8);
+    held("ceiling, a fill under a bad one", (int64_t)r, TC_BAD_SETTING);
+}
+
+/* The same of an account. */
+static void ceiling_of_an_account(void)
+{
+    uint8_t settings[TC_SETTINGS_BYTES] = {0};
+    put_double(settings, TC_COMMISSION_AT, 10);
+    put(settings, TC_MIN_COMMISSION_AT, 50);
+    put(settings, TC_STEP_AT, TC_SCALE);
+    put(settings, TC_MAX_COMMISSION_AT, 49);
+    uint8_t account[TC_ACCOUNT_BYTES];
+    int64_t equities[1];
+    uint64_t r = tc_open(100050, settings, sizeof settings, account, sizeof account, equities, 1);
+    held("ceiling, opening under a bad one", (int64_t)r, TC_BAD_SETTING);
+    put(settings, TC_MAX_COMMISSION_AT, 50);
+    r = tc_open(100050, settings, sizeof settings, account, sizeof account, equities, 1);
+    held("ceiling, opening", (int64_t)r, TC_DONE);
+
+    uint8_t target[TC_TARGET_BYTES] = "AAPL", price[TC_PRICE_BYTES] = "AAPL", told[TC_POSITION_BYTES];
+    put_double(target, 1, 1.0);
+    put(price, 1, 1000);
+    r = tc_rebalance_simple(account, sizeof account, target, sizeof target, price, sizeof price, 0, TC_REBALANCE, told, 0);
+    held("ceiling, a rebalance", (int64_t)r, TC_DONE);
+    r = tc_position(account, sizeof account, 0x4141504c00000000, told, sizeof told);
+    held("ceiling, position query", (int64_t)r, TC_DONE);
+    held("ceiling, position", (int64_t)word(told, 2), 100 * (int64_t)TC_SCALE);
+    held("ceiling, cash of the account", (int64_t)word(account, TC_CASH_AT), 0);
+    put(account + 8 * TC_SETTINGS_AT, TC_MAX_COMMISSION_AT, 49);
+    r = tc_position(account, sizeof account, 0, told, sizeof told);
+    held("ceiling, an account with a bad one", (int64_t)r, TC_UNSOUND);
+}
+
 int main(void)
 {
     leaves();
     case_d();
     case_of_cash_first();
+    ceiling_of_a_fill();
+    ceiling_of_an_account();
     if (failures == 0)
         printf("header: the cases asked from C are as documents 01 and 02 say\n");
     return failures != 0;

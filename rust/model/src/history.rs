@@ -1,6 +1,6 @@
 //! A plan run through the library, period by period.
 
-use crate::plan::{Close, Period, Plan, Said};
+use crate::plan::{Close, Opening, Period, Plan, Said};
 use std::fmt;
 use threshcoil::{
     Account, Context, ExecutionKind, ExecutionRecord, Figures, Position, Price, Refusal, Symbol, Target, Weight,
@@ -61,10 +61,11 @@ pub struct History {
 
 /// Runs the plan. `told` hears each period as it ends; where `stop` is set, the first refusal ends the run.
 pub fn run(plan: &Plan, stop: bool, mut told: impl FnMut(usize, &Told)) -> Result<History, Refused> {
-    let opening = |refusal| Refused { line: plan.line, what: "the opening".into(), why: Why::Library(refusal) };
+    let Opening { cash, settings } = plan.opening;
+    let refused = |refusal| Refused { line: bad_opening(plan), what: "the opening".into(), why: Why::Library(refusal) };
     let mut equities = vec![0; plan.periods.len() + 1];
     let mut returns = vec![0.0; plan.periods.len() + 1];
-    let mut account = Account::open(plan.cash, &plan.settings, &mut equities).map_err(opening)?;
+    let mut account = Account::open(cash, &settings, &mut equities).map_err(refused)?;
     let (mut periods, mut weights, mut stopped) = (Vec::new(), Vec::new(), false);
     for (k, period) in plan.periods.iter().enumerate() {
         let (trims, gains) = (account.trimmed_fill_count(), account.return_count());
@@ -98,6 +99,13 @@ pub fn run(plan: &Plan, stop: bool, mut told: impl FnMut(usize, &Told)) -> Resul
     let positions = account.positions().collect();
     let figures = figures(&returns);
     Ok(History { account, periods, equities, returns, figures, weights, positions, stopped })
+}
+
+/// The line from which on the opening is bad: of two settings that are bad together, the later one's.
+fn bad_opening(plan: &Plan) -> usize {
+    let good = |said: &Said<Opening>| Account::open(said.what.cash, &said.what.settings, &mut [0]).is_ok();
+    let bad = plan.openings.iter().rposition(good).map_or(0, |last_good| last_good + 1);
+    plan.openings.get(bad).map_or(1, |said| said.line)
 }
 
 /// The period's closes, as they stand in the file, then its rebalance.
@@ -167,6 +175,11 @@ impl History {
                 below(peak, *e)
             })
             .collect()
+    }
+
+    /// The most commission of a fill, where there is one.
+    pub fn ceiling(&self) -> Option<i64> {
+        Some(self.account.cost_model().max_commission).filter(|ceiling| *ceiling != 0)
     }
 
     pub fn weight_of(&self, symbol: Symbol) -> Option<f64> {

@@ -165,6 +165,9 @@ fn holdings(out: &mut String, history: &History) {
 /// The fills of every period, the newest first; long ones are folded away.
 fn trades(out: &mut String, history: &History) {
     out.push_str("<section>\n<h2>Trades</h2>\n");
+    if let Some(ceiling) = history.ceiling() {
+        let _ = writeln!(out, "<p class=\"span\">A fill costs at most {} in commission.</p>", money(ceiling));
+    }
     for (k, told) in history.periods.iter().rev().filter(|t| !t.fills.is_empty()).enumerate() {
         let cut = if told.trimmed > 0 { format!(", {} cut to the cash at hand", told.trimmed) } else { String::new() };
         let _ = write!(

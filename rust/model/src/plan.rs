@@ -48,11 +48,16 @@ impl Period {
 #[derive(Clone, Debug)]
 pub struct Plan {
     pub name: String,
-    /// The line that opens the account.
-    pub line: usize,
+    pub opening: Opening,
+    /// The opening as it stands after each of its lines.
+    pub openings: Vec<Said<Opening>>,
+    pub periods: Vec<Period>,
+}
+
+#[derive(Clone, Copy, Debug)]
+pub struct Opening {
     pub cash: i64,
     pub settings: Settings,
-    pub periods: Vec<Period>,
 }
 
 /// A line that says nothing that is known here.
@@ -66,9 +71,9 @@ pub struct Unread {
 
 impl Plan {
     fn new() -> Plan {
-        let costs = CostModel { commission_bps: 0.0, slippage_bps: 0.0, min_commission: 0 };
-        let settings = Settings { recording: true, ..Settings::new(costs) };
-        Plan { name: "Model portfolio".into(), line: 1, cash: 0, settings, periods: Vec::new() }
+        let settings = Settings { recording: true, ..Settings::new(CostModel::default()) };
+        let (opening, openings) = (Opening { cash: 0, settings }, Vec::new());
+        Plan { name: "Model portfolio".into(), opening, openings, periods: Vec::new() }
     }
 }
 
@@ -100,26 +105,30 @@ fn take(plan: &mut Plan, line: usize, word: &str, rest: &str) -> Result<(), Stri
     match plan.periods.last_mut() {
         Some(_) if is_setting(word) => Err(format!("'{word}' is a setting, and settings come before the first period")),
         Some(period) => take_in_period(period, line, word, rest),
-        None => match take_setting(plan, line, word, rest)? {
-            true => Ok(()),
+        None => match take_setting(plan, word, rest)? {
+            true => {
+                plan.openings.push(Said { line, what: plan.opening });
+                Ok(())
+            }
             false => Err(format!("'{word}' is no setting, and no period has begun")),
         },
     }
 }
 
 fn is_setting(word: &str) -> bool {
-    take_setting(&mut Plan::new(), 0, word, "") != Ok(false)
+    take_setting(&mut Plan::new(), word, "") != Ok(false)
 }
 
 /// False for a word that is no setting's.
-fn take_setting(plan: &mut Plan, line: usize, word: &str, rest: &str) -> Result<bool, String> {
-    let settings = &mut plan.settings;
+fn take_setting(plan: &mut Plan, word: &str, rest: &str) -> Result<bool, String> {
+    let Opening { cash, settings } = &mut plan.opening;
     match word {
         "name" => plan.name = rest.into(),
-        "cash" => (plan.line, plan.cash) = (line, cents(rest)?),
+        "cash" => *cash = cents(rest)?,
         "commission_bps" => settings.cost_model.commission_bps = number(rest)?,
         "slippage_bps" => settings.cost_model.slippage_bps = number(rest)?,
         "min_commission" => settings.cost_model.min_commission = cents(rest)?,
+        "max_commission" => settings.cost_model.max_commission = cents(rest)?,
         "quantity_step" => settings.quantity_step = scaled(rest, 6)?,
         "min_order_value" => settings.min_order_value = cents(rest)?,
         "max_order_value" => settings.max_order_value = cents(rest)?,
@@ -236,7 +245,7 @@ mod tests {
     #[test]
     fn a_bad_line_is_told_and_the_rest_counts() {
         let (plan, unread) = read("cash 10.00\nperiod one\nprices A 1.00 B\ntargets A 0.5 # half\nnonsense\n");
-        assert_eq!(plan.cash, 1_000);
+        assert_eq!(plan.opening.cash, 1_000);
         assert_eq!(unread.iter().map(|u| u.line).collect::<Vec<_>>(), [3, 5]);
         assert_eq!(plan.periods[0].all_targets().len(), 1);
         assert!(plan.periods[0].all_prices().is_empty());

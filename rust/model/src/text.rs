@@ -106,6 +106,9 @@ pub fn summary(out: &mut impl Write, plan: &Plan, history: &History) -> io::Resu
         }
         Err(refusal) => writeln!(out, "  no figures, {}: {refusal}", refusal.number())?,
     }
+    if let Some(ceiling) = history.ceiling() {
+        writeln!(out, "  {:<18} {:>14}", "Commission ceiling", money(ceiling))?;
+    }
     writeln!(out, "  {:<18} {:>14}", "Cash", money(history.account.cash()))?;
     for p in history.positions.iter().filter(|p| p.quantity.0 != 0) {
         let weight = history.weight_of(p.symbol).map_or("".into(), percent);

@@ -127,6 +127,7 @@ fn an_opening_that_cannot_be_read_runs_nothing() {
         ("cash", "cash abc\nperiod one\nprices A 1.00\n", 1),
         ("word", "cash 10.00\ncahs 10.00\nperiod one\n", 2),
         ("setting", "cash 10.00\ncommission_bps few\nperiod one\n", 2),
+        ("ceiling", "cash 10.00\nmin_commission 1.00\nmax_commission none\nperiod one\n", 3),
         ("late", "cash 10.00\nperiod one\nprices A 1.00\ncash_first on\n", 4),
     ] {
         let (out, page) = model(&format!("opening-{name}"), Some(bad), &[]);
@@ -138,10 +139,20 @@ fn an_opening_that_cannot_be_read_runs_nothing() {
 
 #[test]
 fn a_refused_opening_and_a_missing_file_are_told() {
-    let (out, page) = model("opening", Some("cash 10.00\nslippage_bps 10001\n"), &[]);
-    assert_eq!(out.status.code(), Some(1));
-    assert!(said(&out).contains(":1: the opening was refused, 1:"), "{}", said(&out));
-    assert!(out.stdout.is_empty() && page.is_none());
+    for (name, bad, line) in [
+        ("cash", "name Bad\ncash -10.00\nslippage_bps 1\n", 2),
+        ("slippage", "cash 10.00\nslippage_bps 10001\ncommission_bps 1\n", 2),
+        ("below", "cash 10.00\nmax_commission -0.01\n", 2),
+        ("ceiling-after", "min_commission 5.00\ncash 10.00\nmax_commission 4.99\n", 3),
+        ("ceiling-before", "max_commission 4.99\nmin_commission 5.00\ncash 10.00\n", 2),
+        ("ceiling-mended", "max_commission 4.99\nmin_commission 5.00\nmax_commission 5.00\ncash -10.00\n", 4),
+    ] {
+        let (out, page) = model(&format!("refused-{name}"), Some(bad), &[]);
+        assert_eq!(out.status.code(), Some(1), "{name}");
+        let told = format!(".txt:{line}: the opening was refused, 1: a setting or opening cash is bad");
+        assert!(said(&out).contains(&told), "{name}: {}", said(&out));
+        assert!(out.stdout.is_empty() && page.is_none(), "{name}");
+    }
     let out = Command::new(env!("CARGO_BIN_EXE_model")).arg(place("no such file")).output().unwrap();
     assert_eq!(out.status.code(), Some(2));
 }
@@ -179,6 +190,28 @@ fn cash_first_runs_what_lowers_no_cash_first() {
     let first = |line: &str| line.split_whitespace().take(2).collect::<Vec<_>>().join(" ");
     assert_eq!(fills.iter().map(|l| first(l)).collect::<Vec<_>>(), ["buy A", "buy B", "sell B", "sell A"], "{said}");
     assert!(said.lines().any(|l| l.split_whitespace().eq(["Cash", "0.05"])), "{said}");
+}
+
+/// Of 1,000.50 in all 100 shares at 10.00 are wanted. With a commission of 1.00 only 99 fit, for 990.00 and 0.99; with at most 0.50 all fit.
+#[test]
+fn a_ceiling_caps_the_commission_and_is_shown() {
+    let text =
+        "cash 1000.50\ncommission_bps 10\nmin_commission 0.50\nCEILING\nperiod one\nprices A 10.00\ntargets A 1.0\n";
+    let summed = |said: &str, row: &[&str]| said.lines().any(|l| l.split_whitespace().eq(row.iter().copied()));
+    for (name, line) in [("not-given", ""), ("zero", "max_commission 0")] {
+        let (out, page) = model(&format!("ceiling-{name}"), Some(&text.replace("CEILING", line)), &[]);
+        let (said, page) = (said(&out), page.unwrap());
+        assert_eq!(out.status.code(), Some(0), "{said}");
+        assert!(said.contains(", cost 0.99\n  1 cut down to the cash at hand\n"), "{said}");
+        assert!(summed(&said, &["Cash", "9.51"]) && !said.contains("Commission ceiling"), "{said}");
+        assert!(!page.contains("in commission"));
+    }
+    let (out, page) = model("ceiling", Some(&text.replace("CEILING", "max_commission 0.50")), &[]);
+    let (said, page) = (said(&out), page.unwrap());
+    assert_eq!(out.status.code(), Some(0), "{said}");
+    assert!(said.contains(", cost 0.50\n") && !said.contains("cut down"), "{said}");
+    assert!(summed(&said, &["Commission", "ceiling", "0.50"]) && summed(&said, &["Cash", "0.00"]), "{said}");
+    assert!(page.contains("A fill costs at most 0.50 in commission."));
 }
 
 #[test]

@@ -6,7 +6,7 @@ use threshcoil::{
 use threshcoil_sys as port;
 use threshcoil_sys::layout::{self, Column};
 
-const FREE: CostModel = CostModel { commission_bps: 0.0, slippage_bps: 0.0, min_commission: 0 };
+const FREE: CostModel = CostModel { commission_bps: 0.0, slippage_bps: 0.0, min_commission: 0, max_commission: 0 };
 const FIFTEEN: CostModel = CostModel { min_commission: 15, ..FREE };
 const NOW: Context = Context { period_index: 0, kind: ExecutionKind::Rebalance };
 
@@ -79,6 +79,20 @@ fn a_sale_below_the_floor_waits_for_the_one_that_pays_for_it() {
     // By symbol it is skipped.
     account.set_cash_first(false).expect("done");
     assert_eq!(rebalanced(account, &[], &[(b'A', 10), (b'B', 25)]), [('B', 10)]);
+}
+
+/// 200 % and a ceiling of 15 charge 15 of each, as that floor does: the cash change that parts the orders has the ceiling in it.
+/// Without one A costs 20 and B 50, and cash 0 skips both.
+#[test]
+fn the_ceiling_parts_the_orders_too() {
+    let double = CostModel { commission_bps: 20_000.0, ..FREE };
+    let ceiling = CostModel { max_commission: 15, ..double };
+    let filled = |costs| {
+        let account = holding(0, Settings::new(costs), &[(b'A', 10), (b'B', 25)]);
+        rebalanced(account, &[], &[(b'A', 10), (b'B', 25)])
+    };
+    assert_eq!(filled(ceiling), [('B', 10), ('A', 5)]);
+    assert_eq!(filled(double), []);
 }
 
 /// "those that lower no cash first": a sale for just its commission is one of them.

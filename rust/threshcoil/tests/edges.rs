@@ -7,7 +7,7 @@ use threshcoil::{
 use threshcoil_sys as port;
 use threshcoil_sys::layout::{self, Column, Counter, Kind, Setting};
 
-const FREE: CostModel = CostModel { commission_bps: 0.0, slippage_bps: 0.0, min_commission: 0 };
+const FREE: CostModel = CostModel { commission_bps: 0.0, slippage_bps: 0.0, min_commission: 0, max_commission: 0 };
 const NOW: Context = Context { period_index: 0, kind: ExecutionKind::Rebalance };
 const EMPTY: ExecutionRecord = ExecutionRecord::EMPTY;
 
@@ -133,8 +133,13 @@ fn one_is_a_bad_setting() {
         let costs = CostModel { commission_bps: bad, ..FREE };
         assert_eq!(Account::open(1, &Settings::new(costs), &mut [0]), Err(Refusal::BadSetting));
     }
-    let costs = CostModel { slippage_bps: 10_000.1, ..FREE };
-    assert_eq!(Account::open(1, &Settings::new(costs), &mut [0]), Err(Refusal::BadSetting));
+    for costs in [
+        CostModel { slippage_bps: 10_000.1, ..FREE },
+        CostModel { min_commission: 100, max_commission: 99, ..FREE },
+        CostModel { max_commission: -1, ..FREE },
+    ] {
+        assert_eq!(Account::open(1, &Settings::new(costs), &mut [0]), Err(Refusal::BadSetting));
+    }
     let mut account = opened(1, |_| ());
     assert_eq!(account.set_quantity_step(0), Err(Refusal::BadSetting));
     assert_eq!(account.set_max_rebalance_notional(-1), Err(Refusal::BadSetting));
@@ -255,8 +260,8 @@ fn eleven_is_an_account_that_is_not_sound() {
     };
     let nan = f64::NAN.to_bits();
     let [symbols, totals] = [Column::Symbol, Column::TotalCost].map(layout::column);
-    // Cash below 0, a rate that is none, marks and flags above 1, a cap without its mark, a count without its position,
-    // an unused place that is not zero.
+    // Cash below 0, a rate that is none, marks and flags above 1, a cap without its mark, a ceiling below the floor, a count
+    // without its position, an unused place that is not zero.
     for (word, value) in [
         (layout::CASH, 1 << 63),
         (layout::setting(Setting::CommissionBps), nan),
@@ -265,6 +270,7 @@ fn eleven_is_an_account_that_is_not_sound() {
         (layout::setting(Setting::CapCount), 1),
         (layout::setting(Setting::Recording), 2),
         (layout::setting(Setting::CashFirst), 1 << 8),
+        (layout::setting(Setting::MaxCommission), u64::MAX),
         (layout::POSITIONS, 1),
         (layout::POSITIONS, 65),
         (symbols + 63, 1),

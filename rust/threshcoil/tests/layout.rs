@@ -117,7 +117,7 @@ fn the_header_has_the_places_of_the_table() {
         "TC_MAX_NOTIONAL_AT",
         "TC_RECORDING_AT",
         "TC_CASH_FIRST_AT",
-        "TC_CEILING_AT",
+        "TC_MAX_COMMISSION_AT",
         "TC_COVER_RULE_AT",
         "TC_LONG_ONLY_AT",
     ];
