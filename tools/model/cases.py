@@ -1,5 +1,5 @@
-"""Document 01's checked cases, a to l, and its refusals, and document 02's case of request 1 with its like, on the model. Exit
-status 1 where one fails."""
+"""Document 01's checked cases, a to l, and its refusals, and document 02's case of request 1 with its like and cases of request 3,
+on the model. Exit status 1 where one fails."""
 import sys
 from dataclasses import replace
 
@@ -10,6 +10,7 @@ FREE = Costs(0.0, 0.0, 0)
 FLOOR = Costs(0.0, 0.0, 100)
 FIFTEEN = Costs(0.0, 0.0, 15)
 TEN_BPS = Costs(10.0, 0.0, 100)
+FLAT = replace(TEN_BPS, max_commission=100)
 WHOLE = model.SCALE
 
 
@@ -89,6 +90,52 @@ CASH_FIRST = [
     ("a sale cut below the floor", cash_first(0, FIFTEEN, {A: 2, B: 1}, {A: 13, B: 25}, max_order_value=25), (0, "BA", 8)),
 ]
 
+
+def bought(cash, ceiling):
+    """100 whole shares at 1,000, 10 bps and no floor: shares filled, trims, shortfall, cost, cash left."""
+    a = account(cash, Costs(10.0, 0.0, 0, ceiling), recording=True)
+    a, record = model.filled(a, Order(A, 100 * WHOLE, 1_000, 0.0), 0, "rebalance")
+    return record.quantity // WHOLE, a.trimmed_count, a.trimmed_shortfall, record.cost, a.cash
+
+
+def sold(ceiling):
+    """One share at 20 with cash 5, at 20,000 bps: shares left, trims, cash left."""
+    a = account(5, Costs(20_000.0, 0.0, 0, ceiling), {A: Position(WHOLE, 20, 0, 20)})
+    a = fill(a, -WHOLE, 20)
+    return a.positions[A].quantity // WHOLE, a.trimmed_count, a.cash
+
+
+def two_sold(ceiling):
+    """Two sales in cash-first mode, for 10 and for 25, at 20,000 bps."""
+    return cash_first(0, Costs(20_000.0, 0.0, 0, ceiling), {A: 1, B: 1}, {A: 10, B: 25})
+
+
+# Document 02, request 3.
+CEILING = [
+    ("a flat fee", [FLAT.commission(n) for n in (0, 10_000, 1_000_000)], [100, 100, 100]),
+    ("the same costs without a ceiling", [TEN_BPS.commission(n) for n in (10_000, 1_000_000)], [100, 1_000]),
+    ("below, at and above the ceiling", [Costs(10.0, 0.0, 0, 50).commission(n) for n in (49_499, 49_500, 50_499, 50_500)],
+     [49, 50, 50, 50]),
+    ("a buy whole by the ceiling", bought(100_050, 50), (100, 0, 0, 50, 0)),
+    ("the same without a ceiling", bought(100_050, 0), (99, 1, 1_000, 99, 951)),
+    ("a cent less", bought(100_049, 50), (99, 1, 1_000, 50, 999)),
+    ("a part that pays the ceiling", bought(60_050, 50), (60, 1, 40_000, 50, 0)),
+    ("the same part without a ceiling", bought(60_050, 0), (59, 1, 41_000, 59, 991)),
+    ("a part whose next step would pay it", bought(50_049, 50), (49, 1, 51_000, 49, 1_000)),
+    ("a sale filled by the ceiling", sold(25), (0, 0, 0)),
+    ("the same without a ceiling", sold(0), (1, 0, 5)),
+    ("a ceiling a cent higher", sold(26), (1, 0, 5)),
+    ("cash first by the ceiling", two_sold(15), (0, "BA", 5)),
+    ("both in the first group by the ceiling", two_sold(10), (0, "AB", 15)),
+    ("neither without a ceiling", two_sold(0), (0, "", 0)),
+    ("a ceiling below the floor", model.opened(1, Costs(0.0, 0.0, 100, 99))[0], 1),
+    ("a negative ceiling", [model.opened(1, Costs(0.0, 0.0, n, -1))[0] for n in (0, 100)], [1, 1]),
+    ("a ceiling equal to the floor", model.opened(1, FLAT)[0], 0),
+    ("a ceiling over a floor of 0", model.opened(1, Costs(0.0, 0.0, 0, 1))[0], 0),
+    ("a bad ceiling before no place", model.opened(1, Costs(0.0, 0.0, 100, 99), 0)[0], 1),
+    ("a bad ceiling in an account", model.total_equity(account(1, Costs(0.0, 0.0, 100, 99)), [])[0], 11),
+]
+
 CASES = [
     ("a", [model.value(1, 999_999), model.value(1, 1_000_000), model.value(-1, 999_999)], [0, 1, 0]),
     ("b", [TEN_BPS.commission(1_000_000), TEN_BPS.commission(10_000)], [1_000, 100]),
@@ -147,12 +194,12 @@ def refusals():
 
 def main():
     failures = 0
-    first = CASES + list(refusals())
-    for paper, (name, found, expected) in [("01", row) for row in first] + [("02", row) for row in CASH_FIRST]:
+    first, second = CASES + list(refusals()), CASH_FIRST + CEILING
+    for paper, (name, found, expected) in [("01", row) for row in first] + [("02", row) for row in second]:
         if found != expected:
             failures += 1
             print(f"FAILS: {name}: {found}, and document {paper} says {expected}")
-    print(f"model: {len(first)} cases of document 01 and {len(CASH_FIRST)} of document 02, {failures} failures")
+    print(f"model: {len(first)} cases of document 01 and {len(second)} of document 02, {failures} failures")
     sys.exit(failures > 0)
 
 

@@ -3,16 +3,18 @@
 usage: harness scenarios SEED COUNT | python3 tools/model/compare.py                  the Rust's answers
        harness spoiled SEED COUNT | python3 tools/model/compare.py                    the port's, refusals and cash-first mode among them
        harness cash-first SEED COUNT | python3 tools/model/compare.py cash-first      the port's in cash-first mode, and what they meet
+       harness ceiling SEED COUNT | python3 tools/model/compare.py ceiling            the port's under a commission ceiling, and what they meet
 
 The text is that of rust/scenario: a call after '>', what it gave and the account after it after '<'. A call with no
 answer beside it is played and its answer number counted. Exit status 1 where an answer differs, nothing was played, or, of
-cash-first mode, something was met too seldom.
+cash-first mode and of ceilings, something was met too seldom.
 """
 import struct
 import sys
 from collections import Counter
 
 import met
+import met_ceiling
 import model
 from model import Costs
 
@@ -39,7 +41,7 @@ def held(symbol, p):
 
 def settings_line(s):
     c = s.costs
-    costs = f"{digits(c.commission_bps)} {digits(c.slippage_bps)} {c.min_commission}"
+    costs = f"{digits(c.commission_bps)} {digits(c.slippage_bps)} {c.min_commission} {c.max_commission}"
     limits = f"{s.quantity_step} {s.min_order_value} {s.max_order_value} {digits(s.no_trade_band_bps)}"
     cap = "none" if s.max_trades_per_rebalance is None else s.max_trades_per_rebalance
     return f"settings {costs} {limits} {cap} {s.max_rebalance_notional} {int(s.recording)} {int(s.cash_first)}"
@@ -72,13 +74,18 @@ def lists(line):
     return context, pairs(targets, double), pairs(prices, int)
 
 
+def opening(words):
+    """The cash, the costs and the equity places of an opening."""
+    cash, commission, slippage, floor, ceiling, places = words
+    return int(cash), Costs(double(commission), double(slippage), int(floor), int(ceiling)), int(places)
+
+
 def call(account, line):
     """The account after the call on a line, and the lines that it answers."""
     verb, *words = line.split(" ")
     words = [word for word in words if word]
     if verb == "open":
-        costs = Costs(double(words[1]), double(words[2]), int(words[3]))
-        answer, account = model.opened(int(words[0]), costs, int(words[4]))
+        answer, account = model.opened(*opening(words))
         return account, [f"answer {answer}"]
     if verb == "set":
         answer, account = model.with_setting(account, **{words[0]: setting(*words)})
@@ -138,7 +145,7 @@ def exchanges(lines):
         yield name, asked, answers
 
 
-def met_by(account, line, answer):
+def met_in_mode(account, line, answer):
     """What a call met, where it is a rebalance of an account in cash-first mode."""
     if not line.startswith("rebalance ") or answer != model.DONE or not account.settings.cash_first:
         return {}
@@ -146,10 +153,28 @@ def met_by(account, line, answer):
     return met.rebalance(account, targets, dict(prices))
 
 
+def met_under_ceiling(account, line, answer):
+    """What a call met, where it is an opening with a ceiling, or fills under one."""
+    verb, *words = line.split()
+    if verb == "open":
+        return met_ceiling.opening(*opening(words), answer)
+    if answer != model.DONE or account.settings.costs.max_commission == 0:
+        return {}
+    if verb == "rebalance":
+        _, targets, prices = lists(line)
+        return met_ceiling.rebalance(account, targets, dict(prices))
+    return met_ceiling.close(account, int(words[3], 16), int(words[4])) if verb == "close" else {}
+
+
+# What a run must meet, and how a call is looked at for it.
+RUNS = {"cash-first": (met.ALL, met_in_mode), "ceiling": (met_ceiling.ALL, met_under_ceiling)}
+
+
 def main():
-    if sys.argv[1:] not in ([], ["cash-first"]):
+    run = sys.argv[1] if len(sys.argv) > 1 else None
+    if len(sys.argv) > 2 or run not in [None, *RUNS]:
         sys.exit(__doc__)
-    cash_first = len(sys.argv) > 1
+    names, met_by = RUNS.get(run, ([], None))
     account, scenarios, compared, differences, answers, found = None, 0, 0, 0, Counter(), Counter()
     for name, asked, expected in exchanges(sys.stdin):
         if asked.startswith("open "):
@@ -161,7 +186,7 @@ def main():
         lines += account_lines(account)
         answer = int(lines[0].split()[1])
         answers[answer] += 1
-        if cash_first:
+        if run:
             found.update(met_by(before, asked, answer))
         compared += len(expected) > 0
         if expected and lines != expected:
@@ -173,7 +198,7 @@ def main():
     given = ", ".join(f"{n} {answers[n]} times" for n in sorted(answers))
     print(f"model: {scenarios} scenarios, {answers.total()} calls; answers {given}")
     print(f"model: {compared} calls compared, {differences} differences")
-    missed = met.told(found, scenarios) if cash_first else []
+    missed = met.told(run, names, found, scenarios) if run else []
     sys.exit(differences > 0 or scenarios == 0 or len(missed) > 0)
 
 

@@ -76,10 +76,10 @@ def each(account, orders, planned, met):
         met["orders that a cap puts into their group"] += lowers(costs, planned[order.symbol]) != (change < 0)
 
 
-def told(met, scenarios):
+def told(run, names, met, count, of="scenarios"):
     """Tells how often each was met, and what was met too seldom, and returns the latter."""
-    missed = [name for name in ALL if met[name] * 100 < scenarios]
-    print("cash-first: " + ", ".join(f"{name} {met[name]}" for name in ALL))
+    missed = [name for name in names if met[name] * 100 < count]
+    print(f"{run}: " + ", ".join(f"{name} {met[name]}" for name in names))
     if missed:
-        print(f"cash-first: met fewer than ten times in 1,000 scenarios: {', '.join(missed)}")
+        print(f"{run}: met fewer than ten times in 1,000 {of}: {', '.join(missed)}")
     return missed

@@ -1,5 +1,5 @@
-"""Document 01, and request 1 of document 02, as a plain program: each rule once, in the paper's words. It knows nothing of the
-Rust nor of the port.
+"""Document 01, and requests 1 and 3 of document 02, as a plain program: each rule once, in the paper's words. It knows nothing
+of the Rust nor of the port.
 
 Python's int is exact and its float is binary64. A call takes the account as it was and returns a new one; a refusal
 returns its number and the account as given. Quantities are micro-shares, symbols the number of their eight bytes.
@@ -68,10 +68,13 @@ class Costs:
     commission_bps: float
     slippage_bps: float
     min_commission: int
+    max_commission: int = 0
 
     def commission(self, amount):
-        """'round(notional × bps / 10,000), multiplied first, and at least `min_commission`'."""
-        return max(to_i64(rounded(float(amount) * self.commission_bps / 10_000.0)), self.min_commission)
+        """'round(notional × bps / 10,000), multiplied first, and at least `min_commission`'; 'the lesser of today's commission
+        and the ceiling', '0 meaning none'."""
+        today = max(to_i64(rounded(float(amount) * self.commission_bps / 10_000.0)), self.min_commission)
+        return min(today, self.max_commission) if self.max_commission != 0 else today
 
     def effective_price(self, price, sign):
         """'round(price × (1 + sign × slippage / 10,000))'."""
@@ -91,9 +94,11 @@ class Settings:
     cash_first: bool = False
 
     def good(self):
+        """'1 also when a non-zero ceiling is below `min_commission`'; one equal to it is a flat fee."""
         c = self.costs
         return (min(c.min_commission, self.min_order_value, self.max_order_value, self.max_rebalance_notional) >= 0
                 and self.quantity_step >= 1
+                and (c.max_commission == 0 or c.max_commission >= c.min_commission)
                 and isfinite(c.commission_bps) and c.commission_bps >= 0.0
                 and isfinite(self.no_trade_band_bps) and self.no_trade_band_bps >= 0.0
                 and 0.0 <= c.slippage_bps <= 10_000.0)

@@ -1,7 +1,7 @@
 //! Whole accounts: random scenarios played by the Rust and by the port, and written as text for the model to play.
 
 use crate::port::Port;
-use scenario::{Covered, Played, Random, Scenario, cash_first, play, scenario, spoiled, written};
+use scenario::{Covered, Played, Random, Scenario, cash_first, ceiling, play, scenario, spoiled, written};
 use std::io::Write;
 
 /// Plays `count` scenarios on the Rust and on the port, and compares every answer, every figure and the whole account
@@ -49,14 +49,13 @@ fn differs(seed: u64, scenario: &Scenario, ours: &Played, theirs: &Played) {
     }
 }
 
-/// Writes `count` scenarios with the Rust's answers to standard output, and what they cover to standard error.
-pub fn emit(seed: u64, count: u64) -> bool {
+/// Writes `count` scenarios with the Rust's answers, and what they cover to standard error.
+pub fn emit(seed: u64, count: u64, out: &mut dyn Write) -> bool {
     if !oracle::PRESENT {
         eprintln!("scenarios: SKIPPED, since nanobook's source is not at hand");
         return true;
     }
     let mut covered = Covered::default();
-    let mut out = std::io::stdout().lock();
     for k in 0..count {
         let scenario = scenario(&mut Random::new(seed.wrapping_add(k)));
         let played = oracle::play(&scenario).expect("the oracle is present");
@@ -70,22 +69,27 @@ pub fn emit(seed: u64, count: u64) -> bool {
     true
 }
 
-/// Writes `count` scenarios outside the domain to standard output, with the port's answers: the Rust refuses nothing, so
-/// the model is held to them.
-pub fn emit_spoiled(seed: u64, count: u64) -> bool {
-    emit_ours("spoiled", seed, count, |random| {
+/// Writes `count` scenarios outside the domain, with the port's answers: the Rust refuses nothing, so the model is held to
+/// them.
+pub fn emit_spoiled(seed: u64, count: u64, out: &mut dyn Write) -> bool {
+    let spoiled = |random: &mut Random| {
         let good = scenario(random);
         spoiled(random, good)
-    })
+    };
+    emit_ours("spoiled", spoiled, seed, count, out)
 }
 
 /// Likewise scenarios in cash-first mode, which the Rust lacks.
-pub fn emit_cash_first(seed: u64, count: u64) -> bool {
-    emit_ours("cash-first", seed, count, cash_first)
+pub fn emit_cash_first(seed: u64, count: u64, out: &mut dyn Write) -> bool {
+    emit_ours("cash-first", cash_first, seed, count, out)
 }
 
-fn emit_ours(name: &str, seed: u64, count: u64, scenario: fn(&mut Random) -> Scenario) -> bool {
-    let mut out = std::io::stdout().lock();
+/// Likewise scenarios under a commission ceiling, which it lacks too.
+pub fn emit_ceiling(seed: u64, count: u64, out: &mut dyn Write) -> bool {
+    emit_ours("ceiling", ceiling, seed, count, out)
+}
+
+fn emit_ours(name: &str, scenario: fn(&mut Random) -> Scenario, seed: u64, count: u64, out: &mut dyn Write) -> bool {
     (0..count).all(|k| {
         let seed = seed.wrapping_add(k);
         let scenario = scenario(&mut Random::new(seed));

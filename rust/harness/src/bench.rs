@@ -2,16 +2,17 @@
 //! through the safe crate.
 
 use crate::direct::{direct_rebalance, direct_return, direct_snapshot};
+use crate::port::model;
 use oracle::Timed;
 use scenario::{Costs, Prices, Setting, Symbol, Targets};
 use std::hint::black_box;
 use std::time::Instant;
-use threshcoil::{Account, Context, CostModel, ExecutionKind, ExecutionRecord, Price, Settings, Target};
+use threshcoil::{Account, Context, ExecutionKind, ExecutionRecord, Price, Settings, Target};
 use threshcoil_sys as port;
 use threshcoil_sys::layout::{self, ENTRY_SIZE, PLACES, SNAPSHOT_SIZE, WEIGHTS_SIZE};
 
 const CASH: i64 = 10_000_000_007;
-const COSTS: Costs = Costs { commission_bps: 5.0, slippage_bps: 2.0, min_commission: 100 };
+const COSTS: Costs = Costs { commission_bps: 5.0, slippage_bps: 2.0, min_commission: 100, max_commission: 0 };
 const CONTEXT: Context = Context { period_index: 0, kind: ExecutionKind::Rebalance };
 
 /// Batches, of which the median is told, and calls of a batch.
@@ -28,44 +29,52 @@ enum Call {
 struct Row {
     name: &'static str,
     call: Call,
+    /// Set before the first orders.
+    opened: fn(usize) -> Option<Setting>,
     setting: fn(usize) -> Option<Setting>,
-    /// Weights of the two target lists, by symbol: a call moves the account from one to the other.
-    weights: [fn(usize) -> f64; 2],
+    /// Entries of the two target lists, each a symbol by its number and its weight: a call moves the account from one list to the other.
+    entries: [fn(usize) -> (usize, f64); 2],
 }
 
 /// Parts of equity around a hundredth, the second list the other way round.
-fn up(k: usize) -> f64 {
-    if k % 2 == 0 { 0.011 } else { 0.009 }
+fn up(k: usize) -> (usize, f64) {
+    (k, if k % 2 == 0 { 0.011 } else { 0.009 })
 }
 
-fn down(k: usize) -> f64 {
-    up(k + 1)
+fn down(k: usize) -> (usize, f64) {
+    (k, up(k + 1).1)
 }
+
+const FILLED: Row =
+    Row { name: "all filled", call: Call::Rebalance, opened: |_| None, setting: |_| None, entries: [up, down] };
+
+/// To nothing: the first of all orders took the cash.
+const TRIMMED: Row = Row { name: "all trimmed", entries: [|k| (k, 10.0), |k| (k, 10.0)], ..FILLED };
 
 const ROWS: [Row; 7] = [
-    Row { name: "all filled", call: Call::Rebalance, setting: |_| None, weights: [up, down] },
-    Row {
-        name: "filled and recorded",
-        call: Call::Rebalance,
-        setting: |_| Some(Setting::Recording(true)),
-        weights: [up, down],
-    },
-    Row {
-        name: "under a cap",
-        call: Call::Rebalance,
-        setting: |n| Some(Setting::MaxTrades(Some(n as u64 / 2))),
-        weights: [up, down],
-    },
-    Row {
-        name: "all skipped",
-        call: Call::Rebalance,
-        setting: |_| Some(Setting::NoTradeBandBps(5_000.0)),
-        weights: [up, down],
-    },
-    Row { name: "all trimmed", call: Call::Rebalance, setting: |_| None, weights: [|_| 10.0, |_| 10.0] },
-    Row { name: "return", call: Call::Return, setting: |_| None, weights: [up, down] },
-    Row { name: "snapshot", call: Call::Snapshot, setting: |_| None, weights: [up, down] },
+    FILLED,
+    Row { name: "filled and recorded", setting: |_| Some(Setting::Recording(true)), ..FILLED },
+    Row { name: "under a cap", setting: |n| Some(Setting::MaxTrades(Some(n as u64 / 2))), ..FILLED },
+    Row { name: "all skipped", setting: |_| Some(Setting::NoTradeBandBps(5_000.0)), ..FILLED },
+    TRIMMED,
+    Row { name: "return", call: Call::Return, ..FILLED },
+    Row { name: "snapshot", call: Call::Snapshot, ..FILLED },
 ];
+
+/// One of each pair sold whole, and the other bought for more than that brought, by turns.
+const PARTS: Row = Row {
+    name: "trimmed to a part",
+    opened: |n| Some(Setting::MaxOrderValue(2 * CASH / n as i64)),
+    entries: [sold_and_bought, |k| (k ^ 1, sold_and_bought(k).1)],
+    ..FILLED
+};
+
+fn sold_and_bought(k: usize) -> (usize, f64) {
+    (k, if k % 2 == 0 { 0.0 } else { 10.0 })
+}
+
+/// Trimmed rows with a ceiling that every fill of theirs reaches. Trims to nothing leave little cash, of which the floor alone is reached.
+const CEILINGS: [(Row, i64); 2] = [(TRIMMED, COSTS.min_commission), (PARTS, 5_000)];
 
 /// The port's account with its lists, as bytes and as the safe crate takes them.
 #[derive(Clone)]
@@ -87,9 +96,8 @@ fn symbol(k: usize) -> Symbol {
 }
 
 impl Ours {
-    fn new(targets: &[Targets; 2], prices: &Prices) -> Ours {
-        let Costs { commission_bps, slippage_bps, min_commission } = COSTS;
-        let settings = Settings::new(CostModel { commission_bps, slippage_bps, min_commission });
+    fn new(costs: Costs, targets: &[Targets; 2], prices: &Prices) -> Ours {
+        let settings = Settings::new(model(costs));
         let named = |s: &Symbol| threshcoil::Symbol::from_padded(s.0);
         let mut equity = vec![0; CALLS + 8];
         let account = Account::open(CASH, &settings, &mut equity).expect("good settings");
@@ -111,6 +119,7 @@ impl Ours {
     fn set(&mut self, setting: Setting) {
         let account = &mut self.account;
         let done = match setting {
+            Setting::MaxOrderValue(n) => account.set_max_order_value(n),
             Setting::MaxTrades(cap) => account.set_max_trades_per_rebalance(cap),
             Setting::NoTradeBandBps(x) => account.set_no_trade_band_bps(x),
             Setting::Recording(on) => account.set_recording(on),
@@ -210,27 +219,38 @@ fn median(mut times: Vec<f64>) -> f64 {
     times[times.len() / 2]
 }
 
-/// Both accounts of a row, each with its lists.
-fn ready(row: &Row, n: usize) -> Option<(Timed, Ours)> {
-    let list = |weight: fn(usize) -> f64| (0..n).map(|k| (symbol(k), weight(k))).collect::<Targets>();
-    let targets = row.weights.map(list);
-    let prices: Prices = (0..n).map(|k| (symbol(k), 1_000 + 37 * k as i64)).collect();
-    let mut rust = Timed::new(CASH, COSTS, &targets, &prices)?;
-    let mut ours = Ours::new(&targets, &prices);
+/// The target lists of a row, and its prices.
+fn listed(row: &Row, n: usize) -> ([Targets; 2], Prices) {
+    let targets = row.entries.map(|entry| (0..n).map(|k| (symbol(entry(k).0), entry(k).1)).collect());
+    (targets, (0..n).map(|k| (symbol(k), 1_000 + 37 * k as i64)).collect())
+}
+
+/// The port's account of a row, with its lists, after a call to each.
+fn port_ready(row: &Row, n: usize, costs: Costs) -> Ours {
+    let (targets, prices) = listed(row, n);
+    let mut ours = Ours::new(costs, &targets, &prices);
+    (row.opened)(n).into_iter().for_each(|setting| ours.set(setting));
     for k in 0..2 {
-        rust.rebalance(k);
         ours.on_bytes(Call::Rebalance, k);
         ours.on_account(Call::Rebalance, k);
     }
     assert_eq!(ours.bytes, ours.account.as_bytes());
-    if let Some(setting) = (row.setting)(n) {
-        rust.set(setting);
-        ours.set(setting);
-    }
+    (row.setting)(n).into_iter().for_each(|setting| ours.set(setting));
+    ours.assert_same(row.call);
+    ours
+}
+
+/// Both accounts of a row, each with its lists.
+fn ready(row: &Row, n: usize) -> Option<(Timed, Ours)> {
+    let (targets, prices) = listed(row, n);
+    let mut rust = Timed::new(CASH, COSTS, &targets, &prices)?;
+    (row.opened)(n).into_iter().for_each(|setting| rust.set(setting));
+    (0..2).for_each(|k| rust.rebalance(k));
+    (row.setting)(n).into_iter().for_each(|setting| rust.set(setting));
+    let ours = port_ready(row, n, COSTS);
     let a = &ours.account;
     let figures = [a.cash(), a.last_rebalance_order_count() as i64, a.trimmed_fill_count() as i64];
     assert_eq!(rust.figures(), figures, "both are the same account");
-    ours.assert_same(row.call);
     Some((rust, ours))
 }
 
@@ -262,24 +282,54 @@ fn timed(row: &Row, n: usize) -> Option<[f64; 4]> {
     Some(times.map(median))
 }
 
-/// The same rebalances of 64 symbols, by turns bought and sold, in plain order and in cash-first mode: the Rust's, which has plain order
-/// alone, then the port's in either. Each order fills whole, so both leave the same.
-fn cash_first() -> Option<(f64, [[f64; 3]; 2])> {
-    let (rust, plain) = ready(&ROWS[0], PLACES)?;
-    let mut mode = plain.clone();
-    mode.set(Setting::CashFirst(true));
-    mode.assert_same(Call::Rebalance);
+/// Rebalances by the Rust, and by two of the port's accounts, in turn with each other; what the two leave is looked at.
+fn in_turn(rust: &Timed, accounts: [&Ours; 2], left: impl Fn([Account; 2])) -> (f64, [[f64; 3]; 2]) {
     let (mut theirs, mut ours) = (Vec::new(), [const { [const { Vec::new() }; 3] }; 2]);
     for _ in 0..BATCHES {
-        theirs.push(theirs_in(&rust, Call::Rebalance));
-        let [(in_order, left), (in_mode, mut other)] = [&plain, &mode].map(|ours| ours_in(ours, Call::Rebalance));
-        assert_eq!((left.last_rebalance_order_count(), left.trimmed_fill_count()), (PLACES as u64, 0));
-        assert!(other.set_cash_first(false).is_ok() && other == left, "both leave the same");
-        for (times, now) in ours.iter_mut().zip([in_order, in_mode]) {
+        theirs.push(theirs_in(rust, Call::Rebalance));
+        let batches = accounts.map(|ours| ours_in(ours, Call::Rebalance));
+        left(batches.map(|(_, account)| account));
+        for (times, (now, _)) in ours.iter_mut().zip(batches) {
             times.iter_mut().zip(now).for_each(|(times, time)| times.push(time));
         }
     }
-    Some((median(theirs), ours.map(|times| times.map(median))))
+    (median(theirs), ours.map(|times| times.map(median)))
+}
+
+/// The same rebalances of 64 symbols, by turns bought and sold, in plain order and in cash-first mode: the Rust's, which has plain order
+/// alone, then the port's in either. Each order fills whole, so both leave the same.
+fn cash_first() -> Option<(f64, [[f64; 3]; 2])> {
+    let (rust, plain) = ready(&FILLED, PLACES)?;
+    let mut mode = plain.clone();
+    mode.set(Setting::CashFirst(true));
+    mode.assert_same(Call::Rebalance);
+    Some(in_turn(&rust, [&plain, &mode], |[left, mut other]| {
+        assert_eq!((left.last_rebalance_order_count(), left.trimmed_fill_count()), (PLACES as u64, 0));
+        assert!(other.set_cash_first(false).is_ok() && other == left, "both leave the same");
+    }))
+}
+
+/// A row without a ceiling and with one.
+fn ceiling(row: &Row, n: usize, max_commission: i64) -> Option<(f64, [[f64; 3]; 2])> {
+    let (rust, plain) = ready(row, n)?;
+    let capped = port_ready(row, n, Costs { max_commission, ..COSTS });
+    assert_pays(&capped, max_commission);
+    let trims = [&plain, &capped].map(|ours| ours.account.trimmed_fill_count());
+    Some(in_turn(&rust, [&plain, &capped], |left| {
+        let [free, capped] = [0, 1].map(|k| left[k].trimmed_fill_count() - trims[k]);
+        assert_eq!(free, capped, "both trim as often");
+        assert!(free >= (CALLS * n / 2) as u64, "every buy is trimmed");
+    }))
+}
+
+/// Every fill of a rebalance, if there are any, costs the ceiling.
+fn assert_pays(ours: &Ours, max_commission: i64) {
+    let mut ours = ours.clone();
+    ours.set(Setting::Recording(true));
+    let before = ours.account.record_count();
+    ours.on_account(Call::Rebalance, 0);
+    let filled = (ours.account.record_count() - before) as usize;
+    assert!(ours.records[..filled].iter().all(|record| record.cost == max_commission));
 }
 
 /// A row's times, the port's each with its ratio to the Rust's.
@@ -304,7 +354,7 @@ pub fn run() -> bool {
             println!("{}", told(n, row.name, rust, ours));
         }
     }
-    run_cash_first()
+    run_cash_first() && run_ceiling()
 }
 
 /// Cash-first mode alone, beside plain order.
@@ -315,8 +365,30 @@ pub fn run_cash_first() -> bool {
     };
     println!("in turn with each other; the Rust has no cash-first mode, so its plain order stands beside both");
     println!("{}", told(PLACES, "plain order, filled", rust, plain));
-    let [direct, bytes, safe] = [0, 1, 2].map(|k| mode[k] / plain[k]);
+    let [direct, bytes, safe] = ratios(mode, plain);
     let beside = format!("; to the port's plain order {direct:.2}, {bytes:.2}, {safe:.2}");
     println!("{}{beside}", told(PLACES, "cash-first, filled", rust, mode));
+    true
+}
+
+fn ratios(times: [f64; 3], to: [f64; 3]) -> [f64; 3] {
+    [0, 1, 2].map(|k| times[k] / to[k])
+}
+
+/// Trims alone, without a ceiling and with one.
+pub fn run_ceiling() -> bool {
+    println!("in turn with each other; the Rust has no ceiling, so its trims without one stand beside both");
+    for n in [8, 32, PLACES] {
+        for (row, max_commission) in &CEILINGS {
+            let Some((rust, [plain, capped])) = ceiling(row, n, *max_commission) else {
+                println!("ceiling: SKIPPED, since nanobook's source is not at hand");
+                return true;
+            };
+            println!("{}", told(n, row.name, rust, plain));
+            let [direct, bytes, safe] = ratios(capped, plain);
+            let beside = format!("; to the port's without a ceiling {direct:.2}, {bytes:.2}, {safe:.2}");
+            println!("{}{beside}", told(n, "with a ceiling", rust, capped));
+        }
+    }
     true
 }

@@ -183,10 +183,44 @@ fn same(a: &Given, b: &Given) -> bool {
     bits(&a.returns) == bits(&b.returns) && bits(&a.rates) == bits(&b.rates) && doubles(a) == doubles(b)
 }
 
+/// What a run met.
+#[derive(Default)]
+struct Met {
+    answers: BTreeMap<u64, u64>,
+    /// Refusals where a spare word was not 0.
+    reserved: u64,
+    /// Openings refused with 1 and calls refused with 11 for the ceiling alone, and calls done under one.
+    ceilings: [u64; 3],
+}
+
+impl Met {
+    fn add(&mut self, entry: Entry, before: &Given, answer: u64) {
+        *self.answers.entry(answer % 256).or_default() += 1;
+        let (of, from) = if entry == Open { (&before.settings, 0) } else { (&before.account, layout::SETTINGS_FROM) };
+        let hit = reserved(of, from).into_iter().any(|place| word(of, place) != 0);
+        self.reserved += u64::from(hit && [1, 11].contains(&answer));
+        if ceiling_of(of, from).is_none_or(|place| word(of, place) == 0) {
+            return;
+        }
+        let alone = || expected(entry, &without_ceiling(before)) != answer;
+        match answer % 256 {
+            0 => self.ceilings[2] += 1,
+            1 if entry == Open && alone() => self.ceilings[0] += 1,
+            11 if alone() => self.ceilings[1] += 1,
+            _ => {}
+        }
+    }
+
+    fn all(&self) -> bool {
+        let reserves = [layout::SETTINGS, layout::COUNTERS].concat().iter().any(|row| row.kind == Kind::Reserved);
+        let answers = (0..=12).all(|number| self.answers.contains_key(&number));
+        answers && (self.reserved > 0 || !reserves) && self.ceilings.iter().all(|times| *times > 0)
+    }
+}
+
 pub fn run(seed: u64, count: u64) -> bool {
     let mut random = Random::new(seed);
-    let mut met: BTreeMap<u64, u64> = BTreeMap::new();
-    let (mut wrong, mut reserved_hit) = (0u64, 0u64);
+    let (mut met, mut wrong) = (Met::default(), 0u64);
     for _ in 0..count {
         let (mut good, rest) = played(&mut random);
         lists(&mut good, &rest);
@@ -198,11 +232,7 @@ pub fn run(seed: u64, count: u64) -> bool {
             spoil(&mut random, &mut given);
             let before = given.clone();
             let answer = call(entry, &mut given);
-            *met.entry(answer % 256).or_default() += 1;
-            let (of, from) =
-                if entry == Open { (&before.settings, 0) } else { (&before.account, layout::SETTINGS_FROM) };
-            let hit = reserved(of, from).into_iter().any(|place| word(of, place) != 0);
-            reserved_hit += u64::from(hit && [1, 11].contains(&answer));
+            met.add(entry, &before, answer);
             if answer % 256 != expected(entry, &before) || !kept(entry, &before, &given, answer) {
                 wrong += 1;
                 if wrong <= 3 {
@@ -211,16 +241,19 @@ pub fn run(seed: u64, count: u64) -> bool {
             }
         }
     }
-    let told: Vec<String> = met.iter().map(|(number, times)| format!("{number} {times} times")).collect();
-    let all = (0..=12).all(|number| met.contains_key(&number));
+    let told: Vec<String> = met.answers.iter().map(|(number, times)| format!("{number} {times} times")).collect();
     println!(
-        "damage: seed {seed}, {} calls at {} entries, {wrong} wrong; answers {}; a reserved word refused {reserved_hit} times",
+        "damage: seed {seed}, {} calls at {} entries, {wrong} wrong; answers {}; a reserved word refused {} times",
         count * 8,
         ENTRIES.len(),
-        told.join(", ")
+        told.join(", "),
+        met.reserved
     );
-    let reserves = [layout::SETTINGS, layout::COUNTERS].concat().iter().any(|row| row.kind == Kind::Reserved);
-    wrong == 0 && all && (reserved_hit > 0 || !reserves)
+    let [openings, calls, done] = met.ceilings;
+    println!(
+        "damage: for the ceiling alone 1 of an opening {openings} times, 11 of an account {calls} times; done under one {done}"
+    );
+    wrong == 0 && met.all()
 }
 
 /// The account of a scenario that was played for a while, and the call that comes next.
@@ -278,7 +311,7 @@ fn lists(given: &mut Given, step: &Step) {
 /// Nothing, or one to three things.
 fn spoil(random: &mut Random, g: &mut Given) {
     for _ in 0..random.below(4) {
-        match random.below(15) {
+        match random.below(16) {
             0 | 1 => damage(random, &mut g.account),
             2 => damage(random, &mut g.settings),
             3 => damage(random, &mut g.targets),
@@ -299,6 +332,8 @@ fn spoil(random: &mut Random, g: &mut Given) {
             12 => g.returns.push(random.f64()),
             13 if random.one_in(2) => reserve(random, &mut g.account, layout::SETTINGS_FROM),
             13 => reserve(random, &mut g.settings, 0),
+            14 if random.one_in(2) => limit(random, &mut g.account, layout::SETTINGS_FROM),
+            14 => limit(random, &mut g.settings, 0),
             _ => g.counts.truncate(random.below(8) as usize),
         }
     }
@@ -348,6 +383,44 @@ fn reserve(random: &mut Random, bytes: &mut [u8], settings: usize) {
         let at = layout::bytes_of(random.pick(&places), 1);
         bytes[at].copy_from_slice(&(1 + random.u64() % u64::MAX).to_le_bytes());
     }
+}
+
+/// The ceiling's place in an account, or in settings by themselves, which begin there.
+fn ceiling_of(bytes: &[u8], settings: usize) -> Option<usize> {
+    let place = settings + layout::Setting::MaxCommission as usize;
+    (layout::WORD_SIZE * (place + 1) <= bytes.len()).then_some(place)
+}
+
+/// A ceiling at the floor, above or below it, or any; or a floor above the ceiling.
+fn limit(random: &mut Random, bytes: &mut [u8], settings: usize) {
+    let Some(place) = ceiling_of(bytes, settings) else { return };
+    let floor = settings + layout::Setting::MinCommission as usize;
+    let least = word(bytes, floor) as i64;
+    let most = match random.below(6) {
+        0 => least,
+        1 => least.wrapping_sub(1),
+        2 => random.i64(),
+        3 => 1,
+        _ => least.saturating_add(1 + random.below(1_000) as i64),
+    };
+    put(bytes, place, most);
+    if random.one_in(6) {
+        put(bytes, floor, most.wrapping_add(1));
+    }
+}
+
+fn put(bytes: &mut [u8], place: usize, word: i64) {
+    bytes[layout::bytes_of(place, 1)].copy_from_slice(&word.to_le_bytes());
+}
+
+fn without_ceiling(given: &Given) -> Given {
+    let mut free = given.clone();
+    for (bytes, settings) in [(&mut free.account, layout::SETTINGS_FROM), (&mut free.settings, 0)] {
+        if let Some(place) = ceiling_of(bytes, settings) {
+            put(bytes, place, 0);
+        }
+    }
+    free
 }
 
 fn cut(random: &mut Random, bytes: &mut Vec<u8>) {

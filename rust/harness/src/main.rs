@@ -7,6 +7,7 @@ mod differ;
 mod direct;
 mod fills;
 mod leaf;
+mod model;
 mod played;
 mod port;
 mod sample;
@@ -19,7 +20,8 @@ mod values;
 const USAGE: &str =
     "usage: harness leaves [SEED [COUNT]] | fills [SEED [COUNT]] | single [SEED [COUNT]] | figures [SEED [COUNT]]
     | accounts [SEED [COUNT]] | damage [SEED [COUNT]] | full | bench | bench values | bench figures | bench accounts
-    | bench cash-first | scenarios [SEED [COUNT]] | spoiled [SEED [COUNT]] | cash-first [SEED [COUNT]] | stack | table
+    | bench cash-first | bench ceiling | scenarios [SEED [COUNT]] | spoiled [SEED [COUNT]] | cash-first [SEED [COUNT]]
+    | ceiling [SEED [COUNT]] | ceiling-fills [SEED [COUNT]] | stack | table
     | sample write FILE | sample check FILE | sample accounts write FILE | sample accounts check FILE";
 
 const SEED: u64 = 20261115;
@@ -38,11 +40,14 @@ fn main() {
         ["bench", "figures"] => series::bench(SEED),
         ["bench", "accounts"] => bench::run(),
         ["bench", "cash-first"] => bench::run_cash_first(),
+        ["bench", "ceiling"] => bench::run_ceiling(),
         ["accounts", ref rest @ ..] => seeded(rest, 8_000, account::run),
         ["damage", ref rest @ ..] => seeded(rest, 20_000, damage::run),
-        ["scenarios", ref rest @ ..] => seeded(rest, 1_000, account::emit),
-        ["spoiled", ref rest @ ..] => seeded(rest, 1_000, account::emit_spoiled),
-        ["cash-first", ref rest @ ..] => seeded(rest, 1_000, account::emit_cash_first),
+        ["scenarios", ref rest @ ..] => seeded(rest, 1_000, written(account::emit)),
+        ["spoiled", ref rest @ ..] => seeded(rest, 1_000, written(account::emit_spoiled)),
+        ["cash-first", ref rest @ ..] => seeded(rest, 1_000, written(account::emit_cash_first)),
+        ["ceiling", ref rest @ ..] => seeded(rest, 1_000, written(account::emit_ceiling)),
+        ["ceiling-fills", ref rest @ ..] => seeded(rest, 20_000, written(single::emit)),
         ["stack"] => stack::run(),
         ["table"] => table::run(),
         ["sample", "accounts", "write", path] => played::write(path),
@@ -57,13 +62,18 @@ fn main() {
 }
 
 /// A run by its seed and count, or by those that tools/test takes.
-fn seeded(words: &[&str], count: u64, run: fn(u64, u64) -> bool) -> bool {
+fn seeded(words: &[&str], count: u64, run: impl Fn(u64, u64) -> bool) -> bool {
     match words {
         [] => run(SEED, count),
         [seed] => run(number(seed), count),
         [seed, count] => run(number(seed), number(count)),
         _ => stop(USAGE),
     }
+}
+
+/// A run that writes text for the model, to standard output.
+fn written(run: model::Emit) -> impl Fn(u64, u64) -> bool {
+    move |seed, count| run(seed, count, &mut std::io::stdout().lock())
 }
 
 /// The same runs, eight times and more as long and with another seed.
@@ -74,7 +84,9 @@ fn full() -> bool {
     let figures = series::run(SEED + 1, 1_000_000);
     let accounts = account::run(SEED + 1, 90_000);
     let damage = damage::run(SEED + 1, 400_000);
-    leaves && fills && single && figures && accounts && damage
+    let ceiling = model::plays(&["compare.py", "ceiling"], account::emit_ceiling, SEED + 1, 25_000);
+    let ceiling_fills = model::plays(&["fills.py"], single::emit, SEED + 1, 1_000_000);
+    leaves && fills && single && figures && accounts && damage && ceiling && ceiling_fills
 }
 
 fn number(word: &str) -> u64 {

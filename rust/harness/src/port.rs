@@ -151,7 +151,7 @@ fn view(a: &Account) -> View {
 const ZEROS: View = View {
     cash: 0,
     settings: Settings {
-        costs: Costs { commission_bps: 0.0, slippage_bps: 0.0, min_commission: 0 },
+        costs: Costs { commission_bps: 0.0, slippage_bps: 0.0, min_commission: 0, max_commission: 0 },
         quantity_step: 0,
         min_order_value: 0,
         max_order_value: 0,
@@ -172,15 +172,15 @@ const ZEROS: View = View {
     positions: Vec::new(),
 };
 
-fn model(costs: Costs) -> CostModel {
-    let Costs { commission_bps, slippage_bps, min_commission } = costs;
-    CostModel { commission_bps, slippage_bps, min_commission }
+pub fn model(costs: Costs) -> CostModel {
+    let Costs { commission_bps, slippage_bps, min_commission, max_commission } = costs;
+    CostModel { commission_bps, slippage_bps, min_commission, max_commission }
 }
 
 fn settings(s: threshcoil::Settings) -> Settings {
-    let CostModel { commission_bps, slippage_bps, min_commission } = s.cost_model;
+    let CostModel { commission_bps, slippage_bps, min_commission, max_commission } = s.cost_model;
     Settings {
-        costs: Costs { commission_bps, slippage_bps, min_commission },
+        costs: Costs { commission_bps, slippage_bps, min_commission, max_commission },
         quantity_step: s.quantity_step,
         min_order_value: s.min_order_value,
         max_order_value: s.max_order_value,

@@ -1,8 +1,12 @@
 //! Single fills on an account of at most one position, fill after fill, beside nanobook's own `execute_fill`; and what the
-//! port must refuse.
+//! port must refuse. Without a ceiling here, with one in `ceiling`.
+
+mod ceiling;
+
+pub use ceiling::emit;
 
 use crate::fills::next;
-use crate::leaf::{are_good, costs_of, draw_costs, draw_symbol, is_sound, largest, need, paid};
+use crate::leaf::{are_good, asked_of_the_rust, costs_of, draw_costs, draw_symbol, is_sound, largest, need, paid};
 use oracle::{Ask, Filled, Single};
 use scenario::{Context, Costs, Kind, Random, Record, Symbol};
 use threshcoil_sys as port;
@@ -75,69 +79,116 @@ const CLASSES: &[Class] = &[
     ("stop exits", |c| c.record.is_some_and(|r| r.context.kind == Kind::StopExit)),
 ];
 
-/// Fills until `count` are compared. True where nothing differs, every class was met and every refusal was right.
+/// How fills are drawn and made by the port, and what they must meet.
+struct Run {
+    name: &'static str,
+    draw: fn(&mut Random, u64, Single) -> (Ask, Single),
+    fill: Fill,
+    classes: &'static [Class],
+}
+
+const PLAIN: Run = Run { name: "single", draw, fill: without_ceiling, classes: CLASSES };
+
+/// True where nothing differs, every class was met and every refusal was right.
 pub fn run(seed: u64, count: u64) -> bool {
+    let refused = || {
+        let plain = refusals("single", without_ceiling, Spoiled::draw, seed, count / 8);
+        plain && ceiling::refused(seed, count / 8)
+    };
     if !oracle::PRESENT {
         println!("single: SKIPPED, since nanobook's source is not at hand");
-        return refusals(seed, count / 8);
+        return refused();
     }
+    let plain = compared(&PLAIN, seed, count);
+    let ceilings = compared(&ceiling::RUN, seed, count / 2);
+    refused() && plain && ceilings
+}
+
+/// Fills until `count` are compared.
+fn compared(run: &Run, seed: u64, count: u64) -> bool {
+    let Run { name, classes, .. } = run;
     let mut random = Random::new(seed);
     let (mut differences, mut runs, mut endless, mut left) = (0, 0u64, 0u64, count);
-    let mut met = vec![0u64; CLASSES.len()];
+    let mut met = vec![0u64; classes.len()];
     while left > 0 {
         runs += 1;
         let sort = random.below(4);
         let mut account = Single::default();
         for _ in 0..(1 + random.below(24)).min(left) {
-            let (ask, before) = draw(&mut random, sort, account);
+            let (ask, before) = (run.draw)(&mut random, sort, account);
             let paid = paid(ask.costs, ask.quantity, ask.price);
             let need = need(ask.quantity, paid, ask.costs);
-            let Some(Filled { after, record }) = oracle::fill_alone(&ask, &before) else {
+            let Some(Filled { after, record }) = theirs(&ask, before, paid) else {
                 endless += 1;
-                differences += u64::from(!fills_by_the_rule(&ask, before, paid, need));
+                differences += u64::from(!fills_by_the_rule(run.fill, &ask, before, paid, need));
                 continue;
             };
             let case = Case { ask, before, after, record, paid, need };
-            differences += u64::from(!agrees(&case));
-            met.iter_mut().zip(CLASSES).for_each(|(met, (_, class))| *met += u64::from(class(&case)));
+            differences += u64::from(!agrees(run.fill, &case));
+            met.iter_mut().zip(*classes).for_each(|(met, (_, class))| *met += u64::from(class(&case)));
             account = after;
             left -= 1;
         }
     }
-    let said: Vec<String> = CLASSES.iter().zip(&met).map(|((name, _), n)| format!("{name} {n}")).collect();
-    println!("single: seed {seed}, {count} fills in {runs} runs, {differences} differences; {}", said.join(", "));
+    let said: Vec<String> = classes.iter().zip(&met).map(|((class, _), n)| format!("{class} {n}")).collect();
+    println!("{name}: seed {seed}, {count} fills in {runs} runs, {differences} differences; {}", said.join(", "));
     println!(
-        "single: left out, since nanobook may not end (request 2^63 - 1, step 1), and held to the rule: {endless}"
+        "{name}: left out, since nanobook may not end (request 2^63 - 1, step 1), and held to the rule: {endless}"
     );
-    refusals(seed, count / 8) && differences == 0 && endless > 0 && met.iter().all(|n| *n > 0)
+    differences == 0 && endless > 0 && met.iter().all(|n| *n > 0)
+}
+
+/// Nanobook's own fill, under costs that charge the same without a ceiling.
+fn theirs(ask: &Ask, before: Single, paid: i64) -> Option<Filled> {
+    let costs = asked_of_the_rust(ask.costs, port::tc_notional_of(ask.quantity, paid)).expect("a run asks no other");
+    oracle::fill_alone(&Ask { costs, ..*ask }, &before)
 }
 
 /// What stands in a record's places before a fill, so that a place written or left shows.
 const WORD: u64 = 0x5a5a_5a5a_5a5a_5a5a;
 const INT: i64 = -0x5a5a_5a5a_5a5a_5a5a;
 
+/// Money, tallies, words and ints, as they are lent.
+type Lent<'a> = (&'a mut [i64], &'a mut [u64], &'a mut [u64], &'a mut [i64]);
+
+/// A fill by the port: what is asked, the kind and the symbol as they go over, and what is lent.
+type Fill = fn(&Ask, u64, u64, Lent) -> u64;
+
+fn without_ceiling(ask: &Ask, kind: u64, symbol: u64, (money, tallies, words, ints): Lent) -> u64 {
+    let Costs { commission_bps: c, slippage_bps: s, min_commission: m, .. } = ask.costs;
+    let Ask { quantity_step, context, quantity, price, .. } = *ask;
+    port::tc_fill(c, s, m, quantity_step, context.period, kind, symbol, quantity, price, money, tallies, words, ints)
+}
+
+fn with_ceiling(ask: &Ask, kind: u64, symbol: u64, (money, tallies, words, ints): Lent) -> u64 {
+    let Costs { commission_bps: c, slippage_bps: s, min_commission: m, max_commission: x } = ask.costs;
+    let Ask { quantity_step: step, context, quantity, price, .. } = *ask;
+    port::tc_fill_with_ceiling(
+        c,
+        s,
+        m,
+        x,
+        step,
+        context.period,
+        kind,
+        symbol,
+        quantity,
+        price,
+        money,
+        tallies,
+        words,
+        ints,
+    )
+}
+
 /// What the port returns, the account after it, and the record's places, with one place more that it must leave.
-fn ours(ask: &Ask, before: Single) -> (u64, Single, [u64; 5], [i64; 9]) {
-    let Costs { commission_bps, slippage_bps, min_commission } = ask.costs;
+fn ours(fill: Fill, ask: &Ask, before: Single) -> (u64, Single, [u64; 5], [i64; 9]) {
     let [quantity, average, realized, total] = before.position;
     let mut money = [before.cash, before.shortfall, quantity, average, realized, total];
     let mut tallies = [before.trimmed, before.records];
     let (mut words, mut ints) = ([WORD; 5], [INT; 9]);
-    let answer = port::tc_fill(
-        commission_bps,
-        slippage_bps,
-        min_commission,
-        ask.quantity_step,
-        ask.context.period,
-        ask.context.kind as u64,
-        u64::from_be_bytes(ask.symbol.0),
-        ask.quantity,
-        ask.price,
-        &mut money,
-        &mut tallies,
-        &mut words,
-        &mut ints,
-    );
+    let lent: Lent = (&mut money, &mut tallies, &mut words, &mut ints);
+    let answer = fill(ask, ask.context.kind as u64, u64::from_be_bytes(ask.symbol.0), lent);
     let [cash, shortfall, position @ ..] = money;
     let [trimmed, records] = tallies;
     (answer, Single { cash, shortfall, position, trimmed, records }, words, ints)
@@ -157,8 +208,8 @@ fn done(recorded: bool) -> u64 {
     u64::from(recorded) << 8
 }
 
-fn agrees(case: &Case) -> bool {
-    let (answer, after, words, ints) = ours(&case.ask, case.before);
+fn agrees(fill: Fill, case: &Case) -> bool {
+    let (answer, after, words, ints) = ours(fill, &case.ask, case.before);
     let same = answer == done(case.record.is_some()) && after == case.after && (words, ints) == places(case.record);
     if !same {
         let Case { ask, before, after: theirs, record, .. } = case;
@@ -170,10 +221,10 @@ fn agrees(case: &Case) -> bool {
 }
 
 /// A fill that nanobook is not asked: the whole request where its need fits, else the largest step multiple that fits.
-fn fills_by_the_rule(ask: &Ask, before: Single, paid: i64, need: i64) -> bool {
+fn fills_by_the_rule(fill: Fill, ask: &Ask, before: Single, paid: i64, need: i64) -> bool {
     let largest = || largest(ask.quantity, before.cash, ask.quantity_step, paid, ask.costs);
     let expected = if need <= before.cash { ask.quantity } else { largest() };
-    let (answer, after, _, ints) = ours(ask, before);
+    let (answer, after, _, ints) = ours(fill, ask, before);
     let filled = if after.cash == before.cash && ints[0] == INT { 0 } else { ints[0] };
     let same = answer == done(expected != 0) && filled == expected;
     if !same {
@@ -197,7 +248,7 @@ fn costs(random: &mut Random) -> Costs {
         4 => (random.i64() & i64::MAX) >> random.below(40),
         _ => random.i64() & i64::MAX,
     };
-    Costs { commission_bps, slippage_bps, min_commission }
+    Costs { commission_bps, slippage_bps, min_commission, max_commission: 0 }
 }
 
 /// A fill of any size on the account, with cash about what it needs.
@@ -291,43 +342,28 @@ impl Spoiled {
     }
 
     /// Whether the port answers with that number and leaves all as found.
-    fn is_refused_with(&self, expected: u64) -> bool {
-        let Ask { costs, quantity_step, context, quantity, price, .. } = self.ask;
+    fn is_refused_with(&self, fill: Fill, expected: u64) -> bool {
         let (mut money, mut tallies) = (self.money.clone(), self.tallies.clone());
         let (mut words, mut ints) = (self.words.clone(), self.ints.clone());
-        let answer = port::tc_fill(
-            costs.commission_bps,
-            costs.slippage_bps,
-            costs.min_commission,
-            quantity_step,
-            context.period,
-            self.kind,
-            self.symbol,
-            quantity,
-            price,
-            &mut money,
-            &mut tallies,
-            &mut words,
-            &mut ints,
-        );
+        let answer = fill(&self.ask, self.kind, self.symbol, (&mut money, &mut tallies, &mut words, &mut ints));
         let left = money == self.money && tallies == self.tallies && words == self.words && ints == self.ints;
         answer == expected && left
     }
 }
 
-fn refusals(seed: u64, count: u64) -> bool {
+fn refusals(run: &str, fill: Fill, draw: fn(&mut Random) -> Spoiled, seed: u64, count: u64) -> bool {
     let mut random = Random::new(!seed);
     let mut wrong = 0u64;
     let mut met = [(11, 0u64), (1, 0), (4, 0), (8, 0)];
     for _ in 0..count {
-        let spoiled = Spoiled::draw(&mut random);
+        let spoiled = draw(&mut random);
         let expected = spoiled.refusal();
         if expected > 0 {
-            wrong += u64::from(!spoiled.is_refused_with(expected));
+            wrong += u64::from(!spoiled.is_refused_with(fill, expected));
             met.iter_mut().filter(|(answer, _)| *answer == expected).for_each(|(_, n)| *n += 1);
         }
     }
     let said: Vec<String> = met.iter().map(|(answer, n)| format!("{answer}: {n}")).collect();
-    println!("single: refused and left as found, by answer: {}; {wrong} wrong", said.join(", "));
+    println!("{run}: refused and left as found, by answer: {}; {wrong} wrong", said.join(", "));
     wrong == 0 && met.iter().all(|(_, n)| *n > 0)
 }

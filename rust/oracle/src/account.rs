@@ -13,8 +13,10 @@ pub struct Nanobook {
     recorded_before: u64,
 }
 
+/// The Rust has no ceiling, so it is asked of costs without one alone.
 pub fn model(costs: Costs) -> CostModel {
-    let Costs { commission_bps, slippage_bps, min_commission } = costs;
+    let Costs { commission_bps, slippage_bps, min_commission, max_commission } = costs;
+    assert_eq!(max_commission, 0, "no oracle for a ceiling");
     CostModel { commission_bps, slippage_bps, min_commission }
 }
 
@@ -70,7 +72,7 @@ impl Nanobook {
         let a = &self.account;
         let CostModel { commission_bps, slippage_bps, min_commission } = *a.cost_model();
         Settings {
-            costs: Costs { commission_bps, slippage_bps, min_commission },
+            costs: Costs { commission_bps, slippage_bps, min_commission, max_commission: 0 },
             quantity_step: a.quantity_step(),
             min_order_value: a.min_order_value(),
             max_order_value: a.max_order_value(),

@@ -22,9 +22,10 @@ impl Timed {
         Some(Timed { account, targets, prices: account::named(prices) })
     }
 
-    /// A setting that is timed: the band, the trade cap or recording.
+    /// A setting that is timed: the order maximum, the band, the trade cap or recording.
     pub fn set(&mut self, setting: Setting) {
         match setting {
+            Setting::MaxOrderValue(n) => self.account.set_max_order_value(n),
             Setting::NoTradeBandBps(x) => self.account.set_no_trade_band_bps(x),
             Setting::MaxTrades(cap) => self.account.set_max_trades_per_rebalance(cap.map(|n| n as usize)),
             Setting::Recording(on) => probe::set_recording(&mut self.account, on),

@@ -9,7 +9,7 @@ fn nanobook() -> Leaves {
 }
 
 fn costs(commission_bps: f64, min_commission: i64) -> Costs {
-    Costs { commission_bps, slippage_bps: 0.0, min_commission }
+    Costs { commission_bps, slippage_bps: 0.0, min_commission, max_commission: 0 }
 }
 
 #[test]

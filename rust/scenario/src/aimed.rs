@@ -2,7 +2,7 @@
 
 use crate::{Context, Costs, Kind, Opening, Prices, Random, Scenario, Setting, Step, Symbol, Targets};
 
-const FREE: Costs = Costs { commission_bps: 0.0, slippage_bps: 0.0, min_commission: 0 };
+const FREE: Costs = Costs { commission_bps: 0.0, slippage_bps: 0.0, min_commission: 0, max_commission: 0 };
 const AIMS: [fn(&mut Random) -> Scenario; 10] =
     [bands, drifts, limits, spent, cut, ties, high_prices, far_ends, worthless, floors];
 

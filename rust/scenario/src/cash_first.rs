@@ -65,7 +65,7 @@ fn costs(random: &mut Random) -> Costs {
         4 => (0.0, 0.0, 0),
         _ => (few, if random.one_in(4) { 10_000.0 } else { few }, 0),
     };
-    Costs { commission_bps, slippage_bps, min_commission }
+    Costs { commission_bps, slippage_bps, min_commission, max_commission: 0 }
 }
 
 /// Up to 64 symbols in any order.

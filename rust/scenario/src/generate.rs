@@ -95,7 +95,7 @@ fn costs(random: &mut Random, temper: Temper) -> Costs {
         _ => random.below(200) as i64,
     };
     let fair = |x: f64| if x.is_finite() { x } else { 0.0 };
-    Costs { commission_bps: fair(rate), slippage_bps: fair(impact), min_commission }
+    Costs { commission_bps: fair(rate), slippage_bps: fair(impact), min_commission, max_commission: 0 }
 }
 
 fn setting(random: &mut Random, temper: Temper) -> Setting {

@@ -3,14 +3,16 @@
 
 mod aimed;
 mod cash_first;
+mod ceiling;
 mod covered;
 mod generate;
 mod plan;
 mod random;
 mod spoil;
-mod text;
+pub mod text;
 
 pub use cash_first::cash_first;
+pub use ceiling::ceiling;
 pub use covered::Covered;
 pub use generate::{ordinary, scenario};
 pub use random::Random;
@@ -26,6 +28,8 @@ pub struct Costs {
     pub commission_bps: f64,
     pub slippage_bps: f64,
     pub min_commission: i64,
+    /// The ceiling of a fill's commission, 0 for none.
+    pub max_commission: i64,
 }
 
 #[derive(Clone, Copy, Debug, PartialEq)]

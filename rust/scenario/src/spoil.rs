@@ -22,16 +22,26 @@ pub fn spoiled(random: &mut Random, mut scenario: Scenario) -> Scenario {
 
 fn spoil_opening(random: &mut Random, scenario: &mut Scenario) {
     let opening = &mut scenario.opening;
-    match random.below(5) {
+    match random.below(6) {
         0 => opening.cash = negative(random),
         1 => opening.costs.commission_bps = random.pick(&BAD_RATES),
         2 => opening.costs.slippage_bps = random.pick(&[10_000.000000000002, -1.0, f64::NAN, f64::INFINITY]),
         3 => opening.costs.min_commission = negative(random),
+        4 => opening.costs.max_commission = bad_ceiling(random, opening.costs.min_commission),
         _ => opening.equity_places = 0,
     }
 }
 
 const BAD_RATES: [f64; 5] = [-1.0, -f64::MIN_POSITIVE, f64::NAN, f64::INFINITY, f64::NEG_INFINITY];
+
+/// Below the floor, and not 0.
+pub fn bad_ceiling(random: &mut Random, floor: i64) -> i64 {
+    match random.below(3) {
+        0 if floor > 1 => floor - 1,
+        1 if floor > 1 => 1 + random.below(floor as u64 - 1) as i64,
+        _ => negative(random),
+    }
+}
 
 fn negative(random: &mut Random) -> i64 {
     -1 - (random.u64() >> 1) as i64

@@ -74,7 +74,7 @@ fn reply(r: &Reply) -> String {
     }
 }
 
-fn record(r: &Record) -> String {
+pub fn record(r: &Record) -> String {
     let figures = [r.quantity, r.price, r.reference_price, r.notional, r.reference_notional];
     let cash = [r.cost, r.cash_delta, r.cash_after];
     let numbers = spaced(figures.iter().chain(&cash));
@@ -99,15 +99,15 @@ fn settings(s: &Settings) -> String {
     format!("{} {limits} {} {caps} {modes}", costs(&s.costs), bits(s.no_trade_band_bps))
 }
 
-fn costs(c: &Costs) -> String {
-    format!("{} {} {}", bits(c.commission_bps), bits(c.slippage_bps), c.min_commission)
+pub fn costs(c: &Costs) -> String {
+    format!("{} {} {} {}", bits(c.commission_bps), bits(c.slippage_bps), c.min_commission, c.max_commission)
 }
 
 fn held(p: &Held) -> String {
     format!("{} {} {} {} {}", name(&p.symbol), p.quantity, p.avg_entry_price, p.realized_pnl, p.total_cost)
 }
 
-fn context(c: &Context) -> String {
+pub fn context(c: &Context) -> String {
     let kind = match c.kind {
         Kind::Rebalance => "rebalance",
         Kind::StopExit => "stop_exit",
@@ -116,7 +116,7 @@ fn context(c: &Context) -> String {
 }
 
 /// A symbol's bytes are 33 to 126 and may hold any mark, so they too are written as hexadecimal digits.
-fn name(s: &Symbol) -> String {
+pub fn name(s: &Symbol) -> String {
     format!("{:016x}", u64::from_be_bytes(s.0))
 }
 

@@ -139,7 +139,7 @@ fn good_settings(words: &[u64]) -> bool {
     are_good(words, layout::SETTINGS)
 }
 
-/// Whether each word is what its row of the table lets it be.
+/// Whether each word is what its row of the table lets it be. A ceiling has no setter, so that its floor is among the words.
 fn are_good(words: &[u64], rows: &[Word]) -> bool {
     rows.iter().enumerate().all(|(i, row)| match row.kind {
         Kind::Rate(most) => (0.0..=most).contains(&f64::from_bits(words[i])),
@@ -147,6 +147,7 @@ fn are_good(words: &[u64], rows: &[Word]) -> bool {
         Kind::Count => true,
         Kind::Flag => words[i] < 2,
         Kind::Mark => words[i] == 1 || words[i..i + 2] == [0, 0],
+        Kind::Ceiling(floor) => words[i] == 0 || words[i] as i64 >= words[floor] as i64,
         Kind::Reserved => words[i] == 0,
     })
 }

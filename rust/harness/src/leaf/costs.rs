@@ -1,7 +1,7 @@
 //! Commission and slippage.
 
 use super::Kind::{Bool, F64, I64};
-use super::{Class, Inputs, Leaf, PLAIN};
+use super::{Class, Inputs, Leaf, PLAIN, padded};
 use scenario::{Costs, Random};
 use threshcoil_sys as port;
 
@@ -49,12 +49,25 @@ pub fn costs(words: [u64; 3]) -> Costs {
         commission_bps: f64::from_bits(words[0]),
         slippage_bps: f64::from_bits(words[1]),
         min_commission: words[2] as i64,
+        max_commission: 0,
     }
 }
 
 pub fn are_good(c: Costs) -> bool {
     let rate = c.commission_bps.is_finite() && c.commission_bps >= 0.0;
-    rate && (0.0..=10_000.0).contains(&c.slippage_bps) && c.min_commission >= 0
+    let ceiling = c.max_commission == 0 || c.max_commission >= c.min_commission;
+    rate && (0.0..=10_000.0).contains(&c.slippage_bps) && c.min_commission >= 0 && ceiling
+}
+
+/// What a fill is charged, in Rust's own arithmetic.
+pub fn charged(c: Costs, notional: i64) -> i64 {
+    let rate = (notional.unsigned_abs() as f64 * c.commission_bps / 10_000.0).round() as i64;
+    lesser(rate.max(c.min_commission), c.max_commission)
+}
+
+/// "the lesser of today's commission and the ceiling", "0 meaning none"
+pub fn lesser(today: i64, ceiling: i64) -> i64 {
+    if ceiling == 0 { today } else { today.min(ceiling) }
 }
 
 fn first(i: &Inputs) -> Costs {
@@ -77,10 +90,7 @@ pub const LEAVES: &[Leaf] = &[
         number: 41,
         takes: &[F64, F64, I64],
         gives: Bool,
-        draw: Some(|random| {
-            let [c, s, m] = draw(random);
-            [c, s, m, 0, 0, 0, 0]
-        }),
+        draw: Some(|random| padded(draw(random))),
         port: |i| u64::from(port::tc_good_costs(f64::from_bits(i[0]), f64::from_bits(i[1]), i[2] as i64)),
         rust: Some(|i| u64::from(are_good(first(i)))),
         classes: &[("good", |_, r| r == 1), ("bad", |_, r| r == 0)],
@@ -93,7 +103,7 @@ pub const LEAVES: &[Leaf] = &[
         gives: I64,
         draw: Some(|random| {
             let [c, s, m] = draw(random);
-            [c, s, m, random.i64() as u64, 0, 0, 0]
+            padded([c, s, m, random.i64() as u64])
         }),
         port: |i| port::tc_compute_cost(f64::from_bits(i[0]), f64::from_bits(i[1]), i[2] as i64, i[3] as i64) as u64,
         nanobook: Some(|n, i| (n.compute_cost)(first(i), i[3] as i64) as u64),
@@ -107,7 +117,7 @@ pub const LEAVES: &[Leaf] = &[
         gives: I64,
         draw: Some(|random| {
             let [c, s, m] = draw(random);
-            [c, s, m, random.i64() as u64, random.i64() as u64, 0, 0]
+            padded([c, s, m, random.i64() as u64, random.i64() as u64])
         }),
         port: |i| {
             let [c, s] = [i[0], i[1]].map(f64::from_bits);

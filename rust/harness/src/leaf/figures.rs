@@ -1,16 +1,16 @@
 //! The figures of a short return series: how many returns there are, then up to six of them. Long ones are in `series`.
 
 use super::Kind::{F64, Figure, U64};
-use super::{Class, Inputs, Kind, Leaf, PLAIN};
+use super::{Class, Inputs, Kind, Leaf, PLAIN, padded};
 use scenario::Random;
 use threshcoil_sys as port;
 
 const SERIES: &[Kind] = &[U64, F64, F64, F64, F64, F64, F64];
 
 fn draw(random: &mut Random) -> Inputs {
-    let mut inputs = [random.below(7), 0, 0, 0, 0, 0, 0];
+    let mut inputs = padded([random.below(7)]);
     let plain = random.below(3) > 0;
-    for word in &mut inputs[1..] {
+    for word in &mut inputs[1..7] {
         let spread = (random.below(1 << 30) as f64 / (1u64 << 29) as f64 - 1.0) * 0.1;
         *word = if plain { spread } else { random.f64() }.to_bits();
     }

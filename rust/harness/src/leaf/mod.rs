@@ -3,6 +3,7 @@
 //! Numbers of every kind travel as their 64 bits, so that one run serves all leaves. A leaf that gives several numbers
 //! stands here once for each of them.
 
+mod ceilings;
 mod costs;
 mod doubles;
 mod figures;
@@ -11,7 +12,8 @@ mod shares;
 mod sizes;
 mod wide;
 
-pub use costs::{are_good, costs as costs_of, draw as draw_costs, paid};
+pub use ceilings::{asked_of_the_rust, ceiling as draw_ceiling};
+pub use costs::{are_good, charged, costs as costs_of, draw as draw_costs, paid};
 pub use figures::expected as expected_figures;
 pub use positions::{Numbers, is_sound, refusal, symbol as draw_symbol};
 pub use sizes::{largest, need};
@@ -31,7 +33,14 @@ pub enum Kind {
     Figure,
 }
 
-pub type Inputs = [u64; 7];
+pub type Inputs = [u64; 8];
+
+/// Inputs that are 0 after these.
+fn padded<const N: usize>(words: [u64; N]) -> Inputs {
+    let mut inputs = Inputs::default();
+    inputs[..N].copy_from_slice(&words);
+    inputs
+}
 
 /// Something that an input or its answer may be, and that a run must have met.
 pub type Class = (&'static str, fn(&Inputs, u64) -> bool);
@@ -41,7 +50,7 @@ pub type LeftOut = (&'static str, fn(&Inputs) -> bool);
 
 pub struct Leaf {
     pub name: &'static str,
-    /// Its number in the stored sample, which the crate replay knows it by.
+    /// Its number in the stored sample, which the crate replay knows it by; 0 where it stands outside it.
     pub number: u64,
     pub takes: &'static [Kind],
     pub gives: Kind,
@@ -98,11 +107,16 @@ impl Leaf {
     }
 }
 
-/// Every leaf, group by group.
-pub fn all() -> impl Iterator<Item = &'static Leaf> {
+/// The leaves of the stored sample, group by group.
+pub fn sampled() -> impl Iterator<Item = &'static Leaf> {
     [shares::LEAVES, wide::LEAVES, doubles::LEAVES, costs::LEAVES, positions::LEAVES, sizes::LEAVES, figures::LEAVES]
         .into_iter()
         .flatten()
+}
+
+/// Every leaf: after those of the sample the ones that take a ceiling, which the Rust lacks.
+pub fn all() -> impl Iterator<Item = &'static Leaf> {
+    sampled().chain(ceilings::LEAVES)
 }
 
 pub const CLAMPED: &[Class] = &[

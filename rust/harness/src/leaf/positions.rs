@@ -1,7 +1,7 @@
 //! A position as numbers: its symbol, then quantity, average, realized profit and total cost.
 
 use super::Kind::{Bool, I64, U64};
-use super::{CLAMPED, Class, Inputs, Kind, Leaf, PLAIN};
+use super::{CLAMPED, Class, Inputs, Kind, Leaf, PLAIN, padded};
 use oracle::Leaves;
 use scenario::Random;
 use threshcoil_sys as port;
@@ -70,7 +70,7 @@ fn draw(random: &mut Random) -> Inputs {
     let quantity = if random.one_in(4) { numbers[0].saturating_neg() } else { random.i64() };
     let price = if random.one_in(8) { random.i64() } else { random.i64() & i64::MAX };
     let [q, a, r, t] = numbers.map(|n| n as u64);
-    [symbol, q, a, r, t, quantity as u64, price as u64]
+    padded([symbol, q, a, r, t, quantity as u64, price as u64])
 }
 
 fn numbers(i: &Inputs) -> Numbers {
@@ -133,7 +133,7 @@ pub const LEAVES: &[Leaf] = &[
         number: 51,
         takes: &[U64],
         gives: Bool,
-        draw: Some(|random| [symbol(random), 0, 0, 0, 0, 0, 0]),
+        draw: Some(|random| padded([symbol(random)])),
         port: |i| u64::from(port::tc_good_symbol(i[0])),
         rust: Some(|i| u64::from(is_good(i[0]))),
         classes: &[

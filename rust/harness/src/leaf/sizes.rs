@@ -1,18 +1,18 @@
 //! Notional, size, truncation and drift of an order, and the cash that a buy needs.
 
 use super::Kind::{F64, I64};
-use super::{Class, Inputs, Leaf, PLAIN, costs};
+use super::{Class, Inputs, Leaf, PLAIN, costs, padded};
 use scenario::{Costs, Random};
 use threshcoil_sys as port;
 
 /// The steps that nanobook names: continuous, two brokers' minimums, whole shares.
 const STEPS: [i64; 4] = [1, 100, 1_000, 1_000_000];
 
-fn step(random: &mut Random) -> i64 {
+pub fn step(random: &mut Random) -> i64 {
     if random.one_in(6) { random.i64() } else { random.pick(&STEPS) }
 }
 
-fn price(random: &mut Random) -> i64 {
+pub fn price(random: &mut Random) -> i64 {
     if random.one_in(8) { random.i64() } else { random.i64() & i64::MAX }
 }
 
@@ -39,8 +39,7 @@ pub fn need(requested: i64, price: i64, c: Costs) -> i64 {
         return 0;
     }
     let notional = (i128::from(requested) * i128::from(price) / 1_000_000).min(i64::MAX as i128) as i64;
-    let commission = (notional.unsigned_abs() as f64 * c.commission_bps / 10_000.0).round() as i64;
-    notional.saturating_add(commission.max(c.min_commission))
+    notional.saturating_add(costs::charged(c, notional))
 }
 
 /// "the largest step multiple, not above the request, whose need fits cash": halved for over unsigned counts of steps, so
@@ -73,7 +72,7 @@ fn affordable(random: &mut Random) -> Inputs {
         2 => floor as i64 + random.below(1_000) as i64 % 1_000,
         _ => (whole as f64 * (random.below(1 << 20) as f64 / (1 << 20) as f64)) as i64,
     };
-    [requested as u64, cash as u64, step(random) as u64, price as u64, c, s, floor]
+    padded([requested as u64, cash as u64, step(random) as u64, price as u64, c, s, floor])
 }
 
 pub const LEAVES: &[Leaf] = &[
@@ -97,7 +96,7 @@ pub const LEAVES: &[Leaf] = &[
         number: 62,
         takes: &[I64, I64, I64],
         gives: I64,
-        draw: Some(|random| [random.i64() as u64, price(random) as u64, step(random) as u64, 0, 0, 0, 0]),
+        draw: Some(|random| padded([random.i64() as u64, price(random) as u64, step(random) as u64])),
         port: |i| port::tc_size_qty(i[0] as i64, i[1] as i64, i[2] as i64) as u64,
         nanobook: Some(|n, i| (n.size_qty)(i[0] as i64, i[1] as i64, i[2] as i64) as u64),
         classes: BY_STEP,
@@ -109,7 +108,7 @@ pub const LEAVES: &[Leaf] = &[
         takes: &[I64, I64, I64, I64],
         gives: I64,
         draw: Some(|random| {
-            [random.i64() as u64, price(random) as u64, step(random) as u64, price(random) as u64, 0, 0, 0]
+            padded([random.i64() as u64, price(random) as u64, step(random) as u64, price(random) as u64])
         }),
         port: |i| port::tc_truncate_qty_to_max_value(i[0] as i64, i[1] as i64, i[2] as i64, i[3] as i64) as u64,
         nanobook: Some(|n, i| (n.truncate_qty_to_max_value)(i[0] as i64, i[1] as i64, i[2] as i64, i[3] as i64) as u64),
@@ -138,7 +137,7 @@ pub const LEAVES: &[Leaf] = &[
         gives: I64,
         draw: Some(|random| {
             let [c, s, m] = costs::draw(random);
-            [random.i64() as u64, price(random) as u64, c, s, m, 0, 0]
+            padded([random.i64() as u64, price(random) as u64, c, s, m])
         }),
         port: |i| {
             let [c, s] = [i[2], i[3]].map(f64::from_bits);

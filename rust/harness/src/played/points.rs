@@ -10,7 +10,7 @@ pub fn prices(list: &[(u8, i64)]) -> Prices {
     list.iter().map(|(s, price)| (symbol(*s), *price)).collect()
 }
 
-pub const FREE: Costs = Costs { commission_bps: 0.0, slippage_bps: 0.0, min_commission: 0 };
+pub const FREE: Costs = Costs { commission_bps: 0.0, slippage_bps: 0.0, min_commission: 0, max_commission: 0 };
 const CONTEXT: Context = Context { period: 1, kind: Kind::Rebalance };
 
 /// A rebalance: symbols with their weights, and with their prices.
@@ -217,7 +217,7 @@ fn fills(k: i64) -> Vec<Scenario> {
         // Half cents: commissions of 2.5 and 0.5, prices of 12.5 and 1.5 after slippage.
         opened(
             10_000 * k,
-            Costs { commission_bps: 5.0, slippage_bps: 2_500.0, min_commission: 0 },
+            Costs { commission_bps: 5.0, slippage_bps: 2_500.0, ..FREE },
             vec![
                 set(Recording(true)),
                 rebalance(&[(b'A', 0.5), (b'B', -0.1)], &[(b'A', 10 * k), (b'B', 2)]),

@@ -218,7 +218,7 @@ fn at_bounds(k: i64) -> Option<Vec<Row>> {
 
 /// Openings that are refused, "all zeros", and one at the bound of slippage.
 fn openings(k: i64) -> Option<Vec<Row>> {
-    let widest = Costs { commission_bps: 0.5, slippage_bps: 10_000.0, min_commission: 0 };
+    let widest = Costs { commission_bps: 0.5, slippage_bps: 10_000.0, ..FREE };
     let steps = vec![rebalance(&[(b'A', 0.25), (b'B', -0.25)], &AT), Step::Position(symbol(b'B'))];
     let (mut all, _) = played(&opened(100_000 * k, widest, steps))?;
     let settings = scenario::Settings {
