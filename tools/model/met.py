@@ -76,10 +76,10 @@ def each(account, orders, planned, met):
         met["orders that a cap puts into their group"] += lowers(costs, planned[order.symbol]) != (change < 0)
 
 
-def told(run, names, met, count, of="scenarios"):
+def told(run, names, met, count, least="ten times in 1,000 scenarios", times=10):
     """Tells how often each was met, and what was met too seldom, and returns the latter."""
-    missed = [name for name in names if met[name] * 100 < count]
+    missed = [name for name in names if met[name] * 1_000 < count * times]
     print(f"{run}: " + ", ".join(f"{name} {met[name]}" for name in names))
     if missed:
-        print(f"{run}: met fewer than ten times in 1,000 {of}: {', '.join(missed)}")
+        print(f"{run}: met fewer than {least}: {', '.join(missed)}")
     return missed

@@ -5,7 +5,7 @@ from dataclasses import replace
 import met
 import model
 
-# A run of scenarios must meet each ten times in 1,000 of them, a run of single fills those of fills in 1,000 fills.
+# A run of scenarios must meet each ten times in 1,000 of them, a run of single fills those of a fill once in 1,000.
 FILLS = [
     "buys that pay the ceiling",
     "sales that pay the ceiling",

@@ -12,8 +12,8 @@ const BPS_10: u64 = 0x4024_0000_0000_0000;
 const BPS_1000: u64 = 0x408f_4000_0000_0000;
 const AAPL: u64 = u64::from_be_bytes(*b"AAPL\0\0\0\0");
 
-/// Document 01's cases a to d, h, i, j and k where one call shows them, and the casts and roundings at which a plain
-/// program slips.
+/// Document 01's cases a to d, h, i, j and k where one call shows them, b and d again under document 02's ceiling, and the casts and
+/// roundings at which a plain program slips.
 const ROWS: &[(&str, &[u64])] = &[
     ("tc_value", &[1, 999_999]),
     ("tc_value", &[1, 1_000_000]),
@@ -23,6 +23,9 @@ const ROWS: &[(&str, &[u64])] = &[
     ("tc_compute_cost", &[BPS_1000, BPS_0, 0, 5]),
     ("tc_compute_cost", &[BPS_1000, BPS_0, 0, 4]),
     ("tc_largest_affordable_buy_qty", &[100_000_000, 100_000, 1_000_000, 1_000, BPS_10, BPS_0, 100]),
+    ("tc_compute_cost_with_ceiling", &[BPS_10, BPS_0, 100, 100, 1_000_000]),
+    ("tc_compute_cost_with_ceiling", &[BPS_10, BPS_0, 100, 100, 10_000]),
+    ("tc_largest_affordable_buy_qty_with_ceiling", &[100_000_000, 100_050, 1_000_000, 1_000, BPS_10, BPS_0, 0, 50]),
     ("tc_size_qty", &[1_999, 1_000, 1_000_000]),
     ("tc_size_qty", &[signed(-1_999), 1_000, 1_000_000]),
     ("tc_size_qty", &[1_999, 1_000, 1_000]),

@@ -51,20 +51,20 @@ const CLASSES: &[Class] = &[
     ("just at the request's commission", |c| c.not_reached() && c.today() == c.ceiling()),
     ("whole buys, not reached", |c| c.not_reached() && c.buys() && !c.trimmed()),
     ("trimmed to a part, not reached", |c| c.not_reached() && c.trimmed() && c.record.is_some()),
-    ("to nothing", |c| c.not_reached() && c.trimmed() && c.record.is_none()),
-    ("sells", |c| c.not_reached() && c.ask.quantity < 0 && c.record.is_some()),
-    ("skipped sells", |c| c.not_reached() && c.ask.quantity < 0 && c.record.is_none()),
+    ("trimmed to nothing, not reached", |c| c.not_reached() && c.trimmed() && c.record.is_none()),
+    ("sells, not reached", |c| c.not_reached() && c.ask.quantity < 0 && c.record.is_some()),
+    ("skipped sells, not reached", |c| c.not_reached() && c.ask.quantity < 0 && c.record.is_none()),
     ("flat fees", |c| c.flat() && c.record.is_some()),
     ("whole buys by the flat fee alone", |c| {
         c.flat() && c.buys() && !c.trimmed() && need(c.ask.quantity, c.paid, free(c.ask.costs)) > c.before.cash
     }),
     ("trimmed to a part for a flat fee", |c| c.flat() && c.trimmed() && c.record.is_some()),
-    ("at step 1,000,000", |c| c.flat() && c.part(1_000_000)),
-    ("to nothing", |c| c.flat() && c.trimmed() && c.record.is_none()),
+    ("of these at step 1,000,000", |c| c.flat() && c.part(1_000_000)),
+    ("trimmed to nothing for a flat fee", |c| c.flat() && c.trimmed() && c.record.is_none()),
     ("sells by the flat fee alone", |c| {
         c.flat() && c.ask.quantity < 0 && c.record.is_some() && c.would_skip(c.today())
     }),
-    ("skipped sells", |c| c.flat() && c.ask.quantity < 0 && c.record.is_none()),
+    ("skipped sells for a flat fee", |c| c.flat() && c.ask.quantity < 0 && c.record.is_none()),
     ("need saturates", |c| c.ceiling() > 0 && c.need == i64::MAX),
 ];
 
