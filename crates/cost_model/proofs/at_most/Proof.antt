@@ -1,6 +1,7 @@
 -- The lesser of commission and ceiling, where there is one.
 use mathlib.Core.Path.{_≡_, sym, _∙_}
 use mathlib.Core.Bool.{true, false}
+use lib.Signed.{ltZ}
 use mir.Facts.{toZ-ofZ}
 use borrow.Author.Tests.{eq-eqb, ne-eqb}
 use Rattle.position.specs.Shares.{isZero}
@@ -23,14 +24,16 @@ unfolding atMost
 returns-2 c =
     let e = c .before in
     let s = e .before in
-    rw (is-some e, simp (toZ-ofZ (s .fits .charged), toZ-ofZ (s .fits .ceiling)) at (c .if2 .taken)) (toZ-ofZ (s .fits .ceiling))
+    let over : ltZ (s .args .ceiling) (s .args .charged) ≡ true = simp (toZ-ofZ (s .fits .charged), toZ-ofZ (s .fits .ceiling)) at (c .if2 .taken) in
+    rw (is-some e, over) (toZ-ofZ (s .fits .ceiling))
 
 returns-3 : tie.Need-returns-3
 unfolding atMost
 returns-3 c =
     let e = c .before in
     let s = e .before in
-    rw (is-some e, simp (toZ-ofZ (s .fits .charged), toZ-ofZ (s .fits .ceiling)) at (c .if2 .left)) (toZ-ofZ (s .fits .charged))
+    let under : ltZ (s .args .ceiling) (s .args .charged) ≡ false = simp (toZ-ofZ (s .fits .charged), toZ-ofZ (s .fits .ceiling)) at (c .if2 .left) in
+    rw (is-some e, under) (toZ-ofZ (s .fits .charged))
 
 pub at-most-spec : {M : Type 1} → statement M
 at-most-spec = tie.close (tie.spec returns returns-2 returns-3)
