@@ -1,10 +1,11 @@
 -- The commission, then the floor, then the ceiling.
-use mathlib.Core.Path.{_∙_}
+use mathlib.Core.Path.{ap, _∙_}
+use lib.IntN.{ℤ, natAbs}
 use mir.Syntax.{w64}
 use mir.Val.{SFits}
 use mir.Facts.{toZ-ofZ}
 use borrow.Author.Needs.{needs}
-use Rattle.cost_model.specs.Costs.{uncapped, cost}
+use Rattle.cost_model.specs.Costs.{commission, uncapped, cost}
 use Rattle.cost_model.proofs.CostModel.compute_cost.Statement.{statement}
 use Rattle.cost_model.proofs.CostModel.compute_cost.Tie as tie
 
@@ -32,7 +33,7 @@ returns c =
     let fc : SFits w64 (k .commission .result) = search needs in
     let fl : SFits w64 (l .at-least .result) = search needs in
     let fm : SFits w64 (c .at-most .result) = search needs in
-    let rated = simp (toZ-ofZ (s .fits .notional)) at (k .commission .ensures) in
+    let rated = k .commission .ensures ∙ ap (λ (n : ℤ). commission (s .args .self .«commission_bps») (natAbs n)) (toZ-ofZ (s .fits .notional)) in
     let floored = simp (toZ-ofZ (floor-fits s), toZ-ofZ fc) at (l .at-least .ensures) in
     let capped = simp (toZ-ofZ (ceiling-fits s), toZ-ofZ fl) at (c .at-most .ensures) in
     toZ-ofZ fm ∙ capped ∙ simp (floored, rated)
