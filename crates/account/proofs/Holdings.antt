@@ -5,8 +5,9 @@ use native.Mathlib.Omega.{arith}
 use lib.ListN.{length, take, getD}
 use Rattle.position.specs.Rows.{fresh, keyOf}
 use Rattle.table.specs.Keyed.{seek}
-use Rattle.table.specs.Places.{found}
-use Rattle.table.specs.Rows.{Cols, rows, heldAt, Ordered}
+use Rattle.table.specs.Inner.Places.{found}
+use Rattle.table.specs.Rows.{Cols, rows}
+use Rattle.table.specs.Inner.Rows.{heldAt, Ordered}
 use Rattle.table.specs.declared.found.Found.{Found}
 use Rattle.table.specs.declared.found.Found.the-variants.{At, Absent}
 use Rattle.table.proofs.Places.{stands, lacks}

@@ -9,7 +9,8 @@ use Rattle.cost_model.specs.Costs.{free, goodCosts}
 use Rattle.position.specs.Fills.{sound}
 use Rattle.table.specs.declared.table.Table.{Table}
 use Rattle.table.specs.Keyed.{pick}
-use Rattle.table.specs.Rows.{columnsOf, rowAt, emptyTable, unused, ordered, Full, Ordered}
+use Rattle.table.specs.Rows.{columnsOf, rowAt, emptyTable, unused, ordered, Full}
+use Rattle.table.specs.Inner.Rows.{Ordered}
 use Rattle.table.proofs.Keyed.{both-true, both-false}
 use Rattle.account.specs.declared.settings.Settings.{Settings}
 use Rattle.account.specs.declared.account.Account.{Account}

@@ -9,8 +9,10 @@ use lib.ListN.{length, take, drop, getD, replicate, length-append, length-map, l
 use lib.Seq.{take-at, drop-at}
 use Rattle.position.specs.Rows.{row, fresh, keyOf, held, avg, realized, total}
 use Rattle.position.specs.declared.position.Position.{Position}
-use Rattle.table.specs.Keyed.{ascending, Rising}
-use Rattle.table.specs.Rows.{zip2, give, Cols, cols, columnsOf, zipped, rows, Full, Ordered}
+use Rattle.table.specs.Keyed.{ascending}
+use Rattle.table.specs.Inner.Keyed.{Rising}
+use Rattle.table.specs.Rows.{zip2, give, Cols, cols, columnsOf, zipped, rows, Full}
+use Rattle.table.specs.Inner.Rows.{Ordered}
 use Rattle.table.specs.declared.table.Table.{Table}
 use Rattle.table.proofs.Keyed.{ascending-rises}
 use Rattle.table.proofs.Zipped.{map-take, symbols-of, quantities-of, averages-of, realized-of, totals-of}

@@ -15,7 +15,8 @@ use Rattle.position.specs.Rows.{fresh, keyOf}
 use Rattle.position.specs.Symbols.{goodSymbol}
 use Rattle.position.specs.declared.position.Position.{Position}
 use Rattle.table.specs.Keyed.{pick, seek}
-use Rattle.table.specs.Rows.{Cols, emptyTable, heldAt}
+use Rattle.table.specs.Rows.{Cols, emptyTable}
+use Rattle.table.specs.Inner.Rows.{heldAt}
 use Rattle.table.specs.declared.found.Found.{Found}
 use Rattle.table.specs.declared.found.Found.the-variants.{At, Absent}
 use Rattle.account.specs.declared.settings.Rules.{Rules}

@@ -1,6 +1,7 @@
 // One position of an account: by its symbol, or by its place in symbol order.
 ghost use mathlib.Core.Path.{_≡_};
-ghost use Rattle.table.specs.Rows.{columnsOf, heldAt};
+ghost use Rattle.table.specs.Rows.{columnsOf};
+ghost use Rattle.table.specs.Inner.Rows.{heldAt};
 ghost use Rattle.table.specs.declared.found.Found.the-variants.{At};
 ghost use Rattle.account.specs.Calls.{absent, present, foundIn, positionOf, positionAt};
 use crate::account::Account;

@@ -19,7 +19,7 @@ use Rattle.position.specs.declared.shares.Shares.{Shares}
 use Rattle.position.specs.Rows.{shares}
 use Rattle.position.proofs.Counts.{not-lt-ge}
 use Rattle.table.specs.Keyed.{pick}
-use Rattle.table.specs.Places.{shorter}
+use Rattle.table.specs.Inner.Places.{shorter}
 use Rattle.table.specs.Rows.{isZero}
 use Rattle.sizing.specs.Sizing.{cutTo}
 use Rattle.account.specs.declared.settings.Settings.{Settings}

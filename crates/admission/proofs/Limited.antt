@@ -10,7 +10,7 @@ use lib.ListN.{length, take}
 use lib.Seq.{take-all, take-take}
 use borrow.Author.Tests.{ltb-true, ltb-false, le-leb}
 use Rattle.table.specs.Keyed.{pick}
-use Rattle.table.specs.Places.{shorter}
+use Rattle.table.specs.Inner.Places.{shorter}
 use Rattle.table.specs.Rows.{isZero}
 use Rattle.table.proofs.Places.{shorter-below}
 use Rattle.account.specs.declared.settings.Settings.{Settings}

@@ -7,7 +7,7 @@ use lib.IntN.{pos}
 use lib.Ieee.{nan}
 use lib.ListN.{length}
 use Rattle.cost_model.specs.declared.CostModel.{CostModel}
-use Rattle.table.specs.Places.{shorter}
+use Rattle.table.specs.Inner.Places.{shorter}
 use Rattle.table.proofs.Places.{shorter-within}
 use Rattle.account.specs.declared.settings.Settings.{Settings}
 use Rattle.wanted.specs.declared.plan.PlannedOrder.{PlannedOrder}

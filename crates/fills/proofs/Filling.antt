@@ -17,9 +17,10 @@ use Rattle.sizing.specs.Afford.{need, affordable}
 use Rattle.sizing.specs.Cash.{cashTaken}
 use Rattle.table.specs.declared.found.Found.{Found}
 use Rattle.table.specs.Keyed.{pick, orElse, seek, put64}
-use Rattle.table.specs.Places.{Finds, found}
-use Rattle.table.specs.Rows.{Cols, Counted, rows, Ordered, Puts, holding, heldAt, posted}
-use Rattle.table.specs.Rows as Rows
+use Rattle.table.specs.Inner.Places.{Finds, found}
+use Rattle.table.specs.Rows.{Cols, rows, holding}
+use Rattle.table.specs.Inner.Rows.{Counted, Ordered, Puts, heldAt, posted}
+use Rattle.table.specs.Inner.Rows as Rows
 use Rattle.table.proofs.Keyed.{seek-key}
 use Rattle.table.proofs.Posting.{held-is-holding, posted-puts}
 use Rattle.fills.specs.declared.deal.Deal.{Deal}

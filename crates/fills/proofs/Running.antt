@@ -9,7 +9,8 @@ use lib.IntN.{ℤ, pos}
 use lib.ListN.{length, take, drop, getD, length-take, drop-of-length-le}
 use lib.Seq.{drop-cons, getD-take, length-sets}
 use Rattle.table.specs.Keyed.{pick}
-use Rattle.table.specs.Rows.{zip2, give, Cols, Ordered}
+use Rattle.table.specs.Rows.{zip2, give, Cols}
+use Rattle.table.specs.Inner.Rows.{Ordered}
 use Rattle.table.proofs.Columns.{zip-length, zip-getD}
 use Rattle.fills.specs.declared.fill.Filled.{Filled}
 use Rattle.fills.specs.declared.order.Book.{Book}

@@ -18,7 +18,8 @@ use Rattle.position.specs.Fills.{sound}
 use Rattle.position.proofs.Fills.{applied-keeps-symbol, applied-keeps-sound, fresh-sound}
 use Rattle.cost_model.specs.Costs.{goodCosts}
 use Rattle.cost_model.proofs.Costs.{effective-nonneg}
-use Rattle.table.specs.Keyed.{pick, there, orElse, seek, put, put64, all, Rising}
+use Rattle.table.specs.Keyed.{pick, there, orElse, seek, put, put64, all}
+use Rattle.table.specs.Inner.Keyed.{Rising}
 use Rattle.table.proofs.Keyed.{seek-key, seek-put, put64-rises, put64-fits, all-put64, all-seek}
 use Rattle.fills.specs.declared.order.Order.{Order}
 use Rattle.fills.specs.declared.order.Terms.{Terms}

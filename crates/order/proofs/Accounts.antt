@@ -8,7 +8,8 @@ use lib.IntN.{ℤ, pos, _+ℤ_}
 use Rattle.position.specs.declared.position.Position.{Position}
 use Rattle.cost_model.specs.declared.CostModel.{CostModel}
 use Rattle.cost_model.specs.Costs.{goodCosts}
-use Rattle.table.specs.Rows.{Cols, rows, Ordered}
+use Rattle.table.specs.Rows.{Cols, rows}
+use Rattle.table.specs.Inner.Rows.{Ordered}
 use Rattle.account.specs.declared.account.Account.{Account}
 use Rattle.account.specs.Account.{tableFrom, tableOf}
 use Rattle.account.proofs.SoundAccounts.{account-cash, account-costs}

@@ -15,7 +15,8 @@ use borrow.Author.Tests.{eqb-true, eqb-false, leb-true, leb-false, eq-eqb, ne-eq
 use Rattle.position.specs.declared.position.Position.{Position}
 use Rattle.position.specs.Rows.{keyOf}
 use Rattle.sizing.specs.Sizing.{cutTo}
-use Rattle.table.specs.Keyed.{pick, there, new, seek, Rising}
+use Rattle.table.specs.Keyed.{pick, there, new, seek}
+use Rattle.table.specs.Inner.Keyed.{Rising}
 use Rattle.table.specs.Rows.{columnsOf, isZero, Full}
 use Rattle.table.proofs.Keyed.{rising-ascends}
 use Rattle.table.proofs.Ordering.{zero-same}

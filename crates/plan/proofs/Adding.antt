@@ -7,7 +7,7 @@ use native.Mathlib.Omega.{arith}
 use lib.IntN.{ℤ, pos}
 use lib.ListN.{length, take}
 use lib.Ieee.{Float}
-use Rattle.table.specs.Places.{shorter}
+use Rattle.table.specs.Inner.Places.{shorter}
 use Rattle.wanted.specs.declared.plan.PlannedOrder.{PlannedOrder}
 use Rattle.table.specs.Rows.{isZero}
 use Rattle.table.proofs.Places.{shorter-below}

@@ -6,8 +6,9 @@ use lib.IntN.{ℤ, pos}
 use lib.ListN.{length, take, getD}
 use lib.Dec.{ltb}
 use lib.Ieee.{Float, nan}
-use Rattle.table.specs.Keyed.{pick, Rising}
-use Rattle.table.specs.Places.{shorter, found}
+use Rattle.table.specs.Keyed.{pick}
+use Rattle.table.specs.Inner.Keyed.{Rising}
+use Rattle.table.specs.Inner.Places.{shorter, found}
 use Rattle.table.specs.declared.found.Found.{Found}
 use Rattle.table.specs.declared.found.Found.the-variants.{At, Absent}
 use Rattle.call_lists.specs.Lists.{among, priceOf}

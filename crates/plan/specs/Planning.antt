@@ -5,7 +5,8 @@ use mathlib.Core.List.{List}
 use lib.IntN.{ℤ, pos}
 use lib.ListN.{take}
 use lib.Ieee.{Float}
-use Rattle.table.specs.Keyed.{pick, Rising}
+use Rattle.table.specs.Keyed.{pick}
+use Rattle.table.specs.Inner.Keyed.{Rising}
 use Rattle.call_lists.specs.Lists.{priceOf}
 use Rattle.account.specs.declared.settings.Settings.{Settings}
 use Rattle.admission.specs.Running.{notionalFrom}

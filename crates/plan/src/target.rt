@@ -1,7 +1,7 @@
 // "Then targets in list order".
 ghost use mathlib.Core.Path.{_≡_};
 ghost use lib.ListN.{take};
-ghost use Rattle.table.specs.Keyed.{Rising};
+ghost use Rattle.table.specs.Inner.Keyed.{Rising};
 ghost use Rattle.admission.specs.Columns.{cols, counted};
 ghost use Rattle.plan.specs.Adding.{quantityAt, Holds, Targets};
 use account::Settings;

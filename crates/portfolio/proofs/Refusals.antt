@@ -12,7 +12,8 @@ use lib.Signed.{leZ}
 use borrow.Author.Tests.{leb-true, le-leb, lt-leb}
 use Rattle.answer.specs.declared.Answer.the-variants.{Done, BadSymbol, BadPrice, TooMany, NoRecordRoom, BufferFull, Unsound}
 use Rattle.answer.proofs.Answers.{done-is, passed, passed-both}
-use Rattle.table.specs.Keyed.{both, Rising}
+use Rattle.table.specs.Keyed.{both}
+use Rattle.table.specs.Inner.Keyed.{Rising}
 use Rattle.table.specs.Rows.{columnsOf, Full}
 use Rattle.table.proofs.Keyed.{both-true}
 use Rattle.call_lists.specs.Checks.{unless, listsAnswer, pricesAnswer}

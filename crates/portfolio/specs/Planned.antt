@@ -8,8 +8,9 @@ use lib.IntN.{ℤ, pos}
 use lib.Signed.{leZ}
 use lib.Ieee.{Float}
 use Rattle.sums.specs.Sums.{satAdd}
-use Rattle.table.specs.Keyed.{pick, Rising}
-use Rattle.table.specs.Places.{shorter, found}
+use Rattle.table.specs.Keyed.{pick}
+use Rattle.table.specs.Inner.Keyed.{Rising}
+use Rattle.table.specs.Inner.Places.{shorter, found}
 use Rattle.table.specs.declared.found.Found.{Found}
 use Rattle.table.specs.declared.found.Found.the-variants.{At, Absent}
 use Rattle.table.specs.Rows.{columnsOf}

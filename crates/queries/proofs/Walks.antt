@@ -14,7 +14,8 @@ use Rattle.sums.specs.Sums.{satAdd, value}
 use Rattle.position.specs.declared.position.Position.{Position}
 use Rattle.position.specs.Rows.{fresh, keyOf}
 use Rattle.table.specs.Keyed.{pick}
-use Rattle.table.specs.Rows.{Cols, isZero, rows, Ordered}
+use Rattle.table.specs.Rows.{Cols, isZero, rows}
+use Rattle.table.specs.Inner.Rows.{Ordered}
 use Rattle.call_lists.proofs.Lists.{from-place, from-end}
 use Rattle.account.proofs.Columns.{rows-length, row-of}
 use Rattle.wanted.specs.Equity.{worth, worthFrom}

@@ -10,7 +10,8 @@ use Rattle.sums.specs.Sums.{value}
 use Rattle.doubles.specs.Doubles.{ofI64}
 use Rattle.position.specs.declared.position.Position.{Position}
 use Rattle.position.specs.Rows.{keyOf, fresh}
-use Rattle.table.specs.Keyed.{pick, Rising}
+use Rattle.table.specs.Keyed.{pick}
+use Rattle.table.specs.Inner.Keyed.{Rising}
 use Rattle.table.specs.Rows.{isZero}
 use Rattle.call_lists.specs.Lists.{priceOf}
 use Rattle.wanted.specs.Equity.{worthFrom}

@@ -1,7 +1,8 @@
 // What is summed over the positions of an account.
 ghost use mathlib.Core.Path.{_≡_};
 ghost use Rattle.table.specs.Keyed.{pick};
-ghost use Rattle.table.specs.Rows.{isZero, cols, rows, Ordered};
+ghost use Rattle.table.specs.Rows.{isZero, cols, rows};
+ghost use Rattle.table.specs.Inner.Rows.{Ordered};
 ghost use Rattle.queries.specs.Places.{Adds};
 use position::Shares;
 use table::Found;

@@ -2,7 +2,8 @@
 ghost use mathlib.Core.Path.{_≡_};
 ghost use mathlib.Core.List.{[]};
 ghost use Prim.Native.Nat.{_<_};
-ghost use Rattle.table.specs.Rows.{cols, rows, Ordered};
+ghost use Rattle.table.specs.Rows.{cols, rows};
+ghost use Rattle.table.specs.Inner.Rows.{Ordered};
 ghost use Rattle.queries.specs.Places.{columns, addedTo, Weighs, WeighsAt};
 ghost use Rattle.queries.specs.Answers.{weighed};
 use crate::answered::Weighed;

@@ -7,8 +7,8 @@ use lib.IntN.{ℤ, pos}
 use Rattle.sums.specs.Sums.{satAdd, value}
 use Rattle.position.specs.declared.position.Position.{Position}
 use Rattle.position.specs.Rows.{keyOf}
-use Rattle.table.specs.Keyed.{Rising}
-use Rattle.table.specs.Places.{shorter}
+use Rattle.table.specs.Inner.Keyed.{Rising}
+use Rattle.table.specs.Inner.Places.{shorter}
 use Rattle.call_lists.specs.Lists.{priceOf}
 
 -- "its market value"

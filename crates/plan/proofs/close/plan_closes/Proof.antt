@@ -11,8 +11,8 @@ use lib.ListN.{getD}
 use mir.Syntax.{w64}
 use mir.Val.{SFits, toZ, ofZ}
 use mir.Facts.{toZ-ofZ}
-use Rattle.table.specs.Keyed.{Rising}
-use Rattle.table.specs.Places.{shorter}
+use Rattle.table.specs.Inner.Keyed.{Rising}
+use Rattle.table.specs.Inner.Places.{shorter}
 use Rattle.table.proofs.Places.{shorter-within}
 use Rattle.call_lists.specs.Lists.{among, priceOf}
 use Rattle.admission.specs.Admission.{capped}

@@ -3,7 +3,8 @@ use mathlib.Core.Path.{sym, ap, subst, _∙_}
 use mathlib.Core.List.{List}
 use mir.Facts.{toZ-ofZ}
 use borrow.Author.Needs.{needs}
-use Rattle.table.specs.Rows.{Cols, cols, Ordered}
+use Rattle.table.specs.Rows.{Cols, cols}
+use Rattle.table.specs.Inner.Rows.{Ordered}
 use Rattle.fills.specs.declared.order.Order.{Order}
 use Rattle.fills.specs.Records.{Buffers, buffers}
 use Rattle.fills.specs.Inner.Runs.{orders, Runs, Given}

@@ -4,7 +4,8 @@ use mir.Syntax.{w64}
 use mir.Val.{SFits}
 use mir.Facts.{toZ-ofZ}
 use borrow.Author.Needs.{needs}
-use Rattle.table.specs.Rows.{columnsOf, Full, Ordered}
+use Rattle.table.specs.Rows.{columnsOf, Full}
+use Rattle.table.specs.Inner.Rows.{Ordered}
 use Rattle.call_lists.specs.Lists.{priceOf}
 use Rattle.account.specs.Account.{heldIn}
 use Rattle.account.proofs.Full.{account-full}
