@@ -9,9 +9,10 @@ use lib.ListN.{length}
 use lib.Ieee.{Float, binary64, add}
 use Rattle.metrics.specs.Double.{zero, one}
 use Rattle.metrics.specs.Curve.{grown, flat, curveAfter}
-use Rattle.metrics.specs.Tally.{wins, loses, counted, summed, noReturns, tallyAfter}
+use Rattle.metrics.specs.Tally.{wins, loses}
+use Rattle.metrics.specs.Inner.Tally.{counted, summed, noReturns, tallyAfter}
 use Rattle.metrics.specs.Series.{totalReturn, maxDrawdown, filtered, winningPeriods, losingPeriods, sumOf, sumPositive, sumNegative, seriesWinRate, profitFactor, payoffRatio, kelly}
-use Rattle.metrics.specs.Gathered.{tallyPayoff, figuresFrom}
+use Rattle.metrics.specs.Inner.Gathered.{tallyPayoff, figuresFrom}
 use Rattle.metrics.specs.Figures.{figuresOf}
 
 -- a part of the state that goes its own way goes it to the end

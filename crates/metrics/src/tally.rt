@@ -1,7 +1,8 @@
 // The winning and the losing returns: how many, and what they come to.
 ghost use mathlib.Core.Path.{_≡_};
 ghost use Prim.Native.Nat.{_<_};
-ghost use Rattle.metrics.specs.Tally.{mostReturns, counted, summed, noReturns, tallyAfter};
+ghost use Rattle.metrics.specs.Tally.{mostReturns};
+ghost use Rattle.metrics.specs.Inner.Tally.{counted, summed, noReturns, tallyAfter};
 
 pub(crate) struct Tally {
     pub(crate) winning_periods: u64,
