@@ -14,7 +14,7 @@ use Rattle.word_bytes.specs.Words.{bytesOf, putWord}
 use Rattle.word_bytes.proofs.Words.{length-bytes}
 use Rattle.account.specs.declared.account.Account.{Account}
 use Rattle.account.specs.Account.{soundAccount}
-use Rattle.list_bytes.specs.Records.{putAll}
+use Rattle.list_bytes.specs.Inner.Records.{putAll}
 use Rattle.list_bytes.proofs.Puts.{put-all-fronts}
 use Rattle.portfolio.specs.Answers.{isDone, queryAnswer}
 use Rattle.portfolio.specs.Queries.{toldEquity}

@@ -12,7 +12,7 @@ use Rattle.account.specs.declared.account.Account.{Account}
 use Rattle.account.specs.declared.change.Changed.{Changed}
 use Rattle.account.specs.Account.{soundAccount}
 use Rattle.account_bytes.specs.Account.{writtenAccount}
-use Rattle.list_bytes.specs.Records.{putAll}
+use Rattle.list_bytes.specs.Inner.Records.{putAll}
 use Rattle.list_bytes.specs.Weights.{writtenWeights}
 use Rattle.queries.specs.declared.answered.Snapshot.{Snapshot}
 

@@ -10,7 +10,7 @@ use Rattle.word_bytes.specs.Words.{digits, bytesOf, putWord}
 use Rattle.word_bytes.proofs.Words.{put-fits, put-length}
 use Rattle.fills.specs.Records.{fronted}
 use Rattle.list_bytes.specs.Entries.{places}
-use Rattle.list_bytes.specs.Records.{putAll}
+use Rattle.list_bytes.specs.Inner.Records.{putAll}
 use Rattle.list_bytes.proofs.Columns.{places-long}
 
 -- ---- in two goes

@@ -4,3 +4,4 @@ pub mod Lists
 pub mod Records
 pub mod Weights
 pub mod Figures
+pub mod Inner

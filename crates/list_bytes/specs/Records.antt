@@ -3,7 +3,7 @@ use Prim.Native.Nat.{ℕ, zero, suc, _+_, _*_, _/_, min}
 use mathlib.Core.List.{List, [], _∷_, _++_, map}
 use lib.IntN.{ℤ, pos}
 use lib.ListN.{length, getD}
-use Rattle.word_bytes.specs.Words.{bytesOf, turned, putWord}
+use Rattle.word_bytes.specs.Words.{bytesOf, turned}
 use Rattle.word_bytes.specs.Numbers.{unsignedOf}
 use Rattle.fills.specs.declared.record.ExecutionRecord.{ExecutionRecord}
 use Rattle.fills.specs.Records.{kindNumber, intsOf, fronted}
@@ -41,9 +41,3 @@ fitting count words ints out = min count (min (min (words / 4) (ints / 8)) (out 
 -- "records fill the first places [..] and the rest are as found"
 unfoldable pub writtenRecords : List ℕ → List ℤ → ℕ → List ℕ → List ℕ
 writtenRecords ws is count out = fronted (bytesOf (rowsIn (fitting count (length ws) (length is) (length out)) ws is)) out
-
--- ---- what the code does
--- words put one after the other, from place k on
-unfoldable pub putAll : List ℕ → ℕ → List ℕ → List ℕ
-putAll l k [] = l
-putAll l k (w ∷ ws) = putAll (putWord l k w) (k + 1) ws
