@@ -12,7 +12,8 @@ use Rattle.table.specs.declared.found.Found.{Found}
 use Rattle.table.specs.declared.found.Found.the-variants.{At, Absent}
 use Rattle.table.proofs.Places.{stands, lacks}
 use Rattle.table.proofs.Zipped.{keys-of}
-use Rattle.account.specs.Calls.{present, presentOr, foundIn}
+use Rattle.account.specs.Calls.{present, presentOr}
+use Rattle.account.specs.Inner.Calls.{foundIn}
 use Rattle.account.proofs.Columns.{held-row, rows-length, row-of}
 
 pub place-holds : (n i : ℕ) (c : Cols) → Ordered n c → i < n → heldAt (At i) 0 c ≡ getD (rows n c) i (fresh 0)

@@ -16,7 +16,8 @@ use Rattle.table.specs.Inner.Rows.{Ordered}
 use Rattle.table.specs.declared.table.Table.{Table}
 use Rattle.table.proofs.Keyed.{ascending-rises}
 use Rattle.table.proofs.Zipped.{map-take, symbols-of, quantities-of, averages-of, realized-of, totals-of}
-use Rattle.account.specs.Account.{soundColumns, soundTable, heldIn, tableFrom, padded, tableOf}
+use Rattle.account.specs.Account.{soundColumns, soundTable, heldIn, padded, tableOf}
+use Rattle.account.specs.Inner.Account.{tableFrom}
 use Rattle.account.proofs.Columns.{allSound, rows-length, sound-orders, orders-sound}
 
 -- ---- lists

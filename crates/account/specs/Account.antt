@@ -1,7 +1,7 @@
--- When an account is sound, the table that holds a list of positions, and an account taken apart into a ledger and columns.
+-- When an account is sound, and the table that holds a list of positions.
 use Prim.Native.Nat.{ℕ, zero, suc, _-_}
 use mathlib.Core.Bool.{Bool, true}
-use mathlib.Core.List.{List, [], _∷_, _++_, map}
+use mathlib.Core.List.{List, _++_, map}
 use lib.ListN.{length, replicate}
 use lib.IntN.{ℤ, pos}
 use Rattle.position.specs.declared.position.Position.{Position}
@@ -13,7 +13,6 @@ use Rattle.table.specs.Rows.{Cols, columnsOf, rows, rowAt, ordered}
 use Rattle.account.specs.declared.settings.Settings.{Settings}
 use Rattle.account.specs.declared.account.Account.{Account}
 use Rattle.account.specs.declared.account.Series.{Series}
-use Rattle.account.specs.declared.account.Ledger.{Ledger}
 use Rattle.account.specs.Settings.{atLeast, goodSettings}
 
 -- each of the positions at the first n places is sound
@@ -40,17 +39,7 @@ soundScalars cash s = both (atLeast 0 cash) (goodSettings s)
 unfoldable pub soundAccount : Account → Bool
 soundAccount a = both (soundScalars (a .cash) (a .settings)) (soundTable (a .positions))
 
--- ---- the table of a count and five columns, and the one that holds a list of positions
-abbrev pub tableFrom : ℕ → Cols → Table
-tableFrom n c = record {
-  count = n;
-  symbol = c .symbol;
-  quantity = c .quantity;
-  «avg_entry_price» = c .average;
-  «realized_pnl» = c .realized;
-  «total_cost» = c .total;
-}
-
+-- ---- the table that holds a list of positions
 -- a column with "unused places zero"
 abbrev pub padded : {A : Type 0} → A → List A → List A
 padded z l = l ++ replicate (64 - length l) z
@@ -71,10 +60,3 @@ withSettings s a = record { cash = a .cash; settings = s; counters = a .counters
 
 abbrev pub withSeries : Series → Account → Account
 withSeries s a = record { cash = a .cash; settings = a .settings; counters = a .counters; series = s; positions = a .positions }
-
--- ---- an account taken apart: a ledger, and the columns of the positions
-abbrev pub accountWith : Ledger → Cols → Account
-accountWith h c = record { cash = h .cash; settings = h .settings; counters = h .counters; series = h .series; positions = tableFrom (h .count) c }
-
-abbrev pub ledgerOf : Account → Ledger
-ledgerOf a = record { cash = a .cash; settings = a .settings; counters = a .counters; series = a .series; count = a .positions .count }

@@ -15,10 +15,7 @@ use Rattle.position.specs.Rows.{fresh, keyOf}
 use Rattle.position.specs.Symbols.{goodSymbol}
 use Rattle.position.specs.declared.position.Position.{Position}
 use Rattle.table.specs.Keyed.{pick, seek}
-use Rattle.table.specs.Rows.{Cols, emptyTable}
-use Rattle.table.specs.Inner.Rows.{heldAt}
-use Rattle.table.specs.declared.found.Found.{Found}
-use Rattle.table.specs.declared.found.Found.the-variants.{At, Absent}
+use Rattle.table.specs.Rows.{emptyTable}
 use Rattle.account.specs.declared.settings.Rules.{Rules}
 use Rattle.account.specs.declared.settings.Settings.{Settings}
 use Rattle.account.specs.declared.settings.TradeCap.{TradeCap}
@@ -140,8 +137,3 @@ positionAt i a =
     (present (getD (heldIn (a .positions)) i (fresh 0)))
     (absent Done))
     (absent Unsound)
-
--- what a search in a table's symbols found
-abbrev pub foundIn : Found → Cols → Held
-foundIn (At i) c = present (heldAt (At i) 0 c)
-foundIn (Absent i) c = absent Done

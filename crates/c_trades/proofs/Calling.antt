@@ -15,7 +15,8 @@ use Rattle.table.specs.Rows.{Cols}
 use Rattle.word_bytes.specs.Words.{wordsOf}
 use Rattle.account.specs.declared.account.Account.{Account}
 use Rattle.account.specs.declared.account.Ledger.{Ledger}
-use Rattle.account.specs.Account.{soundAccount, accountWith, ledgerOf}
+use Rattle.account.specs.Account.{soundAccount}
+use Rattle.account.specs.Inner.Account.{accountWith, ledgerOf}
 use Rattle.account_bytes.specs.Account.{accountOf, readAccount, readColumns}
 use Rattle.fills.specs.Records.{kindOf}
 use Rattle.list_bytes.specs.Lists.{symbolsIn, weightsIn, pricesIn}

@@ -11,7 +11,8 @@ use Rattle.table.specs.Rows.{Cols}
 use Rattle.word_bytes.specs.Words.{wordsOf}
 use Rattle.account.specs.declared.account.Account.{Account}
 use Rattle.account.specs.declared.account.Ledger.{Ledger}
-use Rattle.account.specs.Account.{accountWith, ledgerOf, withSeries}
+use Rattle.account.specs.Account.{withSeries}
+use Rattle.account.specs.Inner.Account.{accountWith, ledgerOf}
 use Rattle.account_bytes.specs.Account.{accountOf, readAccount, readColumns, writtenAccount, writtenSeries}
 use Rattle.account_bytes.proofs.Parts.{account-is, parts-read}
 use Rattle.portfolio.specs.declared.returns.Noted as portfolio

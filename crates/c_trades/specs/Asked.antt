@@ -12,7 +12,8 @@ use Rattle.fills.specs.Records.{goodKind}
 use Rattle.call_lists.specs.Checks.{unless}
 use Rattle.account.specs.declared.account.Account.{Account}
 use Rattle.account.specs.declared.account.Ledger.{Ledger}
-use Rattle.account.specs.Account.{soundAccount, accountWith}
+use Rattle.account.specs.Account.{soundAccount}
+use Rattle.account.specs.Inner.Account.{accountWith}
 use Rattle.account_bytes.specs.declared.account_words.ReadAccount.{ReadAccount}
 use Rattle.account_bytes.specs.Account.{readAccount}
 

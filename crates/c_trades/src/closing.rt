@@ -3,7 +3,7 @@ ghost use mathlib.Core.Path.{_≡_};
 ghost use Prim.Native.Nat.{_/_, _≤_, min};
 ghost use lib.ListN.{length};
 ghost use Rattle.table.specs.Rows.{cols};
-ghost use Rattle.account.specs.Account.{accountWith};
+ghost use Rattle.account.specs.Inner.Account.{accountWith};
 ghost use Rattle.portfolio.specs.Answers.{places};
 ghost use Rattle.portfolio.specs.Close.{closed};
 ghost use Rattle.fills.specs.Records.{kindOf};

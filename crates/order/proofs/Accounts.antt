@@ -11,7 +11,8 @@ use Rattle.cost_model.specs.Costs.{goodCosts}
 use Rattle.table.specs.Rows.{Cols, rows}
 use Rattle.table.specs.Inner.Rows.{Ordered}
 use Rattle.account.specs.declared.account.Account.{Account}
-use Rattle.account.specs.Account.{tableFrom, tableOf}
+use Rattle.account.specs.Account.{tableOf}
+use Rattle.account.specs.Inner.Account.{tableFrom}
 use Rattle.account.proofs.SoundAccounts.{account-cash, account-costs}
 use Rattle.account.proofs.Tables.{ordered-table}
 use Rattle.fills.specs.declared.order.Order.{Order}

@@ -10,7 +10,7 @@ use lib.IntN.{ℤ, pos}
 use borrow.Author.Tests.{leb-true}
 use Rattle.answer.specs.declared.Answer.the-variants.{Done}
 use Rattle.table.specs.declared.table.Table.{Table}
-use Rattle.table.specs.Rows.{Cols}
+use Rattle.table.specs.Rows.{Cols, holding}
 use Rattle.fills.specs.declared.order.Book.{Book}
 use Rattle.fills.specs.declared.order.Order.{Order}
 use Rattle.fills.specs.declared.record.ExecutionKind.{ExecutionKind}
@@ -21,12 +21,12 @@ use Rattle.fills.specs.Fill.{fillAll}
 use Rattle.fills.proofs.Fronts.{run-fronts, unrecorded, unrecorded-run}
 use Rattle.account.specs.declared.account.Account.{Account}
 use Rattle.account.specs.declared.account.Ledger.{Ledger}
-use Rattle.account.specs.Account.{heldIn, accountWith}
+use Rattle.account.specs.Account.{heldIn}
+use Rattle.account.specs.Inner.Account.{accountWith}
 use Rattle.account.proofs.Tables.{ordered-table}
 use Rattle.portfolio.specs.Answers.{isDone, places, hasRoom, closeAnswer}
 use Rattle.portfolio.specs.Rebalance.{Outcome, termsBy, termsOf, stateOf, accountAfter}
 use Rattle.sums.specs.Sums.{satNeg}
-use Rattle.table.specs.Rows.{holding}
 use Rattle.portfolio.specs.Close.{afterClose, closed}
 use Rattle.portfolio.specs.Trades.{Filed, filed, stateAfter, afterOrders, bookOf, ledgerFrom}
 

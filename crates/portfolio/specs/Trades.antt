@@ -16,7 +16,8 @@ use Rattle.fills.specs.Records.{allWords, allInts, fronted}
 use Rattle.fills.specs.Fill.{fillAll}
 use Rattle.account.specs.declared.account.Account.{Account}
 use Rattle.account.specs.declared.account.Ledger.{Ledger}
-use Rattle.account.specs.Account.{accountWith, soundAccount}
+use Rattle.account.specs.Account.{soundAccount}
+use Rattle.account.specs.Inner.Account.{accountWith}
 use Rattle.portfolio.specs.declared.trade.Ran.{Ran}
 use Rattle.portfolio.specs.declared.trade.Traded.{Traded}
 use Rattle.portfolio.specs.Answers.{hasRoom}

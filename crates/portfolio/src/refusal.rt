@@ -9,7 +9,7 @@ ghost use Rattle.portfolio.specs.Planned.{lackedBy, lacking, Lacking};
 ghost use Rattle.table.specs.Inner.Keyed.{Rising};
 ghost use Rattle.table.specs.Rows.{cols, rows, holding, Full};
 ghost use Rattle.table.specs.Inner.Rows.{Ordered};
-ghost use Rattle.account.specs.Account.{accountWith};
+ghost use Rattle.account.specs.Inner.Account.{accountWith};
 use account::Account;
 use account::Ledger;
 use account::sound_account;

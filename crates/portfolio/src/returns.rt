@@ -4,7 +4,7 @@ ghost use Prim.Native.Nat.{_<_};
 ghost use lib.ListN.{length, set};
 ghost use Rattle.table.specs.Keyed.{pick};
 ghost use Rattle.table.specs.Rows.{cols};
-ghost use Rattle.account.specs.Account.{accountWith};
+ghost use Rattle.account.specs.Inner.Account.{accountWith};
 ghost use Rattle.portfolio.specs.Answers.{returnAnswer};
 ghost use Rattle.portfolio.specs.Returns.{returnOf, isDue, nextSeries, recordedBy, recorded, notedBy};
 use crate::equity::equity_on;

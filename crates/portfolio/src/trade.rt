@@ -3,7 +3,7 @@ ghost use mathlib.Core.Path.{_≡_};
 ghost use lib.ListN.{length};
 ghost use Rattle.table.specs.Rows.{cols, Full};
 ghost use Rattle.fills.specs.Inner.Runs.{orders};
-ghost use Rattle.account.specs.Account.{accountWith, ledgerOf};
+ghost use Rattle.account.specs.Inner.Account.{accountWith, ledgerOf};
 ghost use Rattle.portfolio.specs.Answers.{places};
 ghost use Rattle.portfolio.specs.Rebalance.{termsBy};
 ghost use Rattle.portfolio.specs.Trades.{Fillable, afterOrders, bookOf, filed, filedBy, ledgerFrom, tradedOn};

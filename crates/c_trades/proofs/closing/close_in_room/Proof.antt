@@ -7,7 +7,7 @@ use lib.IntN.{pos}
 use lib.ListN.{length}
 use mir.Facts.{toZ-ofZ}
 use Rattle.table.specs.Rows.{Cols, cols}
-use Rattle.account.specs.Account.{accountWith}
+use Rattle.account.specs.Inner.Account.{accountWith}
 use Rattle.portfolio.specs.Rebalance.{Outcome}
 use Rattle.portfolio.specs.Close.{closed}
 use Rattle.fills.specs.Records.{kindOf}

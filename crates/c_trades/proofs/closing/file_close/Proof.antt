@@ -5,7 +5,7 @@ use borrow.Author.Needs.{needs}
 use lib.ListN.{length}
 use mir.Facts.{toZ-ofZ}
 use Rattle.table.specs.Rows.{Cols, cols}
-use Rattle.account.specs.Account.{accountWith}
+use Rattle.account.specs.Inner.Account.{accountWith}
 use Rattle.portfolio.specs.declared.trade.Traded.{Traded}
 use Rattle.portfolio.specs.Answers.{places}
 use Rattle.portfolio.specs.Close.{closed}

@@ -3,7 +3,7 @@ use mathlib.Core.Path.{_≡_, sym, ap, _∙_}
 use borrow.Author.Needs.{needs}
 use Rattle.table.specs.Rows.{Cols, cols}
 use Rattle.account.specs.declared.account.Account.{Account}
-use Rattle.account.specs.Account.{accountWith}
+use Rattle.account.specs.Inner.Account.{accountWith}
 use Rattle.list_bytes.specs.Lists.{symbolsIn, pricesIn, listed}
 use Rattle.list_bytes.proofs.Lists.{Fronts, price-fronts}
 use Rattle.portfolio.specs.Returns.{recorded, notedBy}

@@ -13,7 +13,8 @@ use Rattle.sums.specs.Sums.{satNeg}
 use Rattle.table.specs.Rows.{Cols, cols, holding, Full}
 use Rattle.fills.specs.Records.{allWords, allInts}
 use Rattle.account.specs.declared.account.Account.{Account}
-use Rattle.account.specs.Account.{accountWith, heldIn}
+use Rattle.account.specs.Account.{heldIn}
+use Rattle.account.specs.Inner.Account.{accountWith}
 use Rattle.account.proofs.SoundAccounts.{account-ordered}
 use Rattle.portfolio.specs.Answers.{isDone, places, closeAnswer}
 use Rattle.portfolio.specs.Rebalance.{refused}

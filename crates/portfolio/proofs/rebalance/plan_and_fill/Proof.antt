@@ -11,7 +11,7 @@ use borrow.Author.Needs.{needs}
 use Rattle.table.specs.Rows as table
 use Rattle.call_lists.specs.Lists.{priceOf}
 use Rattle.account.specs.declared.account.Account.{Account}
-use Rattle.account.specs.Account.{accountWith}
+use Rattle.account.specs.Inner.Account.{accountWith}
 use Rattle.wanted.specs.declared.plan.PlannedOrder.{PlannedOrder}
 use Rattle.admission.specs.Columns.{Cols, cols, Full}
 use Rattle.plan.proofs.Made.{Stands}

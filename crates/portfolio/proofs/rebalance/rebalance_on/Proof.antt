@@ -15,7 +15,7 @@ use Rattle.table.proofs.Keyed.{ascending-rises}
 use Rattle.call_lists.proofs.Sorted.{Serves, sorted-serves}
 use Rattle.fills.specs.Records.{allWords, allInts}
 use Rattle.account.specs.declared.account.Account.{Account}
-use Rattle.account.specs.Account.{accountWith}
+use Rattle.account.specs.Inner.Account.{accountWith}
 use Rattle.portfolio.specs.Answers.{isDone, places, rebalanceAnswer}
 use Rattle.portfolio.specs.Rebalance.{refused, admittedPlan, afterRebalance, rebalanced}
 use Rattle.portfolio.specs.Trades.{filed}

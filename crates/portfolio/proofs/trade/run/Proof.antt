@@ -9,7 +9,7 @@ use Rattle.fills.specs.declared.order.Order.{Order}
 use Rattle.fills.specs.Records.{Buffers, buffers}
 use Rattle.fills.specs.Inner.Runs.{orders, Runs, Given}
 use Rattle.account.specs.declared.account.Account.{Account}
-use Rattle.account.specs.Account.{accountWith}
+use Rattle.account.specs.Inner.Account.{accountWith}
 use Rattle.account.proofs.SoundAccounts.{account-ordered}
 use Rattle.portfolio.specs.Answers.{places}
 use Rattle.portfolio.specs.Rebalance.{termsBy}
