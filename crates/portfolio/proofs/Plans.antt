@@ -15,7 +15,7 @@ use Rattle.table.specs.Keyed.{pick}
 use Rattle.table.specs.Rows.{columnsOf}
 use Rattle.table.proofs.Keyed.{both-true}
 use Rattle.call_lists.specs.Lists.{priceOf}
-use Rattle.call_lists.specs.Sorted.{columns, roomy, sortedInto}
+use Rattle.call_lists.specs.Inner.Sorted.{columns, roomy, sortedInto}
 use Rattle.call_lists.proofs.Sorted.{sorted-serves}
 use Rattle.account.specs.declared.account.Account.{Account}
 use Rattle.account.specs.declared.settings.Settings.{Settings}
