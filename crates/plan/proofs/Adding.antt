@@ -11,7 +11,8 @@ use Rattle.table.specs.Inner.Places.{shorter}
 use Rattle.wanted.specs.declared.plan.PlannedOrder.{PlannedOrder}
 use Rattle.table.specs.Rows.{isZero}
 use Rattle.table.proofs.Places.{shorter-below}
-use Rattle.wanted.specs.Plan.{plannedClose, orderCount}
+use Rattle.wanted.specs.Plan.{plannedClose}
+use Rattle.wanted.specs.Inner.Plan.{orderCount}
 use Rattle.wanted.proofs.Plans.{close-wanted}
 use Rattle.admission.specs.Admission.{capped, mostOf, added, addedAll}
 use Rattle.admission.specs.Columns.{Cols, cols, Full, from, plans, Counted, counted, addedTo}

@@ -10,7 +10,7 @@ use lib.Seq.{take-nil}
 use Rattle.table.specs.Keyed.{pick}
 use Rattle.account.specs.declared.settings.Settings.{Settings}
 use Rattle.wanted.specs.declared.plan.PlannedOrder.{PlannedOrder}
-use Rattle.wanted.specs.Plan.{orderCount}
+use Rattle.wanted.specs.Inner.Plan.{orderCount}
 use Rattle.admission.specs.Admission.{mostOf, addedAll, admitted}
 use Rattle.admission.specs.Columns.{Cols, Full, plans, Counted, counted}
 use Rattle.admission.specs.Offers.{cutPlan}

@@ -23,7 +23,8 @@ use Rattle.account.specs.Account.{heldIn}
 use Rattle.account.proofs.SoundAccounts.{account-ordered}
 use Rattle.wanted.specs.declared.plan.PlannedOrder.{PlannedOrder}
 use Rattle.wanted.specs.Equity.{equityOf}
-use Rattle.wanted.specs.Plan.{closings, targetings, wanted, orderCount}
+use Rattle.wanted.specs.Plan.{closings, targetings, wanted}
+use Rattle.wanted.specs.Inner.Plan.{orderCount}
 use Rattle.wanted.proofs.Plans.{targetings-length}
 use Rattle.wanted.proofs.Room.{count-append, count-most, orders-at-most}
 use Rattle.fills.specs.declared.record.ExecutionKind.{ExecutionKind}

@@ -12,7 +12,7 @@ use Rattle.table.specs.Inner.Keyed.{Rising}
 use Rattle.table.specs.Inner.Places.{shorter}
 use Rattle.table.proofs.Places.{shorter-within}
 use Rattle.call_lists.specs.Lists.{priceOf}
-use Rattle.wanted.specs.Equity.{worthPlaces}
+use Rattle.wanted.specs.Inner.Equity.{worthPlaces}
 use Rattle.wanted.proofs.Worth.{worth-none, worth-on}
 use Rattle.wanted.proofs.equity.total_worth.Statement.{statement}
 use Rattle.wanted.proofs.equity.total_worth.Tie as tie
