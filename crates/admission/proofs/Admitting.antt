@@ -30,8 +30,8 @@ use Rattle.wanted.specs.Plan.{planned}
 use Rattle.admission.specs.declared.cap.Offered.{Offered}
 use Rattle.admission.specs.declared.cap.Offered.the-variants.{Whole, Part, Ends}
 use Rattle.admission.specs.Admission.{hasCap, capped, reached, notionalOf, lastAdmitted, admittedFrom, admitted}
-use Rattle.admission.specs.Columns.{Cols, cols, orderAt, from, plans, Counted, counted}
-use Rattle.admission.specs.Offers.{partOffered, offered, cutPlan}
+use Rattle.admission.specs.Inner.Columns.{Cols, cols, orderAt, from, plans, Counted, counted}
+use Rattle.admission.specs.Inner.Offers.{partOffered, offered, cutPlan}
 use Rattle.admission.proofs.Plans.{from-on, from-end, from-last, from-length, plans-start}
 use Rattle.admission.proofs.Laying.{taken, front-is, front-set}
 

@@ -17,8 +17,9 @@ use Rattle.account.specs.declared.settings.Settings.{Settings}
 use Rattle.account.specs.declared.settings.TradeCap.{TradeCap}
 use Rattle.account.specs.declared.settings.TradeCap.the-variants.{Absent, AtMost}
 use Rattle.wanted.specs.declared.plan.PlannedOrder.{PlannedOrder}
-use Rattle.admission.specs.Admission.{capped, drawnBefore, insertBy, added, reached, mostIn, mostOf, notionalOf, admittedFrom, admitted}
-use Rattle.admission.specs.Columns.{Cols, Full, plans}
+use Rattle.admission.specs.Admission.{capped, drawnBefore, insertBy, added, reached, notionalOf, admittedFrom, admitted}
+use Rattle.admission.specs.Inner.Admission.{mostIn, mostOf}
+use Rattle.admission.specs.Inner.Columns.{Cols, Full, plans}
 use Rattle.admission.proofs.Plans.{plans-length}
 use Rattle.admission.proofs.Inserting.{zipped, plans-zipped}
 

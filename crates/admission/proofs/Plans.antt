@@ -11,7 +11,7 @@ use borrow.Author.Tests.{ltb-true, ltb-false}
 use Rattle.table.specs.Inner.Places.{shorter}
 pub use Rattle.table.proofs.Places.{shorter-same}
 use Rattle.wanted.specs.declared.plan.PlannedOrder.{PlannedOrder}
-use Rattle.admission.specs.Columns.{Cols, orderAt, from, plans, placeOf}
+use Rattle.admission.specs.Inner.Columns.{Cols, orderAt, from, plans, placeOf}
 
 -- ---- what stands from a place on
 module _ {A : Type 0} (f : ℕ → A) where

@@ -12,10 +12,10 @@ use Rattle.table.proofs.Places.{shorter-within}
 use Rattle.account.specs.declared.settings.Settings.{Settings}
 use Rattle.wanted.specs.declared.plan.PlannedOrder.{PlannedOrder}
 use Rattle.admission.specs.Admission.{admitted}
-use Rattle.admission.specs.Columns.{Cols, Full, orderAt, from, plans, Counted, counted, laid}
-use Rattle.admission.specs.Offers.{cutPlan}
+use Rattle.admission.specs.Inner.Columns.{Cols, Full, orderAt, from, plans, Counted, counted, laid}
+use Rattle.admission.specs.Inner.Offers.{cutPlan}
 use Rattle.admission.specs.Running.{cashFirst}
-use Rattle.admission.specs.Runs.{runPlan}
+use Rattle.admission.specs.Inner.Running.{runPlan}
 use Rattle.admission.proofs.Plans.{from-length, plans-length}
 use Rattle.admission.proofs.Laying.{same-cols, full-laid, plans-laid}
 use Rattle.admission.proofs.Admitting.{kept-front}

@@ -32,8 +32,8 @@ use Rattle.wanted.specs.Equity.{equityOf}
 use Rattle.wanted.specs.Plan.{planned, plannedClose, closing, targeting, closings, targetings, wanted}
 use Rattle.wanted.proofs.Plans as planning
 use Rattle.admission.specs.Admission.{notionalOf, insertBy, reached, added, addedAll, lastAdmitted, admittedFrom, admitted}
-use Rattle.admission.specs.Kept as kept
-use Rattle.admission.specs.Kept.{Start, none, last, more}
+use Rattle.admission.specs.Inner.Kept as kept
+use Rattle.admission.specs.Inner.Kept.{Start, none, last, more}
 use Rattle.admission.specs.Running.{planOf}
 use Rattle.admission.proofs.Kept.{added-keeps, addedAll-all, admitted-is-start}
 use Rattle.fills.specs.declared.order.Order.{Order}

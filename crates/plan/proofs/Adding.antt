@@ -14,8 +14,9 @@ use Rattle.table.proofs.Places.{shorter-below}
 use Rattle.wanted.specs.Plan.{plannedClose}
 use Rattle.wanted.specs.Inner.Plan.{orderCount}
 use Rattle.wanted.proofs.Plans.{close-wanted}
-use Rattle.admission.specs.Admission.{capped, mostOf, added, addedAll}
-use Rattle.admission.specs.Columns.{Cols, cols, Full, from, plans, Counted, counted, addedTo}
+use Rattle.admission.specs.Admission.{capped, added, addedAll}
+use Rattle.admission.specs.Inner.Admission.{mostOf}
+use Rattle.admission.specs.Inner.Columns.{Cols, cols, Full, from, plans, Counted, counted, addedTo}
 use Rattle.admission.proofs.Inserting.{added-none, added-lists}
 use Rattle.admission.proofs.Kept.{added-length}
 use Rattle.admission.proofs.Limited.{added-take, plans-take}

@@ -11,11 +11,12 @@ use Rattle.table.specs.Keyed.{pick}
 use Rattle.account.specs.declared.settings.Settings.{Settings}
 use Rattle.wanted.specs.declared.plan.PlannedOrder.{PlannedOrder}
 use Rattle.wanted.specs.Inner.Plan.{orderCount}
-use Rattle.admission.specs.Admission.{mostOf, addedAll, admitted}
-use Rattle.admission.specs.Columns.{Cols, Full, plans, Counted, counted}
-use Rattle.admission.specs.Offers.{cutPlan}
+use Rattle.admission.specs.Admission.{addedAll, admitted}
+use Rattle.admission.specs.Inner.Admission.{mostOf}
+use Rattle.admission.specs.Inner.Columns.{Cols, Full, plans, Counted, counted}
+use Rattle.admission.specs.Inner.Offers.{cutPlan}
 use Rattle.admission.specs.Running.{cashFirst, inRunningOrder, notionalFrom}
-use Rattle.admission.specs.Runs.{runPlan}
+use Rattle.admission.specs.Inner.Running.{runPlan}
 use Rattle.admission.proofs.Limited.{admitted-take}
 use Rattle.admission.proofs.Plans.{plans-few}
 use Rattle.admission.proofs.Standing.{Stood, cut-stands, run-stands}

@@ -15,9 +15,10 @@ use Rattle.call_lists.specs.Lists.{among, priceOf}
 use Rattle.account.specs.declared.settings.Settings.{Settings}
 use Rattle.wanted.specs.declared.plan.PlannedOrder.{PlannedOrder}
 use Rattle.wanted.specs.Plan.{plannedClose, plannedTarget}
-use Rattle.admission.specs.Admission.{capped, mostOf}
-use Rattle.admission.specs.Columns.{from, Counted, counted, addedTo}
-use Rattle.admission.specs.Offers.{cutPlan}
+use Rattle.admission.specs.Admission.{capped}
+use Rattle.admission.specs.Inner.Admission.{mostOf}
+use Rattle.admission.specs.Inner.Columns.{from, Counted, counted, addedTo}
+use Rattle.admission.specs.Inner.Offers.{cutPlan}
 
 -- one order more, in a plan that is kept to the most that its trade cap admits
 abbrev pub keptWith : Settings → PlannedOrder → Counted → Counted

@@ -10,9 +10,9 @@ use Rattle.table.specs.Inner.Keyed.{Rising}
 use Rattle.call_lists.specs.Lists.{priceOf}
 use Rattle.account.specs.declared.settings.Settings.{Settings}
 use Rattle.admission.specs.Running.{notionalFrom}
-use Rattle.admission.specs.Columns.{Cols, plans, Counted, counted}
-use Rattle.admission.specs.Offers.{cutPlan}
-use Rattle.admission.specs.Runs.{runPlan}
+use Rattle.admission.specs.Inner.Columns.{Cols, plans, Counted, counted}
+use Rattle.admission.specs.Inner.Offers.{cutPlan}
+use Rattle.admission.specs.Inner.Running.{runPlan}
 use Rattle.plan.specs.declared.plan.Planned.{Planned}
 use Rattle.plan.specs.Adding.{addedAllTo, wantedAt}
 

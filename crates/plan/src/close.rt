@@ -1,7 +1,7 @@
 // "Priced open holdings absent from targets are closed, in symbol order".
 ghost use mathlib.Core.Path.{_≡_};
 ghost use Rattle.call_lists.specs.Lists.{among};
-ghost use Rattle.admission.specs.Columns.{cols, counted};
+ghost use Rattle.admission.specs.Inner.Columns.{cols, counted};
 ghost use Rattle.plan.specs.Adding.{Closes};
 use account::Settings;
 use admission::add_order;

@@ -1,6 +1,6 @@
 // The plan of a rebalance.
 ghost use mathlib.Core.Path.{_≡_};
-ghost use Rattle.admission.specs.Columns.{cols, counted};
+ghost use Rattle.admission.specs.Inner.Columns.{cols, counted};
 ghost use Rattle.plan.specs.Adding.{Makes};
 ghost use Rattle.plan.specs.Planning.{Plans};
 use crate::close::plan_closes;

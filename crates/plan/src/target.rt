@@ -2,7 +2,7 @@
 ghost use mathlib.Core.Path.{_≡_};
 ghost use lib.ListN.{take};
 ghost use Rattle.table.specs.Inner.Keyed.{Rising};
-ghost use Rattle.admission.specs.Columns.{cols, counted};
+ghost use Rattle.admission.specs.Inner.Columns.{cols, counted};
 ghost use Rattle.plan.specs.Adding.{quantityAt, Holds, Targets};
 use account::Settings;
 use admission::add_order;

@@ -32,7 +32,7 @@ use Rattle.fills.specs.Inner.Runs.{orders}
 use Rattle.fills.proofs.Running.{next-order, no-order}
 use Rattle.admission.specs.Admission.{addedAll, admitted}
 use Rattle.admission.specs.Running.{parted, sortedWith, cashFirst, inRunningOrder, notionalFrom}
-use Rattle.admission.specs.Columns.{Cols, Full, from, orderAt, plans}
+use Rattle.admission.specs.Inner.Columns.{Cols, Full, from, orderAt, plans}
 use Rattle.admission.proofs.Plans.{plans-few, plans-length, shorter-same}
 use Rattle.admission.proofs.Kept.{running-length}
 use Rattle.plan.specs.declared.plan.Planned.{Planned}

@@ -37,7 +37,7 @@ use Rattle.wanted.specs.Equity.{equityOf}
 use Rattle.wanted.specs.Plan.{closings, targetings, wanted}
 use Rattle.wanted.proofs.Plans as planning
 use Rattle.admission.specs.Admission.{addedAll}
-use Rattle.admission.specs.Kept.{All}
+use Rattle.admission.specs.Inner.Kept.{All}
 use Rattle.admission.specs.Running.{inRunningOrder, planOf}
 use Rattle.admission.proofs.Kept.{addedAll-all, admitted-all, running-all}
 use Rattle.portfolio.specs.Answers.{isDone, closeAnswer, rebalanceAnswer, returnAnswer}

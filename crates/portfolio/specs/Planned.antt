@@ -20,7 +20,7 @@ use Rattle.account.specs.declared.account.Account.{Account}
 use Rattle.account.specs.declared.settings.Settings.{Settings}
 use Rattle.account.specs.Account.{soundAccount, heldIn}
 use Rattle.wanted.specs.Inner.Equity.{worthPlaces}
-use Rattle.admission.specs.Columns.{Cols}
+use Rattle.admission.specs.Inner.Columns.{Cols}
 use Rattle.plan.specs.declared.plan.Planned.{Planned}
 use Rattle.plan.specs.Planning.{Standing, standing, planMade}
 use Rattle.portfolio.specs.Answers.{hasRoom, notHeld}

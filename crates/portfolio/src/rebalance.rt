@@ -4,7 +4,7 @@ ghost use lib.ListN.{length};
 ghost use Rattle.call_lists.specs.Lists.{priceOf};
 ghost use Rattle.table.specs.Rows.{cols};
 ghost use Rattle.account.specs.Inner.Account.{accountWith};
-ghost use Rattle.admission.specs.Columns as admission;
+ghost use Rattle.admission.specs.Inner.Columns as admission;
 ghost use Rattle.portfolio.specs.Answers.{places};
 ghost use Rattle.portfolio.specs.Planned.{Plans, Ready};
 ghost use Rattle.portfolio.specs.Rebalance.{admittedPlan, afterRebalance, rebalanced};

@@ -11,9 +11,9 @@ use mir.Val.{SFits, toZ, ofZ}
 use mir.Facts.{toZ-ofZ}
 use borrow.Author.Needs.{needs}
 use Rattle.table.proofs.Places.{shorter-within}
-use Rattle.admission.specs.Columns.{cols, orderAt, from, plans, counted}
+use Rattle.admission.specs.Inner.Columns.{cols, orderAt, from, plans, counted}
 use Rattle.admission.specs.Admission.{admittedFrom, admitted}
-use Rattle.admission.specs.Offers.{offered}
+use Rattle.admission.specs.Inner.Offers.{offered}
 use Rattle.admission.proofs.Admitting.{admit-start, admit-on, admit-ends, admit-part, admit-all, cut-whole, cut-part}
 use Rattle.admission.proofs.cap.admit.Statement.{statement}
 use Rattle.admission.proofs.cap.admit.Tie as tie

@@ -13,7 +13,7 @@ use Rattle.call_lists.specs.Lists.{priceOf}
 use Rattle.account.specs.declared.account.Account.{Account}
 use Rattle.account.specs.Inner.Account.{accountWith}
 use Rattle.wanted.specs.declared.plan.PlannedOrder.{PlannedOrder}
-use Rattle.admission.specs.Columns.{Cols, cols, Full}
+use Rattle.admission.specs.Inner.Columns.{Cols, cols, Full}
 use Rattle.plan.proofs.Made.{Stands}
 use Rattle.portfolio.specs.Answers.{places}
 use Rattle.portfolio.specs.Rebalance.{admittedPlan}

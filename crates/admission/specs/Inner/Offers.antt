@@ -13,7 +13,7 @@ use Rattle.account.specs.declared.settings.Settings.{Settings}
 use Rattle.admission.specs.declared.cap.Offered.{Offered}
 use Rattle.admission.specs.declared.cap.Offered.the-variants.{Whole, Part, Ends}
 use Rattle.admission.specs.Admission.{reached, admitted}
-use Rattle.admission.specs.Columns.{cols, plans, Counted, counted}
+use Rattle.admission.specs.Inner.Columns.{cols, plans, Counted, counted}
 
 -- "truncated to it by the same formula, kept if not zero and not under the minimum, and ends admission"
 unfoldable pub partOffered : Settings → ℤ → ℤ → ℤ → Offered
