@@ -22,7 +22,7 @@ use Rattle.admission.proofs.Kept.{added-length}
 use Rattle.admission.proofs.Limited.{added-take, plans-take}
 use Rattle.admission.proofs.Plans.{from-on, from-end}
 use Rattle.account.specs.declared.settings.Settings.{Settings}
-use Rattle.plan.specs.Adding.{keptWith, addedAllTo, closeAt, closesAt, targetAt, targetsAt}
+use Rattle.plan.specs.Inner.Adding.{keptWith, addedAllTo, closeAt, closesAt, targetAt, targetsAt}
 
 -- ---- the loop over places: what is added so far, with the orders that are left added to it, is all
 module _ (s : Settings) (f : ℕ → PlannedOrder) (all : Counted) where

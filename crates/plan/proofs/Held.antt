@@ -25,7 +25,7 @@ use Rattle.wanted.specs.Plan.{closing, closings, targeting, targetings, wanted}
 use Rattle.admission.specs.Admission.{addedAll, admitted}
 use Rattle.admission.specs.Running.{planOf}
 use Rattle.admission.specs.Inner.Columns.{from}
-use Rattle.plan.specs.Adding.{closeAt, closesAt, quantityAt, targetAt, targetsAt, wantedAt}
+use Rattle.plan.specs.Inner.Adding.{closeAt, closesAt, quantityAt, targetAt, targetsAt, wantedAt}
 
 quantity-held : (f : Found) (s : ℕ) (c : Cols) → quantityAt f (c .quantity) ≡ heldAt f s c .quantity .0
 quantity-held (At i) s c = go (ltb i 64)

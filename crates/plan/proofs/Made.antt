@@ -21,8 +21,8 @@ use Rattle.admission.proofs.Limited.{admitted-take}
 use Rattle.admission.proofs.Plans.{plans-few}
 use Rattle.admission.proofs.Standing.{Stood, cut-stands, run-stands}
 use Rattle.plan.specs.declared.plan.Planned.{Planned}
-use Rattle.plan.specs.Adding.{addedAllTo, wantedAt}
-use Rattle.plan.specs.Planning.{standing, summed, planMade}
+use Rattle.plan.specs.Inner.Adding.{addedAllTo, wantedAt}
+use Rattle.plan.specs.Inner.Planning.{standing, summed, planMade}
 use Rattle.plan.proofs.Adding.{Added, all-lists, added-few}
 
 -- ---- an admitted plan, run as it stands or by cash

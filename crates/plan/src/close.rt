@@ -2,7 +2,7 @@
 ghost use mathlib.Core.Path.{_≡_};
 ghost use Rattle.call_lists.specs.Lists.{among};
 ghost use Rattle.admission.specs.Inner.Columns.{cols, counted};
-ghost use Rattle.plan.specs.Adding.{Closes};
+ghost use Rattle.plan.specs.Inner.Adding.{Closes};
 use account::Settings;
 use admission::add_order;
 use admission::is_capped;

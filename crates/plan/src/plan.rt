@@ -1,8 +1,8 @@
 // The plan of a rebalance.
 ghost use mathlib.Core.Path.{_≡_};
 ghost use Rattle.admission.specs.Inner.Columns.{cols, counted};
-ghost use Rattle.plan.specs.Adding.{Makes};
-ghost use Rattle.plan.specs.Planning.{Plans};
+ghost use Rattle.plan.specs.Inner.Adding.{Makes};
+ghost use Rattle.plan.specs.Inner.Planning.{Plans};
 use crate::close::plan_closes;
 use crate::target::plan_targets;
 use account::Settings;

@@ -36,8 +36,8 @@ use Rattle.admission.specs.Inner.Columns.{Cols, Full, from, orderAt, plans}
 use Rattle.admission.proofs.Plans.{plans-few, plans-length, shorter-same}
 use Rattle.admission.proofs.Kept.{running-length}
 use Rattle.plan.specs.declared.plan.Planned.{Planned}
-use Rattle.plan.specs.Adding.{wantedAt}
-use Rattle.plan.specs.Planning.{standing, planMade}
+use Rattle.plan.specs.Inner.Adding.{wantedAt}
+use Rattle.plan.specs.Inner.Planning.{standing, planMade}
 use Rattle.plan.proofs.Held.{wanted-of-rows, plan-of-rows}
 use Rattle.plan.proofs.Made.{Stands, made-stands}
 use Rattle.portfolio.specs.Answers.{hasRoom, notHeld}

@@ -22,7 +22,7 @@ use Rattle.account.specs.Account.{soundAccount, heldIn}
 use Rattle.wanted.specs.Inner.Equity.{worthPlaces}
 use Rattle.admission.specs.Inner.Columns.{Cols}
 use Rattle.plan.specs.declared.plan.Planned.{Planned}
-use Rattle.plan.specs.Planning.{Standing, standing, planMade}
+use Rattle.plan.specs.Inner.Planning.{Standing, standing, planMade}
 use Rattle.portfolio.specs.Answers.{hasRoom, notHeld}
 
 -- ---- targets that are not held

@@ -18,7 +18,7 @@ use Rattle.call_lists.specs.Lists.{among, priceOf}
 use Rattle.admission.specs.Admission.{capped}
 use Rattle.admission.specs.Inner.Columns.{cols, counted, from, addedTo}
 use Rattle.admission.proofs.Inserting.{added-none}
-use Rattle.plan.specs.Adding.{addedAllTo, closeAt, closesAt, Closes}
+use Rattle.plan.specs.Inner.Adding.{addedAllTo, closeAt, closesAt, Closes}
 use Rattle.plan.proofs.Adding.{closes-start, counted-same, wanted-none, kept-with, adding-on, adding-end}
 use Rattle.plan.proofs.close.plan_closes.Statement.{statement}
 use Rattle.plan.proofs.close.plan_closes.Tie as tie

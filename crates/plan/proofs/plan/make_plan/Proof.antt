@@ -5,7 +5,7 @@ use mir.Syntax.{w64}
 use mir.Val.{SFits}
 use mir.Facts.{toZ-ofZ}
 use Rattle.admission.specs.Inner.Columns.{counted}
-use Rattle.plan.specs.Planning.{summed, planMade, Plans}
+use Rattle.plan.specs.Inner.Planning.{summed, planMade, Plans}
 use Rattle.plan.proofs.Made.{as-planned, by-cash}
 use Rattle.plan.proofs.plan.make_plan.Statement.{statement}
 use Rattle.plan.proofs.plan.make_plan.Tie as tie

@@ -14,7 +14,7 @@ use Rattle.table.proofs.Places.{shorter-within, shorter-below}
 use Rattle.call_lists.specs.Lists.{priceOf}
 use Rattle.admission.specs.Admission.{capped}
 use Rattle.admission.specs.Inner.Columns.{cols, counted, from, addedTo}
-use Rattle.plan.specs.Adding.{addedAllTo, targetAt, targetsAt, Targets}
+use Rattle.plan.specs.Inner.Adding.{addedAllTo, targetAt, targetsAt, Targets}
 use Rattle.plan.proofs.Adding.{targets-start, kept-with, adding-on, adding-end}
 use Rattle.plan.proofs.target.plan_targets.Statement.{statement}
 use Rattle.plan.proofs.target.plan_targets.Tie as tie

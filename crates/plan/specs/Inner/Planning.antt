@@ -14,7 +14,7 @@ use Rattle.admission.specs.Inner.Columns.{Cols, plans, Counted, counted}
 use Rattle.admission.specs.Inner.Offers.{cutPlan}
 use Rattle.admission.specs.Inner.Running.{runPlan}
 use Rattle.plan.specs.declared.plan.Planned.{Planned}
-use Rattle.plan.specs.Adding.{addedAllTo, wantedAt}
+use Rattle.plan.specs.Inner.Adding.{addedAllTo, wantedAt}
 
 -- a plan where it stands: the columns, and the count and notional of its orders
 pub record Standing : Type 0 where
