@@ -17,7 +17,7 @@ use Rattle.account_bytes.specs.Account.{accountOf, readAccount, readColumns, wr
 use Rattle.account_bytes.proofs.Parts.{account-is, parts-read}
 use Rattle.portfolio.specs.declared.returns.Noted as portfolio
 use Rattle.portfolio.specs.Answers.{isDone}
-use Rattle.portfolio.specs.Returns.{notedBy}
+use Rattle.portfolio.specs.Inner.Returns.{notedBy}
 use Rattle.c_trades.specs.Asked.{Holds}
 use Rattle.c_trades.specs.Returns.{note, noted}
 

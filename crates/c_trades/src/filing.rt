@@ -2,7 +2,7 @@
 ghost use mathlib.Core.Path.{_≡_};
 ghost use Prim.Native.Nat.{_≤_, _/_, min};
 ghost use Rattle.table.specs.Rows.{cols};
-ghost use Rattle.portfolio.specs.Trades.{tradedOn};
+ghost use Rattle.portfolio.specs.Inner.Trades.{tradedOn};
 ghost use Rattle.c_trades.specs.Told.{tell, finished};
 use account_bytes::write_ledger;
 use answer::is_done;

@@ -19,7 +19,7 @@ use Rattle.table.specs.declared.found.Found.{Found}
 use Rattle.table.specs.declared.found.Found.the-variants.{At, Absent}
 use Rattle.table.proofs.Zipped.{keys-of}
 use Rattle.portfolio.specs.Answers.{notHeld}
-use Rattle.portfolio.specs.Planned.{lackedBy, lacking}
+use Rattle.portfolio.specs.Inner.Planned.{lackedBy, lacking}
 
 -- ---- the loop over the targets
 pub lacked-most : (f : Found) → lackedBy f ≤ 1

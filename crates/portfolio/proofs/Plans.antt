@@ -42,8 +42,8 @@ use Rattle.plan.proofs.Held.{wanted-of-rows, plan-of-rows}
 use Rattle.plan.proofs.Made.{Stands, made-stands}
 use Rattle.portfolio.specs.Answers.{hasRoom, notHeld}
 use Rattle.portfolio.specs.Rebalance.{orderOf, admittedPlan, afterPlan, afterRebalance}
-use Rattle.portfolio.specs.Trades.{afterOrders}
-use Rattle.portfolio.specs.Planned.{equityAt, planAt, Plans, Ready}
+use Rattle.portfolio.specs.Inner.Trades.{afterOrders}
+use Rattle.portfolio.specs.Inner.Planned.{equityAt, planAt, Plans, Ready}
 use Rattle.portfolio.proofs.Worths.{equity-of-places}
 
 -- ---- prices that were sorted

@@ -22,7 +22,7 @@ use Rattle.account.specs.declared.account.Account.{Account}
 use Rattle.position.specs.Symbols.{goodSymbol}
 use Rattle.account.specs.Account.{soundAccount, heldIn}
 use Rattle.portfolio.specs.Answers.{isDone, orLater, hasRoom, notHeld, rebalanceAnswer, queryAnswer, returnAnswer, closeAnswer}
-use Rattle.portfolio.specs.Planned.{Ready}
+use Rattle.portfolio.specs.Inner.Planned.{Ready}
 
 -- ---- a query with prices
 pub record Queried (a : Account) (ps : List ℕ) (vs : List ℤ) : Type 0 where

@@ -28,7 +28,8 @@ use Rattle.portfolio.specs.Answers.{isDone, places, hasRoom, closeAnswer
 use Rattle.portfolio.specs.Rebalance.{Outcome, termsBy, termsOf, stateOf, accountAfter}
 use Rattle.sums.specs.Sums.{satNeg}
 use Rattle.portfolio.specs.Close.{afterClose, closed}
-use Rattle.portfolio.specs.Trades.{Filed, filed, stateAfter, afterOrders, bookOf, ledgerFrom}
+use Rattle.portfolio.specs.Trades.{Filed, filed}
+use Rattle.portfolio.specs.Inner.Trades.{stateAfter, afterOrders, bookOf, ledgerFrom}
 
 pub orders-most : (m : ℕ) (s : List ℕ) (q p : List ℤ) → length (orders m s q p) ≤ m
 unfolding orders

@@ -5,7 +5,7 @@ ghost use Prim.Native.Nat.{_+_, _≤_};
 ghost use lib.Dec.{leb};
 ghost use lib.ListN.{length, take};
 ghost use Rattle.portfolio.specs.Answers.{isDone, places, roomFor, queryAnswer, rebalanceAnswer, closeAnswer};
-ghost use Rattle.portfolio.specs.Planned.{lackedBy, lacking, Lacking};
+ghost use Rattle.portfolio.specs.Inner.Planned.{lackedBy, lacking, Lacking};
 ghost use Rattle.table.specs.Inner.Keyed.{Rising};
 ghost use Rattle.table.specs.Rows.{cols, rows, holding, Full};
 ghost use Rattle.table.specs.Inner.Rows.{Ordered};

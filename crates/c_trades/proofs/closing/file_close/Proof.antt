@@ -9,7 +9,7 @@ use Rattle.account.specs.Inner.Account.{accountWith}
 use Rattle.portfolio.specs.declared.trade.Traded.{Traded}
 use Rattle.portfolio.specs.Answers.{places}
 use Rattle.portfolio.specs.Close.{closed}
-use Rattle.portfolio.specs.Trades.{tradedOn}
+use Rattle.portfolio.specs.Inner.Trades.{tradedOn}
 use Rattle.fills.specs.Records.{kindOf}
 use Rattle.c_trades.proofs.Finishing.{Finished, finishing}
 use Rattle.c_trades.proofs.closing.file_close.Statement.{statement}

@@ -10,7 +10,7 @@ use Rattle.list_bytes.proofs.Lists.{Fronts, target-fronts, price-fronts}
 use Rattle.portfolio.specs.declared.trade.Traded.{Traded}
 use Rattle.portfolio.specs.Answers.{places}
 use Rattle.portfolio.specs.Rebalance.{rebalanced}
-use Rattle.portfolio.specs.Trades.{tradedOn}
+use Rattle.portfolio.specs.Inner.Trades.{tradedOn}
 use Rattle.fills.specs.Records.{kindOf}
 use Rattle.c_trades.proofs.Finishing.{Finished, finishing}
 use Rattle.c_trades.proofs.rebalancing.file_rebalance.Statement.{statement}

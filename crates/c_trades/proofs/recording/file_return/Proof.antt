@@ -6,7 +6,8 @@ use Rattle.account.specs.declared.account.Account.{Account}
 use Rattle.account.specs.Inner.Account.{accountWith}
 use Rattle.list_bytes.specs.Lists.{symbolsIn, pricesIn, listed}
 use Rattle.list_bytes.proofs.Lists.{Fronts, price-fronts}
-use Rattle.portfolio.specs.Returns.{recorded, notedBy}
+use Rattle.portfolio.specs.Returns.{recorded}
+use Rattle.portfolio.specs.Inner.Returns.{notedBy}
 use Rattle.c_trades.specs.Asked.{accountIn}
 use Rattle.c_trades.specs.Returns.{noted}
 use Rattle.c_trades.proofs.Holding.{series-kept}

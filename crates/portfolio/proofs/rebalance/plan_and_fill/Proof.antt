@@ -17,8 +17,9 @@ use Rattle.admission.specs.Inner.Columns.{Cols, cols, Full}
 use Rattle.plan.proofs.Made.{Stands}
 use Rattle.portfolio.specs.Answers.{places}
 use Rattle.portfolio.specs.Rebalance.{admittedPlan}
-use Rattle.portfolio.specs.Trades.{Fillable, filed}
-use Rattle.portfolio.specs.Planned.{Ready}
+use Rattle.portfolio.specs.Trades.{filed}
+use Rattle.portfolio.specs.Inner.Trades.{Fillable}
+use Rattle.portfolio.specs.Inner.Planned.{Ready}
 use Rattle.portfolio.proofs.Plans.{account-stands, room-for, run-rebalances}
 use Rattle.portfolio.proofs.rebalance.plan_and_fill.Statement.{statement}
 use Rattle.portfolio.proofs.rebalance.plan_and_fill.Tie as tie

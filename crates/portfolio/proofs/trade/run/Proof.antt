@@ -13,7 +13,7 @@ use Rattle.account.specs.Inner.Account.{accountWith}
 use Rattle.account.proofs.SoundAccounts.{account-ordered}
 use Rattle.portfolio.specs.Answers.{places}
 use Rattle.portfolio.specs.Rebalance.{termsBy}
-use Rattle.portfolio.specs.Trades.{Fillable, bookOf}
+use Rattle.portfolio.specs.Inner.Trades.{Fillable, bookOf}
 use Rattle.portfolio.proofs.Trading.{orders-most, filing, run-filed}
 use Rattle.portfolio.proofs.trade.run.Statement.{statement}
 use Rattle.portfolio.proofs.trade.run.Tie as tie
