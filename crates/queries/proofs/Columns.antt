@@ -18,7 +18,7 @@ use Rattle.account.specs.Account.{padded}
 use Rattle.queries.specs.declared.answered.Weighed.{Weighed}
 use Rattle.queries.specs.Queries.{Weight, openOnes, weightOf, weigh}
 use Rattle.queries.specs.Answers.{weighed}
-use Rattle.queries.specs.Places.{Priced, columns, addedTo}
+use Rattle.queries.specs.Inner.Places.{Priced, columns, addedTo}
 
 -- ---- a column
 module _ {A : Type 0} (z x : A) (l : List A) (h : length l < 64) where

@@ -17,7 +17,7 @@ use Rattle.queries.specs.declared.answered.Weighed.{Weighed}
 use Rattle.queries.specs.declared.answered.Snapshot.{Snapshot}
 use Rattle.queries.specs.declared.sum.Sums.{Sums}
 use Rattle.queries.specs.Answers.{weighed, snapshotOf, noSnapshot, toldSnapshot, answeredWeights, weightsNow, toldWeights}
-use Rattle.queries.specs.Places.{Priced, Adds, WeighsAt}
+use Rattle.queries.specs.Inner.Places.{Priced, Adds, WeighsAt}
 
 abbrev pub snapshotBy : ℤ → Sums → ℤ → Weighed → Snapshot
 snapshotBy cash r equity w = record {

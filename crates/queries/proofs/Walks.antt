@@ -20,7 +20,7 @@ use Rattle.call_lists.proofs.Lists.{from-place, from-end}
 use Rattle.account.proofs.Columns.{rows-length, row-of}
 use Rattle.wanted.specs.Equity.{worth, worthFrom}
 use Rattle.queries.specs.Queries.{openOnes, unpriced, firstUnpriced, profitFrom}
-use Rattle.queries.specs.Places.{PricesOf, Priced}
+use Rattle.queries.specs.Inner.Places.{PricesOf, Priced}
 
 -- ---- the position at place i, and those after it
 module _ (ps : List Position) (i : ℕ) (h : i < length ps) where

@@ -3,7 +3,7 @@ ghost use mathlib.Core.Path.{_≡_};
 ghost use Rattle.table.specs.Keyed.{pick};
 ghost use Rattle.table.specs.Rows.{isZero, cols, rows};
 ghost use Rattle.table.specs.Inner.Rows.{Ordered};
-ghost use Rattle.queries.specs.Places.{Adds};
+ghost use Rattle.queries.specs.Inner.Places.{Adds};
 use position::Shares;
 use table::Found;
 use table::held;

@@ -4,7 +4,7 @@ ghost use mathlib.Core.List.{[]};
 ghost use Prim.Native.Nat.{_<_};
 ghost use Rattle.table.specs.Rows.{cols, rows};
 ghost use Rattle.table.specs.Inner.Rows.{Ordered};
-ghost use Rattle.queries.specs.Places.{columns, addedTo, Weighs, WeighsAt};
+ghost use Rattle.queries.specs.Inner.Places.{columns, addedTo, Weighs, WeighsAt};
 ghost use Rattle.queries.specs.Answers.{weighed};
 use crate::answered::Weighed;
 use position::Position;

@@ -12,7 +12,7 @@ use Rattle.account.proofs.Full.{account-full}
 use Rattle.account.proofs.SoundAccounts.{account-ordered}
 use Rattle.portfolio.specs.Answers.{isDone}
 use Rattle.portfolio.proofs.Refusals.{Queried, query-done}
-use Rattle.queries.specs.Places.{Priced, Adds, WeighsAt}
+use Rattle.queries.specs.Inner.Places.{Priced, Adds, WeighsAt}
 use Rattle.queries.proofs.Walks.{places-priced}
 use Rattle.queries.proofs.Snapshots.{snapshot-made}
 use Rattle.queries.proofs.query.snapshot_at.Statement.{statement}

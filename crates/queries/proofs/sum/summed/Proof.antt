@@ -16,7 +16,7 @@ use Rattle.account.proofs.Holdings.{place-holds}
 use Rattle.account.proofs.Columns.{rows-length}
 use Rattle.wanted.specs.Equity.{worthFrom}
 use Rattle.queries.specs.Queries.{openOnes, profitFrom}
-use Rattle.queries.specs.Places.{Priced}
+use Rattle.queries.specs.Inner.Places.{Priced}
 use Rattle.queries.proofs.Walks.{worth-on, worth-end, profit-on, profit-end, open-on, open-end, one-most}
 use Rattle.queries.proofs.sum.summed.Statement.{statement}
 use Rattle.queries.proofs.sum.summed.Tie as tie

@@ -16,7 +16,7 @@ use Rattle.account.proofs.Holdings.{place-holds}
 use Rattle.account.proofs.Columns.{rows-length}
 use Rattle.queries.specs.Queries.{firstUnpriced}
 use Rattle.queries.specs.Answers.{answeredUnpriced}
-use Rattle.queries.specs.Places.{Priced}
+use Rattle.queries.specs.Inner.Places.{Priced}
 use Rattle.queries.proofs.Walks.{first-found, first-passed, first-end}
 use Rattle.queries.proofs.unpriced.first_unpriced.Statement.{statement}
 use Rattle.queries.proofs.unpriced.first_unpriced.Tie as tie

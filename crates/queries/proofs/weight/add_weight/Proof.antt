@@ -5,7 +5,7 @@ use mir.Val.{SFits}
 use mir.Facts.{toZ-ofZ}
 use borrow.Author.Needs.{needs}
 use Rattle.doubles.specs.Doubles.{ofI64}
-use Rattle.queries.specs.Places.{addedTo}
+use Rattle.queries.specs.Inner.Places.{addedTo}
 use Rattle.table.proofs.Ordering.{zero-same}
 use Rattle.queries.proofs.weight.add_weight.Statement.{statement}
 use Rattle.queries.proofs.weight.add_weight.Tie as tie

@@ -18,7 +18,7 @@ use Rattle.account.proofs.Columns.{rows-length}
 use Rattle.queries.specs.declared.answered.Weighed.{Weighed}
 use Rattle.queries.specs.Queries.{openOnes, weigh}
 use Rattle.queries.specs.Answers.{weighed}
-use Rattle.queries.specs.Places.{Priced, columns}
+use Rattle.queries.specs.Inner.Places.{Priced, columns}
 use Rattle.queries.proofs.Columns.{none-weighed, added-on, added-most}
 use Rattle.queries.proofs.weight.weigh.Statement.{statement}
 use Rattle.queries.proofs.weight.weigh.Tie as tie
