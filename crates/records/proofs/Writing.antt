@@ -21,7 +21,8 @@ use Rattle.portfolio.specs.Close.{closed}
 use Rattle.portfolio.specs.Trades.{filed, filedBy}
 use Rattle.records.specs.declared.into.Numbers.{Numbers}
 use Rattle.records.specs.Run.{recordsAt, collected}
-use Rattle.records.specs.Into.{numbersOf, Written, handed, handedBy}
+use Rattle.records.specs.Into.{handed, handedBy}
+use Rattle.records.specs.Inner.Into.{numbersOf, Written}
 use Rattle.fills.proofs.Fronts.{words-long}
 use Rattle.records.proofs.Reading.{read-back}
 

@@ -10,7 +10,7 @@ use mir.Facts.{toZ-ofZ}
 use borrow.Author.Needs.{needs}
 use Rattle.portfolio.specs.Close.{closed}
 use Rattle.portfolio.specs.Trades.{filed}
-use Rattle.records.specs.Into.{Written}
+use Rattle.records.specs.Inner.Into.{Written}
 use Rattle.records.proofs.Writing.{closed-within-64, places-are, filed-is-written}
 use Rattle.records.proofs.into.close_within.Statement.{statement}
 use Rattle.records.proofs.into.close_within.Tie as tie
