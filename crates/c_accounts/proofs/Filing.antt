@@ -26,7 +26,8 @@ use Rattle.account_bytes.specs.Sizes.{accountLength}
 use Rattle.account_bytes.specs.Account.{gotAccount, noAccount, accountOf, holdAccount, readAccount, writtenAccount}
 use Rattle.account_bytes.proofs.AccountKept.{good-long}
 use Rattle.c_accounts.specs.Entries.{accountIn, soundIn, accountBytes, Told, told, answering}
-use Rattle.c_accounts.specs.Setters.{setIn, filed}
+use Rattle.c_accounts.specs.Setters.{setIn}
+use Rattle.c_accounts.specs.Inner.Setters.{filed}
 
 -- ---- bytes that hold no account
 good-or-zero : (t : Bool) (a : Account) → let r = pick t (gotAccount a) noAccount in both (r .good) (soundAccount (r .account)) ≡ soundAccount (r .account)

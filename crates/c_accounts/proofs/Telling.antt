@@ -22,8 +22,10 @@ use Rattle.account.specs.Account.{heldIn, soundAccount}
 use Rattle.account.specs.Calls.{absent, present, presentOr, positionOf, positionAt}
 use Rattle.account_bytes.specs.Sizes.{settingsLength}
 use Rattle.account_bytes.specs.Settings.{settingsWords, writtenSettings}
-use Rattle.c_accounts.specs.Entries.{accountIn, settingsIn, soundIn, told, answering, unlessUnsound}
-use Rattle.c_accounts.specs.Queries.{queried, heldWords, settingsTold, tellIn}
+use Rattle.c_accounts.specs.Entries.{accountIn, settingsIn, soundIn, told, answering}
+use Rattle.c_accounts.specs.Inner.Entries.{unlessUnsound}
+use Rattle.c_accounts.specs.Queries.{queried, heldWords, settingsTold}
+use Rattle.c_accounts.specs.Inner.Queries.{tellIn}
 use Rattle.c_accounts.proofs.Filing.{sound-in}
 
 -- ---- words told, by each way out

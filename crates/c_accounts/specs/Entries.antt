@@ -3,9 +3,8 @@ use Prim.Native.Nat.{ℕ}
 use mathlib.Core.Bool.{Bool}
 use mathlib.Core.List.{List}
 use Rattle.answer.specs.declared.Answer.{Answer}
-use Rattle.answer.specs.declared.Answer.the-variants.{Unsound}
 use Rattle.answer.specs.Numbers.{numberOf}
-use Rattle.table.specs.Keyed.{pick, both}
+use Rattle.table.specs.Keyed.{both}
 use Rattle.word_bytes.specs.Words.{bytesOf}
 use Rattle.account.specs.declared.account.Account.{Account}
 use Rattle.account.specs.declared.settings.Settings.{Settings}
@@ -36,8 +35,3 @@ told n l = record { number = n; lent = l }
 
 abbrev pub answering : Answer → List ℕ → Told
 answering w l = told (numberOf w) l
-
--- ---- what the code does
--- "Check order where several apply: 11, ..": an answer of a sound account alone
-abbrev pub unlessUnsound : Account → Answer → Answer
-unlessUnsound a w = pick (soundAccount a) w Unsound

@@ -16,7 +16,7 @@ use Rattle.account.specs.Calls.{positionOf, positionAt}
 use Rattle.account_bytes.specs.Sizes.{settingsLength, countersSize, seriesSize}
 use Rattle.account_bytes.specs.Settings.{flagWord, settingsWords}
 use Rattle.account_bytes.specs.Account.{counterWords, seriesWords}
-use Rattle.c_accounts.specs.Entries.{accountIn, settingsIn, soundIn, Told, told, answering}
+use Rattle.c_accounts.specs.Entries.{accountIn, settingsIn, soundIn, Told, answering}
 
 -- 11; then 6 where `out` has another length; then what the question itself is refused for; then the words, and nothing beside them.
 unfoldable pub queried : List ℕ → ℕ → Answer → List ℕ → List ℕ → Told
@@ -58,13 +58,3 @@ positionTold s b out = queried b 48 (pick (goodSymbol s) Done BadSymbol) (heldWo
 
 abbrev pub positionAtTold : ℕ → List ℕ → List ℕ → Told
 positionAtTold i b out = queried b 48 Done (heldWords (positionAt i (accountIn b))) out
-
--- ---- what the code does
--- the number of a question to an account, and its words where all is well
-unfoldable pub tellIn : ℕ → List ℕ → List ℕ → Told
-tellIn n words out =
-    pick (eqb n 11)
-    (told n out)
-    (pick (eqb (length out) (8 * length words))
-    (told n (pick (eqb n 0) (bytesOf words) out))
-    (answering TooLong out))

@@ -1,8 +1,9 @@
 // Accounts out of lent bytes and back into them.
 ghost use mathlib.Core.Path.{_≡_};
 ghost use Rattle.answer.specs.Numbers.{numberOf};
-ghost use Rattle.c_accounts.specs.Entries.{accountIn, told, unlessUnsound};
-ghost use Rattle.c_accounts.specs.Setters.{filed};
+ghost use Rattle.c_accounts.specs.Entries.{accountIn, told};
+ghost use Rattle.c_accounts.specs.Inner.Entries.{unlessUnsound};
+ghost use Rattle.c_accounts.specs.Inner.Setters.{filed};
 use account::Account;
 use account::Changed;
 use account_bytes::read_account;

@@ -25,7 +25,8 @@ use Rattle.list_bytes.specs.Lists.{symbolsIn, pricesIn, pricesOf}
 use Rattle.list_bytes.proofs.Columns.{count-small}
 use Rattle.list_bytes.proofs.Lists.{price-symbols, price-prices}
 use Rattle.portfolio.specs.Answers.{isDone}
-use Rattle.c_queries.specs.Asked.{accountIn, soundIn, asked, early}
+use Rattle.c_queries.specs.Asked.{accountIn, soundIn, asked}
+use Rattle.c_queries.specs.Inner.Asked.{early}
 
 -- ---- bytes that hold no account
 good-or-zero : (t : Bool) (a : Account) → let r = pick t (gotAccount a) noAccount in both (r .good) (soundAccount (r .account)) ≡ soundAccount (r .account)

@@ -21,7 +21,8 @@ use Rattle.portfolio.specs.Answers.{isDone, hasRoom, closeAnswer, rebalanceAnsw
 use Rattle.portfolio.specs.Rebalance.{refused, rebalanced}
 use Rattle.portfolio.specs.Close.{closed}
 use Rattle.portfolio.specs.Returns.{recorded}
-use Rattle.c_trades.specs.Asked.{accountIn, asked, early, earlyOn}
+use Rattle.c_trades.specs.Asked.{accountIn, asked}
+use Rattle.c_trades.specs.Inner.Asked.{early, earlyOn}
 
 module _ {X : Type 0} (refuse : Answer → X) (call : X) where
   by-tests : (g s k w : Bool) → (s ≡ false → call ≡ refuse Unsound)

@@ -24,7 +24,8 @@ use Rattle.portfolio.specs.Answers.{isDone}
 use Rattle.portfolio.specs.Rebalance.{Outcome, rebalanced}
 use Rattle.portfolio.specs.Close.{closed}
 use Rattle.portfolio.specs.Returns.{Recorded, recorded}
-use Rattle.c_trades.specs.Asked.{accountIn, asked, early, earlyOn, Holds}
+use Rattle.c_trades.specs.Asked.{accountIn, asked}
+use Rattle.c_trades.specs.Inner.Asked.{early, earlyOn, Holds}
 use Rattle.c_trades.specs.Calls.{refusedIn}
 use Rattle.c_trades.specs.Told.{Told, tell, told}
 use Rattle.c_trades.specs.Returns.{Noted, note, noted, unrecorded}

@@ -12,7 +12,8 @@ use Rattle.portfolio.specs.declared.trade.Traded.{Traded}
 use Rattle.portfolio.specs.Answers.{places}
 use Rattle.portfolio.specs.Rebalance.{Outcome}
 use Rattle.portfolio.specs.Trades.{Filed, filed, filedBy}
-use Rattle.c_trades.specs.Told.{told, finished}
+use Rattle.c_trades.specs.Told.{told}
+use Rattle.c_trades.specs.Inner.Told.{finished}
 
 module _ (o : Outcome) (t : Traded) (ws zw : List ℕ) (is zi : List ℤ) (e : filedBy t ws is ≡ filed o zw zi) where
   words-are : ws ≡ fronted (allWords (o .records)) zw

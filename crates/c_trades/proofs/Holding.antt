@@ -18,7 +18,7 @@ use Rattle.account_bytes.proofs.Parts.{account-is, parts-read}
 use Rattle.portfolio.specs.declared.returns.Noted as portfolio
 use Rattle.portfolio.specs.Answers.{isDone}
 use Rattle.portfolio.specs.Inner.Returns.{notedBy}
-use Rattle.c_trades.specs.Asked.{Holds}
+use Rattle.c_trades.specs.Inner.Asked.{Holds}
 use Rattle.c_trades.specs.Returns.{note, noted}
 
 pub read-holds : (b : List ℕ) {h : Ledger} {d : Cols} (e : Cols) → readAccount b .good ≡ true → h ≡ ledgerOf (accountOf (wordsOf b)) → d ≡ readColumns b e → Holds b h d

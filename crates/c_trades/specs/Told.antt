@@ -1,13 +1,11 @@
 -- What a call over bytes returns and leaves: the answer's number in the low eight bits with the count of records above it, and the lent bytes.
 use Prim.Native.Nat.{ℕ, _*_}
 use mathlib.Core.List.{List, _++_}
-use lib.IntN.{ℤ}
 use lib.ListN.{length, drop}
 use Rattle.answer.specs.Numbers.{numberOf}
 use Rattle.table.specs.Keyed.{pick}
 use Rattle.account_bytes.specs.Account.{writtenAccount}
-use Rattle.list_bytes.specs.Records.{allBytes, writtenRecords}
-use Rattle.portfolio.specs.declared.trade.Traded.{Traded}
+use Rattle.list_bytes.specs.Records.{allBytes}
 use Rattle.portfolio.specs.Answers.{isDone}
 use Rattle.portfolio.specs.Rebalance.{Outcome}
 
@@ -25,11 +23,3 @@ told o b rs =
     pick (isDone (o .answer))
     (tell (256 * length (o .records)) (writtenAccount (o .account) b) (allBytes (o .records) ++ drop (96 * length (o .records)) rs))
     (tell (numberOf (o .answer)) b rs)
-
--- ---- what the code does
--- the same of records in number slices
-unfoldable pub finished : Traded → List ℕ → List ℤ → List ℕ → List ℕ → Told
-finished t ws is b rs =
-    pick (isDone (t .answer))
-    (tell (256 * t .records) (writtenAccount (t .account) b) (writtenRecords ws is (t .records) rs))
-    (tell (numberOf (t .answer)) b rs)
