@@ -32,8 +32,7 @@ use Rattle.wanted.specs.Equity.{equityOf}
 use Rattle.wanted.specs.Plan.{planned, plannedClose, closing, targeting, closings, targetings, wanted}
 use Rattle.wanted.proofs.Plans as planning
 use Rattle.admission.specs.Admission.{notionalOf, insertBy, reached, added, addedAll, lastAdmitted, admittedFrom, admitted}
-use Rattle.admission.specs.Inner.Kept as kept
-use Rattle.admission.specs.Inner.Kept.{Start, none, last, more}
+use Rattle.admission.specs.Inner.Kept.{Each, Start, none, last, more}
 use Rattle.admission.specs.Running.{planOf}
 use Rattle.admission.proofs.Kept.{added-keeps, addedAll-all, admitted-is-start}
 use Rattle.fills.specs.declared.order.Order.{Order}
@@ -205,7 +204,7 @@ module _ (g : ℕ → ℕ) where
 abbrev Wanted : PlannedOrder → Type 0
 Wanted o = isZero (o .quantity .0) ≡ false → Tradable (orderOf o)
 
-order-wanted : (k : ℕ) (p : ℤ) (o : PlannedOrder) → planning.Order k p o → Wanted o
+order-wanted : (k : ℕ) (p : ℤ) (o : PlannedOrder) → planning.OrderFor k p o → Wanted o
 order-wanted k p o h z = record { quantity = zero-same (o .quantity .0) ∙ z; price = rw (h .priced z .0) (h .priced z .1) }
 
 abbrev Traded : List PlannedOrder → Type 0
@@ -221,7 +220,7 @@ module _ (s : Settings) where
       picked Traded (ltZ (notionalOf cut) (s .«min_order_value»)) [] (cut ∷ []) nothing (λ q.
       and (record { quantity = zero-same (cut .quantity .0) ∙ e; price = h .price }) nothing))
 
-  admitted-traded : (n : ℕ) (left : ℤ) (l : List PlannedOrder) → kept.All (λ o. Tradable (orderOf o)) l → Traded (admittedFrom s n left l)
+  admitted-traded : (n : ℕ) (left : ℤ) (l : List PlannedOrder) → Each (λ o. Tradable (orderOf o)) l → Traded (admittedFrom s n left l)
   unfolding admittedFrom
   admitted-traded n left [] h = nothing
   admitted-traded n left (o ∷ l) h =
@@ -232,12 +231,12 @@ module _ (s : Settings) where
       and (h .0) (admitted-traded (n + 1) (left -ℤ notionalOf o) l (h .1))))))
 
 module _ (s : Settings) (equity : ℤ) (price : ℕ → ℤ) where
-  closings-wanted : (ts : List ℕ) (ps : List Position) (l : List PlannedOrder) → kept.All Wanted l → kept.All Wanted (closings s equity price ts ps ++ l)
+  closings-wanted : (ts : List ℕ) (ps : List Position) (l : List PlannedOrder) → Each Wanted l → Each Wanted (closings s equity price ts ps ++ l)
   unfolding closings
   closings-wanted ts [] l h = h
   closings-wanted ts (p ∷ ps) l h = (order-wanted (keyOf p) (price (keyOf p)) (closing s equity price ts p) (planning.closing-order s equity price ts p), closings-wanted ts ps l h)
 
-  targetings-wanted : (held : List Position) (ts : List ℕ) (ws : List Float) → kept.All Wanted (targetings s equity price held ts ws)
+  targetings-wanted : (held : List Position) (ts : List ℕ) (ws : List Float) → Each Wanted (targetings s equity price held ts ws)
   unfolding targetings
   targetings-wanted held [] ws = omega arith
   targetings-wanted held (t ∷ ts) [] = omega arith

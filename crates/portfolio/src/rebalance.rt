@@ -4,9 +4,9 @@ ghost use lib.ListN.{length};
 ghost use Rattle.call_lists.specs.Lists.{priceOf};
 ghost use Rattle.table.specs.Rows.{cols};
 ghost use Rattle.account.specs.Inner.Account.{accountWith};
-ghost use Rattle.admission.specs.Inner.Columns as admission;
+ghost use Rattle.admission.specs.Inner.Columns.{planCols};
 ghost use Rattle.portfolio.specs.Answers.{places};
-ghost use Rattle.portfolio.specs.Inner.Planned.{Plans, Ready};
+ghost use Rattle.portfolio.specs.Inner.Planned.{PlansFromCash, Ready};
 ghost use Rattle.portfolio.specs.Rebalance.{admittedPlan, afterRebalance, rebalanced};
 ghost use Rattle.portfolio.specs.Trades.{filed, filedBy};
 ghost use Rattle.portfolio.specs.Inner.Trades.{tradedOn};
@@ -46,9 +46,9 @@ fn plan_on<'a>(
     price: &mut [i64; 64],
     drift: &mut [f64; 64],
 ) -> Planned
-    ensures { λ r. ⌜ Plans s cash (now (key .entry)) (now (held .entry)) n (now (targets .entry)) (now (weights .entry)) (now (symbols .entry)) (now (prices .entry))
-        (admission.cols (now (symbol .entry)) (now (quantity .entry)) (now (price .entry)) (now (drift .entry)))
-        (admission.cols (now (symbol .exit)) (now (quantity .exit)) (now (price .exit)) (now (drift .exit))) r ⌝ }
+    ensures { λ r. ⌜ PlansFromCash s cash (now (key .entry)) (now (held .entry)) n (now (targets .entry)) (now (weights .entry)) (now (symbols .entry)) (now (prices .entry))
+        (planCols (now (symbol .entry)) (now (quantity .entry)) (now (price .entry)) (now (drift .entry)))
+        (planCols (now (symbol .exit)) (now (quantity .exit)) (now (price .exit)) (now (drift .exit))) r ⌝ }
 {
     let equity = sums::saturating_add(cash, total_worth(key, held, n, symbols, prices));
     if equity <= 0 {
