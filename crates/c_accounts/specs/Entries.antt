@@ -26,12 +26,12 @@ unfoldable pub accountBytes : Account → List ℕ
 accountBytes a = bytesOf (accountWords a)
 
 -- ---- the answer's number, and the lent bytes as the entry leaves them
-pub record Told : Type 0 where
+pub record AccountTold : Type 0 where
   pub number : ℕ
   pub lent : List ℕ
 
-abbrev pub told : ℕ → List ℕ → Told
-told n l = record { number = n; lent = l }
+abbrev pub accountTold : ℕ → List ℕ → AccountTold
+accountTold n l = record { number = n; lent = l }
 
-abbrev pub answering : Answer → List ℕ → Told
-answering w l = told (numberOf w) l
+abbrev pub answering : Answer → List ℕ → AccountTold
+answering w l = accountTold (numberOf w) l

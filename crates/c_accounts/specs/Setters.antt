@@ -7,11 +7,11 @@ use Rattle.table.specs.Keyed.{pick, both}
 use Rattle.account.specs.declared.settings.Settings.{Settings}
 use Rattle.account.specs.Settings.{goodSettings}
 use Rattle.account.specs.Account.{withSettings}
-use Rattle.c_accounts.specs.Entries.{accountIn, soundIn, accountBytes, Told, answering}
+use Rattle.c_accounts.specs.Entries.{accountIn, soundIn, accountBytes, AccountTold, answering}
 
 -- The account of the bytes under other settings: 11; then 1 where what is given is no mark or flag or the settings are bad; then the account's bytes.
 -- "Each refusal returns its number with .. every lent place as found."
-unfoldable pub setIn : Bool → Settings → List ℕ → Told
+unfoldable pub setIn : Bool → Settings → List ℕ → AccountTold
 setIn given s b =
     pick (soundIn b)
     (pick (both given (goodSettings s))

@@ -89,13 +89,13 @@ module _ (r : Read) where
   has-room {t} d n = both-true (wholeList 128 (r .list)) (r .fits) (tests-hold (sym d ∙ not-false t n)) .1
 
 -- ---- as many prices as were read are lent
-pub record Lent (p : Prices) : Type 0 where
+pub record LentPrices (p : Prices) : Type 0 where
   pub symbols-room : p .count ≤ length (p .symbol)
   pub symbols-long : p .count ≡ length (take (p .count) (p .symbol))
   pub prices-room : p .count ≤ length (p .price)
   pub prices-long : p .count ≡ length (take (p .count) (p .price))
 
-pub lent : (p : Prices) → length (p .symbol) ≡ 128 → length (p .price) ≡ 128 → p .count ≤ 128 → Lent p
+pub lent : (p : Prices) → length (p .symbol) ≡ 128 → length (p .price) ≡ 128 → p .count ≤ 128 → LentPrices p
 lent p es ep h =
     record {
       symbols-room = omega arith;

@@ -9,17 +9,17 @@ use Rattle.list_bytes.specs.Records.{allBytes}
 use Rattle.portfolio.specs.Answers.{isDone}
 use Rattle.portfolio.specs.Rebalance.{Outcome}
 
-pub record Told : Type 0 where
+pub record TradeTold : Type 0 where
   pub answer : ℕ
   pub account : List ℕ
   pub records : List ℕ
 
-abbrev pub tell : ℕ → List ℕ → List ℕ → Told
-tell n b rs = record { answer = n; account = b; records = rs }
+abbrev pub tellTrade : ℕ → List ℕ → List ℕ → TradeTold
+tellTrade n b rs = record { answer = n; account = b; records = rs }
 
 -- "After 0, records fill the first places, the answer counts them, and the rest are as found"; a refusal leaves "every lent place as found"
-unfoldable pub told : Outcome → List ℕ → List ℕ → Told
-told o b rs =
+unfoldable pub tradeTold : Outcome → List ℕ → List ℕ → TradeTold
+tradeTold o b rs =
     pick (isDone (o .answer))
-    (tell (256 * length (o .records)) (writtenAccount (o .account) b) (allBytes (o .records) ++ drop (96 * length (o .records)) rs))
-    (tell (numberOf (o .answer)) b rs)
+    (tellTrade (256 * length (o .records)) (writtenAccount (o .account) b) (allBytes (o .records) ++ drop (96 * length (o .records)) rs))
+    (tellTrade (numberOf (o .answer)) b rs)

@@ -6,12 +6,12 @@ use lib.ListN.{length}
 use Rattle.answer.specs.declared.Answer.the-variants.{TooLong}
 use Rattle.table.specs.Keyed.{pick}
 use Rattle.word_bytes.specs.Words.{bytesOf}
-use Rattle.c_accounts.specs.Entries.{Told, told, answering}
+use Rattle.c_accounts.specs.Entries.{AccountTold, accountTold, answering}
 
-unfoldable pub tellIn : ℕ → List ℕ → List ℕ → Told
+unfoldable pub tellIn : ℕ → List ℕ → List ℕ → AccountTold
 tellIn n words out =
     pick (eqb n 11)
-    (told n out)
+    (accountTold n out)
     (pick (eqb (length out) (8 * length words))
-    (told n (pick (eqb n 0) (bytesOf words) out))
+    (accountTold n (pick (eqb n 0) (bytesOf words) out))
     (answering TooLong out))

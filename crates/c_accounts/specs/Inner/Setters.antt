@@ -8,10 +8,10 @@ use Rattle.answer.specs.Numbers.{numberOf}
 use Rattle.table.specs.Keyed.{pick}
 use Rattle.account.specs.declared.change.Changed.{Changed}
 use Rattle.account_bytes.specs.Account.{writtenAccount}
-use Rattle.c_accounts.specs.Entries.{Told, told, answering}
+use Rattle.c_accounts.specs.Entries.{AccountTold, accountTold, answering}
 
-unfoldable pub filed : Bool → Changed → List ℕ → Told
-filed given c b =
+unfoldable pub setterTold : Bool → Changed → List ℕ → AccountTold
+setterTold given c b =
     pick (eqb (numberOf (c .answer)) 0)
-    (pick given (told 0 (writtenAccount (c .account) b)) (answering BadSetting b))
-    (told (numberOf (c .answer)) b)
+    (pick given (accountTold 0 (writtenAccount (c .account) b)) (answering BadSetting b))
+    (accountTold (numberOf (c .answer)) b)

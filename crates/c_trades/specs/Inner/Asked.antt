@@ -29,6 +29,6 @@ unfoldable pub early : ReadAccount → ℕ → Bool → Answer
 early r kind whole = unless (r .good) Unsound (earlyOn (r .account) kind whole)
 
 -- bytes that hold the account of a ledger and five columns
-pub record Holds (b : List ℕ) (h : Ledger) (c : Cols) : Type 0 where
+pub record HoldsAccount (b : List ℕ) (h : Ledger) (c : Cols) : Type 0 where
   pub good : readAccount b .good ≡ true
   pub same : accountWith h c ≡ accountIn b

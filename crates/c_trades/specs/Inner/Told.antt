@@ -8,10 +8,10 @@ use Rattle.account_bytes.specs.Account.{writtenAccount}
 use Rattle.list_bytes.specs.Records.{writtenRecords}
 use Rattle.portfolio.specs.declared.trade.Traded.{Traded}
 use Rattle.portfolio.specs.Answers.{isDone}
-use Rattle.c_trades.specs.Told.{Told, tell}
+use Rattle.c_trades.specs.Told.{TradeTold, tellTrade}
 
-unfoldable pub finished : Traded → List ℕ → List ℤ → List ℕ → List ℕ → Told
+unfoldable pub finished : Traded → List ℕ → List ℤ → List ℕ → List ℕ → TradeTold
 finished t ws is b rs =
     pick (isDone (t .answer))
-    (tell (256 * t .records) (writtenAccount (t .account) b) (writtenRecords ws is (t .records) rs))
-    (tell (numberOf (t .answer)) b rs)
+    (tellTrade (256 * t .records) (writtenAccount (t .account) b) (writtenRecords ws is (t .records) rs))
+    (tellTrade (numberOf (t .answer)) b rs)

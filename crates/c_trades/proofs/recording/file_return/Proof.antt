@@ -9,7 +9,7 @@ use Rattle.list_bytes.proofs.Lists.{Fronts, price-fronts}
 use Rattle.portfolio.specs.Returns.{recorded}
 use Rattle.portfolio.specs.Inner.Returns.{notedBy}
 use Rattle.c_trades.specs.Asked.{accountIn}
-use Rattle.c_trades.specs.Returns.{noted}
+use Rattle.c_trades.specs.Returns.{returnTold}
 use Rattle.c_trades.proofs.Holding.{series-kept}
 use Rattle.c_trades.proofs.recording.file_return.Statement.{statement}
 use Rattle.c_trades.proofs.recording.file_return.Tie as tie
@@ -74,7 +74,7 @@ returns c =
     let t = k .before .before .before .before .before in
     let s = begun (prices-read t) in
     let b = s .args .account .now in
-    simp (k .keep .ensures .0, k .keep .ensures .1) (series-kept b (s .args .h) (columns-at s) (s .pre .1) (t .return-on .result) _ _ ∙ ap (λ o. noted o b) (made t))
+    simp (k .keep .ensures .0, k .keep .ensures .1) (series-kept b (s .args .h) (columns-at s) (s .pre .1) (t .return-on .result) _ _ ∙ ap (λ o. returnTold o b) (made t))
 
 pub file-return-spec : {M : Type 1} → statement M
 file-return-spec =
