@@ -7,7 +7,7 @@ use Rattle.word_bytes.specs.Words.{bytesOf, turned}
 use Rattle.word_bytes.specs.Numbers.{unsignedOf}
 use Rattle.fills.specs.declared.record.ExecutionRecord.{ExecutionRecord}
 use Rattle.fills.specs.Records.{kindNumber, intsOf, fronted}
-use Rattle.list_bytes.specs.Entries.{places}
+use Rattle.list_bytes.specs.Entries.{atPlaces}
 
 -- "Each record carries its kind, rebalance or stop exit, beside the figures of `ExecutionRecord`": four words, the symbol as its text, and eight signed numbers
 abbrev pub recordWords : ExecutionRecord → List ℕ
@@ -32,7 +32,7 @@ intAt is i j = unsignedOf (getD is (8 * i + j) (pos 0))
 -- the words of the first n records
 unfoldable pub rowsIn : ℕ → List ℕ → List ℤ → List ℕ
 rowsIn zero ws is = []
-rowsIn (suc n) ws is = rowsIn n ws is ++ (fourAt ws n ++ places 8 (intAt is n))
+rowsIn (suc n) ws is = rowsIn n ws is ++ (fourAt ws n ++ atPlaces 8 (intAt is n))
 
 -- how many records are written: as many as the count and three slices of these lengths allow
 abbrev pub fitting : ℕ → ℕ → ℕ → ℕ → ℕ

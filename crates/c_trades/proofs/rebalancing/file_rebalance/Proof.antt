@@ -5,7 +5,7 @@ use borrow.Author.Needs.{needs}
 use lib.ListN.{length}
 use Rattle.table.specs.Rows.{Cols, cols}
 use Rattle.account.specs.Inner.Account.{accountWith}
-use Rattle.list_bytes.specs.Lists.{symbolsIn, weightsIn, pricesIn, listed}
+use Rattle.list_bytes.specs.Lists.{symbolsIn, weightsIn, pricesIn, entryColumns}
 use Rattle.list_bytes.proofs.Lists.{Fronts, target-fronts, price-fronts}
 use Rattle.portfolio.specs.declared.trade.Traded.{Traded}
 use Rattle.portfolio.specs.Answers.{places}
@@ -36,10 +36,10 @@ abbrev traded : tie.After-rebalance-on → Traded
 traded c = let l = c .rebalance-on .last in tradedOn (c .rebalance-on .result) (cols (l .1 .0) (l .1 .1 .0) (l .1 .1 .1 .0) (l .1 .1 .1 .1 .0) (l .1 .1 .1 .1 .1 .0))
 
 -- what is lent of each column of the lists
-targets-lent : (c : tie.After-targets-into) → let l = begun c .args .targets .now in Fronts 64 l (weightsIn l) (listed (c .targets-into .result) (c .targets-into .last .1 .0) (c .targets-into .last .1 .1 .0))
+targets-lent : (c : tie.After-targets-into) → let l = begun c .args .targets .now in Fronts 64 l (weightsIn l) (entryColumns (c .targets-into .result) (c .targets-into .last .1 .0) (c .targets-into .last .1 .1 .0))
 targets-lent c = target-fronts _ _ _ (c .targets-into .ensures)
 
-prices-lent : (c : tie.After-prices-into) → let l = begun (targets-read c) .args .prices .now in Fronts 128 l (pricesIn l) (listed (c .prices-into .result) (c .prices-into .last .1 .0) (c .prices-into .last .1 .1 .0))
+prices-lent : (c : tie.After-prices-into) → let l = begun (targets-read c) .args .prices .now in Fronts 128 l (pricesIn l) (entryColumns (c .prices-into .result) (c .prices-into .last .1 .0) (c .prices-into .last .1 .1 .0))
 prices-lent c = price-fronts _ _ _ (c .prices-into .ensures)
 
 left-by : (c : tie.After-rebalance-on) → let s = start-of c in

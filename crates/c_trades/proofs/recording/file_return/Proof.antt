@@ -4,7 +4,7 @@ use borrow.Author.Needs.{needs}
 use Rattle.table.specs.Rows.{Cols, cols}
 use Rattle.account.specs.declared.account.Account.{Account}
 use Rattle.account.specs.Inner.Account.{accountWith}
-use Rattle.list_bytes.specs.Lists.{symbolsIn, pricesIn, listed}
+use Rattle.list_bytes.specs.Lists.{symbolsIn, pricesIn, entryColumns}
 use Rattle.list_bytes.proofs.Lists.{Fronts, price-fronts}
 use Rattle.portfolio.specs.Returns.{recorded}
 use Rattle.portfolio.specs.Inner.Returns.{notedBy}
@@ -24,7 +24,7 @@ abbrev columns-at : tie.Start → Cols
 columns-at s = cols (s .args .symbol .now) (s .args .quantity .now) (s .args .average .now) (s .args .realized .now) (s .args .total .now)
 
 -- what is lent of each column of the prices
-fronts : (c : tie.After-prices-into) → let l = begun c .args .prices .now in Fronts 128 l (pricesIn l) (listed (c .prices-into .result) (c .prices-into .last .1 .0) (c .prices-into .last .1 .1 .0))
+fronts : (c : tie.After-prices-into) → let l = begun c .args .prices .now in Fronts 128 l (pricesIn l) (entryColumns (c .prices-into .result) (c .prices-into .last .1 .0) (c .prices-into .last .1 .1 .0))
 fronts c = price-fronts _ _ _ (c .prices-into .ensures)
 
 made : (c : tie.After-return-on) → let s = begun (prices-read c) in
