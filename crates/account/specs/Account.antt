@@ -13,7 +13,7 @@ use Rattle.table.specs.Rows.{Cols, columnsOf, rows, rowAt, ordered}
 use Rattle.account.specs.declared.settings.Settings.{Settings}
 use Rattle.account.specs.declared.account.Account.{Account}
 use Rattle.account.specs.declared.account.Series.{Series}
-use Rattle.account.specs.Settings.{atLeast, goodSettings}
+use Rattle.account.specs.Settings.{isAtLeast, goodSettings}
 
 -- each of the positions at the first n places is sound
 unfoldable pub soundPlaces : ℕ → Cols → Bool
@@ -33,7 +33,7 @@ soundTable t = soundColumns (t .count) (columnsOf t)
 
 -- "good settings, cash at least 0"
 unfoldable pub soundScalars : ℤ → Settings → Bool
-soundScalars cash s = both (atLeast 0 cash) (goodSettings s)
+soundScalars cash s = both (isAtLeast 0 cash) (goodSettings s)
 
 -- "A sound account has good settings, cash at least 0, positions [..]"
 unfoldable pub soundAccount : Account → Bool
@@ -41,17 +41,17 @@ soundAccount a = both (soundScalars (a .cash) (a .settings)) (soundTable (a .pos
 
 -- ---- the table that holds a list of positions
 -- a column with "unused places zero"
-abbrev pub padded : {A : Type 0} → A → List A → List A
-padded z l = l ++ replicate (64 - length l) z
+abbrev pub paddedColumn : {A : Type 0} → A → List A → List A
+paddedColumn z l = l ++ replicate (64 - length l) z
 
 unfoldable pub tableOf : List Position → Table
 tableOf ps = record {
   count = length ps;
-  symbol = padded 0 (map keyOf ps);
-  quantity = padded (pos 0) (map held ps);
-  «avg_entry_price» = padded (pos 0) (map avg ps);
-  «realized_pnl» = padded (pos 0) (map realized ps);
-  «total_cost» = padded (pos 0) (map total ps);
+  symbol = paddedColumn 0 (map keyOf ps);
+  quantity = paddedColumn (pos 0) (map held ps);
+  «avg_entry_price» = paddedColumn (pos 0) (map avg ps);
+  «realized_pnl» = paddedColumn (pos 0) (map realized ps);
+  «total_cost» = paddedColumn (pos 0) (map total ps);
 }
 
 -- ---- one field changed

@@ -22,7 +22,7 @@ use Rattle.fills.specs.Records.{kindOf}
 use Rattle.list_bytes.specs.Lists.{symbolsIn, weightsIn, pricesIn}
 use Rattle.portfolio.specs.Answers.{isDone}
 use Rattle.portfolio.specs.Rebalance.{Outcome, rebalanced}
-use Rattle.portfolio.specs.Close.{closed}
+use Rattle.portfolio.specs.Close.{positionClosed}
 use Rattle.portfolio.specs.Returns.{Recorded, recorded}
 use Rattle.c_trades.specs.Asked.{accountIn, asked}
 use Rattle.c_trades.specs.Inner.Asked.{early, earlyOn, HoldsAccount}
@@ -105,7 +105,7 @@ module _ (b rs : List ℕ) (period kind : ℕ) where
   abbrev pub close-call : ℕ → ℤ → CallOnBytes Outcome TradeTold b
   close-call s price =
       record {
-        gives = λ a. closed a s price period (kindOf kind) (length rs / 96);
+        gives = λ a. positionClosed a s price period (kindOf kind) (length rs / 96);
         refuses = refusedIn b;
         tells = λ o. tradeTold o b rs;
         leaves = λ n. tellTrade n b rs;

@@ -9,7 +9,7 @@ use lib.Seq.{length-take-le}
 use Rattle.fills.specs.Records.{allWords, allInts, fronted}
 use Rattle.list_bytes.proofs.Records.{words-of, records-written}
 use Rattle.portfolio.specs.declared.trade.Traded.{Traded}
-use Rattle.portfolio.specs.Answers.{places}
+use Rattle.portfolio.specs.Answers.{recordPlaces}
 use Rattle.portfolio.specs.Rebalance.{Outcome}
 use Rattle.portfolio.specs.Trades.{Filed, filed, filedBy}
 use Rattle.c_trades.specs.Told.{tradeTold}
@@ -54,7 +54,7 @@ finishing o t ws zw is zi rs e n h =
 pub record Roomed (q most r : ℕ) (ws : List ℕ) (is : List ℤ) : Type 0 where
   pub words-long : length (take (4 * r) ws) ≡ 4 * r
   pub ints-long : length (take (8 * r) is) ≡ 8 * r
-  pub same : places (length (take (4 * r) ws)) (length (take (8 * r) is)) ≡ min q most
+  pub same : recordPlaces (length (take (4 * r) ws)) (length (take (8 * r) is)) ≡ min q most
 
 pub roomed : (q most r : ℕ) (ws : List ℕ) (is : List ℤ) → r ≡ min q most → length ws ≡ 4 * most → length is ≡ 8 * most → Roomed q most r ws is
 roomed q most r ws is e m n =
@@ -64,5 +64,5 @@ roomed q most r ws is e m n =
 
 -- a call that asks for no more places than these tells the same in them
 pub told-roomed : {q most r : ℕ} {ws : List ℕ} {is : List ℤ} → Roomed q most r ws is → (call : ℕ → Outcome) → call (min q most) ≡ call q
-    → (b rs : List ℕ) → tradeTold (call (places (length (take (4 * r) ws)) (length (take (8 * r) is)))) b rs ≡ tradeTold (call q) b rs
+    → (b rs : List ℕ) → tradeTold (call (recordPlaces (length (take (4 * r) ws)) (length (take (8 * r) is)))) b rs ≡ tradeTold (call q) b rs
 told-roomed k call e b rs = ap (λ n. tradeTold (call n) b rs) (k .same) ∙ ap (λ o. tradeTold o b rs) e

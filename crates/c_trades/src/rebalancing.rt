@@ -7,7 +7,7 @@ ghost use Rattle.table.specs.Rows.{cols};
 ghost use Rattle.account.specs.Inner.Account.{accountWith};
 ghost use Rattle.list_bytes.specs.Entries.{wholeList};
 ghost use Rattle.list_bytes.specs.Lists.{symbolsIn, weightsIn, pricesIn};
-ghost use Rattle.portfolio.specs.Answers.{places};
+ghost use Rattle.portfolio.specs.Answers.{recordPlaces};
 ghost use Rattle.portfolio.specs.Rebalance.{rebalanced};
 ghost use Rattle.fills.specs.Records.{kindOf};
 ghost use Rattle.c_trades.specs.Told.{tellTrade, tradeTold};
@@ -49,7 +49,7 @@ fn file_rebalance(
     ensures { λ r. ⌜ tellTrade r (now (account .exit)) (now (records .exit))
         ≡ tradeTold (rebalanced (accountWith h (cols (now (symbol .entry)) (now (quantity .entry)) (now (average .entry)) (now (realized .entry)) (now (total .entry))))
         (symbolsIn (now (targets .entry))) (weightsIn (now (targets .entry))) (symbolsIn (now (prices .entry))) (pricesIn (now (prices .entry)))
-        period (kindOf kind) (places (length (now (words .entry))) (length (now (ints .entry))))) (now (account .entry)) (now (records .entry)) ⌝ }
+        period (kindOf kind) (recordPlaces (length (now (words .entry))) (length (now (ints .entry))))) (now (account .entry)) (now (records .entry)) ⌝ }
 {
     let k = fills::kind_of(kind);
     let mut ts = [0u64; 64];

@@ -32,7 +32,7 @@ use Rattle.fills.specs.declared.record.ExecutionRecord.{ExecutionRecord}
 use Rattle.fills.specs.Orders.{State, buys, paid}
 use Rattle.fills.specs.Records.{recordOf}
 use Rattle.fills.specs.Fill.{fillsWhole, made, counted, settled, trimmedFill, fill}
-use Rattle.fills.specs.Inner.Deal.{dealt, noDeal, trimmedTo, bought, sold, dealOf, recordBy, countedBy, settledBy, afterDeal}
+use Rattle.fills.specs.Inner.Deal.{dealt, noDeal, trimmedTo, buyDeal, saleDeal, dealOf, recordBy, countedBy, settledBy, afterDeal}
 use Rattle.fills.specs.Inner.Runs.{state, countedIn, sequenceAfter, settledIn, recordsOf, Fills}
 
 -- ---- a fill is what its deal says
@@ -74,7 +74,7 @@ module _ (t : Terms) (o : Order) (s : State) where
   by-tests false false w false e = sym nothing-done
 
   pub fill-is-deal : fill t o s ≡ afterDeal t o (dealOf t o (s .cash)) s
-  unfolding fill fillsWhole dealOf bought sold
+  unfolding fill fillsWhole dealOf buyDeal saleDeal
   fill-is-deal = by-tests (isZero (o .quantity .0)) (buys o) (leZ (need (t .costs) (o .quantity .0) (paid t o)) (s .cash)) (leZ (pos 0) (satSub (s .cash) (cashTaken (t .costs) (o .quantity .0) (paid t o)))) refl
 
   -- a deal of nothing, and of something

@@ -12,7 +12,7 @@ use Rattle.table.specs.Rows.{Cols, rows}
 use Rattle.table.specs.Inner.Rows.{Ordered}
 use Rattle.account.specs.declared.account.Account.{Account}
 use Rattle.account.specs.Account.{tableOf}
-use Rattle.account.specs.Inner.Account.{tableFrom}
+use Rattle.account.specs.Inner.Account.{tableWith}
 use Rattle.account.proofs.SoundAccounts.{account-cash, account-costs}
 use Rattle.account.proofs.Tables.{ordered-table}
 use Rattle.fills.specs.declared.order.Order.{Order}
@@ -50,7 +50,7 @@ module _ (a : Account) (t : Terms) (os : List Order) (s : State) (g : OrdersOn a
 
   -- and of the count and the five columns that two such runs leave
   pub same-columns : (v w : List Order) → Perm Order os v → Perm Order os w → AllWhole t v s → AllWhole t w s
-      → (n m : ℕ) (c d : Cols) → Ordered n c → Ordered m d → rows n c ≡ fillAll t v s .held → rows m d ≡ fillAll t w s .held → tableFrom n c ≡ tableFrom m d
+      → (n m : ℕ) (c d : Cols) → Ordered n c → Ordered m d → rows n c ≡ fillAll t v s .held → rows m d ≡ fillAll t w s .held → tableWith n c ≡ tableWith m d
   same-columns v w p q x y n m c d o k e f =
       let same = order-is-free .same v w p q x y in
       sym (ordered-table n c o) ∙ ap tableOf (e ∙ same .held ∙ sym f) ∙ ordered-table m d k

@@ -42,7 +42,7 @@ use Rattle.admission.specs.Running.{inRunningOrder, planOf}
 use Rattle.admission.proofs.Kept.{addedAll-all, admitted-all, running-all}
 use Rattle.portfolio.specs.Answers.{isDone, closeAnswer, rebalanceAnswer, returnAnswer}
 use Rattle.portfolio.specs.Rebalance.{Outcome, orderOf, termsOf, stateOf, accountAfter, admittedPlan, afterPlan, afterRebalance, rebalanced}
-use Rattle.portfolio.specs.Close.{closeOrder, afterClose, closed}
+use Rattle.portfolio.specs.Close.{closeOrder, afterClose, positionClosed}
 use Rattle.portfolio.specs.Returns.{Recorded, recorded}
 use Rattle.portfolio.proofs.Refusals.{close-done, rebalance-done}
 
@@ -117,8 +117,8 @@ module _ (a : Account) (f : Full (columnsOf (a .positions))) (e : soundAccount a
   run-sound : (os : List Order) (period : ℕ) (kind : ExecutionKind) → AllListed os → Sound (fillAll (termsOf a period kind) os (stateOf a))
   run-sound os period kind l = fills-keep-sound (termsOf a period kind) (account-costs a e) os l (stateOf a) state-sound
 
-  pub close-keeps-sound : (s : ℕ) (price : ℤ) → SFits w64 price → (period : ℕ) (kind : ExecutionKind) (room : ℕ) → soundAccount (closed a s price period kind room .account) ≡ true
-  unfolding closed afterClose fillAll
+  pub close-keeps-sound : (s : ℕ) (price : ℤ) → SFits w64 price → (period : ℕ) (kind : ExecutionKind) (room : ℕ) → soundAccount (positionClosed a s price period kind room .account) ≡ true
+  unfolding positionClosed afterClose fillAll
   close-keeps-sound s price fits period kind room =
       either-sound (λ (o : Outcome). o .account) (isDone (closeAnswer a s price room)) _ _
       (λ d.

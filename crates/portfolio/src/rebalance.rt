@@ -5,7 +5,7 @@ ghost use Rattle.call_lists.specs.Lists.{priceOf};
 ghost use Rattle.table.specs.Rows.{cols};
 ghost use Rattle.account.specs.Inner.Account.{accountWith};
 ghost use Rattle.admission.specs.Inner.Columns.{planCols};
-ghost use Rattle.portfolio.specs.Answers.{places};
+ghost use Rattle.portfolio.specs.Answers.{recordPlaces};
 ghost use Rattle.portfolio.specs.Inner.Planned.{PlansFromCash, Ready};
 ghost use Rattle.portfolio.specs.Rebalance.{admittedPlan, afterRebalance, rebalanced};
 ghost use Rattle.portfolio.specs.Trades.{filed, filedBy};
@@ -93,7 +93,7 @@ fn plan_and_fill(
 ) -> Ran
     ensures { λ r. ⌜ (let c = cols (now (symbol .entry)) (now (quantity .entry)) (now (average .entry)) (now (realized .entry)) (now (total .entry)) in
         let d = cols (now (symbol .exit)) (now (quantity .exit)) (now (average .exit)) (now (realized .exit)) (now (total .exit)) in
-        Ready (accountWith h c) (now (targets .entry)) (now (weights .entry)) (now (symbols .entry)) (places (length (now (words .entry))) (length (now (ints .entry))))
+        Ready (accountWith h c) (now (targets .entry)) (now (weights .entry)) (now (symbols .entry)) (recordPlaces (length (now (words .entry))) (length (now (ints .entry))))
         → filedBy (tradedOn r d) (now (words .exit)) (now (ints .exit))
         ≡ filed (afterRebalance (accountWith h c) (admittedPlan (accountWith h c) (now (targets .entry)) (now (weights .entry)) (priceOf (now (symbols .entry)) (now (prices .entry)))) period kind)
         (now (words .entry)) (now (ints .entry))) ⌝ }
@@ -160,7 +160,7 @@ pub fn rebalance_on(
         let d = cols (now (symbol .exit)) (now (quantity .exit)) (now (average .exit)) (now (realized .exit)) (now (total .exit)) in
         filedBy (tradedOn r d) (now (words .exit)) (now (ints .exit))
         ≡ filed (rebalanced (accountWith h c) (now (targets .entry)) (now (weights .entry)) (now (symbols .entry)) (now (prices .entry)) period kind
-        (places (length (now (words .entry))) (length (now (ints .entry))))) (now (words .entry)) (now (ints .entry))) ⌝ }
+        (recordPlaces (length (now (words .entry))) (length (now (ints .entry))))) (now (words .entry)) (now (ints .entry))) ⌝ }
 {
     whole_columns(*symbol, *quantity, *average, *realized, *total);
     let room = places(words.len(), ints.len());
@@ -237,7 +237,7 @@ pub fn rebalance_simple(
 ) -> Traded
     ensures { λ r. ⌜ filedBy r (now (words .exit)) (now (ints .exit))
         ≡ filed (rebalanced a (now (targets .entry)) (now (weights .entry)) (now (symbols .entry)) (now (prices .entry)) period kind
-        (places (length (now (words .entry))) (length (now (ints .entry))))) (now (words .entry)) (now (ints .entry)) ⌝ }
+        (recordPlaces (length (now (words .entry))) (length (now (ints .entry))))) (now (words .entry)) (now (ints .entry)) ⌝ }
 {
     let h = ledger_of(a);
     let t = a.positions;

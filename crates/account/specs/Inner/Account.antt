@@ -6,8 +6,8 @@ use Rattle.account.specs.declared.account.Account.{Account}
 use Rattle.account.specs.declared.account.Ledger.{Ledger}
 
 -- the table of a count and five columns
-abbrev pub tableFrom : ℕ → Cols → Table
-tableFrom n c = record {
+abbrev pub tableWith : ℕ → Cols → Table
+tableWith n c = record {
   count = n;
   symbol = c .symbol;
   quantity = c .quantity;
@@ -18,7 +18,7 @@ tableFrom n c = record {
 
 -- the account of a ledger and the columns of its positions
 abbrev pub accountWith : Ledger → Cols → Account
-accountWith h c = record { cash = h .cash; settings = h .settings; counters = h .counters; series = h .series; positions = tableFrom (h .count) c }
+accountWith h c = record { cash = h .cash; settings = h .settings; counters = h .counters; series = h .series; positions = tableWith (h .count) c }
 
 abbrev pub ledgerOf : Account → Ledger
 ledgerOf a = record { cash = a .cash; settings = a .settings; counters = a .counters; series = a .series; count = a .positions .count }

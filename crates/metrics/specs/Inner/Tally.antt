@@ -6,11 +6,11 @@ use Rattle.metrics.specs.Double.{zero}
 use Rattle.metrics.specs.declared.tally.Tally.{Tally}
 use Rattle.metrics.specs.Tally.{wins, loses}
 
-abbrev pub counted : ℕ → Bool → ℕ
-counted n counts = cond counts (n + 1) n
+abbrev pub countedIf : ℕ → Bool → ℕ
+countedIf n counts = cond counts (n + 1) n
 
-abbrev pub summed : Float → Bool → Float → Float
-summed sum counts r = cond counts (add binary64 sum r) sum
+abbrev pub summedIf : Float → Bool → Float → Float
+summedIf sum counts r = cond counts (add binary64 sum r) sum
 
 abbrev pub noReturns : Tally
 noReturns = record { «winning_periods» = 0; «losing_periods» = 0; «sum_positive» = zero; «sum_negative» = zero }
@@ -18,8 +18,8 @@ noReturns = record { «winning_periods» = 0; «losing_periods» = 0; «sum_posi
 unfoldable pub tallyAfter : Tally → Float → Tally
 tallyAfter t r =
     record {
-      «winning_periods» = counted (t .«winning_periods») (wins r);
-      «losing_periods» = counted (t .«losing_periods») (loses r);
-      «sum_positive» = summed (t .«sum_positive») (wins r) r;
-      «sum_negative» = summed (t .«sum_negative») (loses r) r;
+      «winning_periods» = countedIf (t .«winning_periods») (wins r);
+      «losing_periods» = countedIf (t .«losing_periods») (loses r);
+      «sum_positive» = summedIf (t .«sum_positive») (wins r) r;
+      «sum_negative» = summedIf (t .«sum_negative») (loses r) r;
     }

@@ -38,8 +38,8 @@ afterOrders a os period kind orders traded = record {
 abbrev pub tradedOn : Ran → Cols → Traded
 tradedOn r c = record { answer = r .answer; records = r .records; account = accountWith (r .ledger) c }
 
-abbrev pub bookOf : Ledger → Book
-bookOf h = record {
+abbrev pub bookOfLedger : Ledger → Book
+bookOfLedger h = record {
   cash = h .cash;
   count = h .count;
   trimmed = h .counters .«trimmed_fill_count»;

@@ -10,8 +10,8 @@ use Rattle.portfolio.specs.Rebalance.{Outcome}
 use Rattle.records.specs.declared.into.Filed.{Filed}
 use Rattle.records.specs.declared.into.Numbers.{Numbers}
 
-abbrev pub numbersOf : Traded → List ℕ → List ℤ → Numbers
-numbersOf t ws is = record { words = ws; ints = is; count = t .records; traded = t }
+abbrev pub tradedNumbers : Traded → List ℕ → List ℤ → Numbers
+tradedNumbers t ws is = record { words = ws; ints = is; count = t .records; traded = t }
 
 abbrev pub filedOf : Numbers → Filed
 filedOf n = record { words = n .words; ints = n .ints; count = n .count }

@@ -8,7 +8,7 @@ use Rattle.account.specs.Inner.Account.{accountWith}
 use Rattle.list_bytes.specs.Lists.{symbolsIn, weightsIn, pricesIn, entryColumns}
 use Rattle.list_bytes.proofs.Lists.{Fronts, target-fronts, price-fronts}
 use Rattle.portfolio.specs.declared.trade.Traded.{Traded}
-use Rattle.portfolio.specs.Answers.{places}
+use Rattle.portfolio.specs.Answers.{recordPlaces}
 use Rattle.portfolio.specs.Rebalance.{rebalanced}
 use Rattle.portfolio.specs.Inner.Trades.{tradedOn}
 use Rattle.fills.specs.Records.{kindOf}
@@ -44,7 +44,7 @@ prices-lent c = price-fronts _ _ _ (c .prices-into .ensures)
 
 left-by : (c : tie.After-rebalance-on) → let s = start-of c in
     Finished (rebalanced (accountWith (s .args .h) (columns-at s)) (symbolsIn (s .args .targets .now)) (weightsIn (s .args .targets .now)) (symbolsIn (s .args .prices .now)) (pricesIn (s .args .prices .now))
-    (s .args .period) (kindOf (s .args .kind)) (places (length (s .args .words .now)) (length (s .args .ints .now))))
+    (s .args .period) (kindOf (s .args .kind)) (recordPlaces (length (s .args .words .now)) (length (s .args .ints .now))))
     (traded c) (c .rebalance-on .last .1 .1 .1 .1 .1 .1 .1 .1 .1 .1 .1 .1 .0) (c .rebalance-on .last .1 .1 .1 .1 .1 .1 .1 .1 .1 .1 .1 .1 .1 .0) (s .args .records .now)
 left-by c =
     let p = prices-read c in

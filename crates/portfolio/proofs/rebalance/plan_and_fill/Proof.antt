@@ -15,7 +15,7 @@ use Rattle.account.specs.Inner.Account.{accountWith}
 use Rattle.wanted.specs.declared.plan.PlannedOrder.{PlannedOrder}
 use Rattle.admission.specs.Inner.Columns.{PlanCols, planCols, FullPlan}
 use Rattle.plan.proofs.Made.{PlanStands}
-use Rattle.portfolio.specs.Answers.{places}
+use Rattle.portfolio.specs.Answers.{recordPlaces}
 use Rattle.portfolio.specs.Rebalance.{admittedPlan}
 use Rattle.portfolio.specs.Trades.{filed}
 use Rattle.portfolio.specs.Inner.Trades.{Fillable}
@@ -34,7 +34,7 @@ abbrev account-at : tie.Start → Account
 account-at s = accountWith (s .args .h) (columns-at s)
 
 abbrev Can : tie.Start → Type 0
-Can s = let x = s .args in Ready (account-at s) (x .targets .now) (x .weights .now) (x .symbols .now) (places (length (x .words .now)) (length (x .ints .now)))
+Can s = let x = s .args in Ready (account-at s) (x .targets .now) (x .weights .now) (x .symbols .now) (recordPlaces (length (x .words .now)) (length (x .ints .now)))
 
 cash-fits : (s : tie.Start) → SFits w64 (s .args .h .cash)
 cash-fits s = search needs
@@ -61,7 +61,7 @@ stands q y =
     account-stands (account-at s) _ _ _ _ _ y blank (plan-columns q) (q .plan-on .result) blank-full (simp (toZ-ofZ (cash-fits s)) at (q .plan-on .ensures))
 
 fillable : (q : tie.After-plan-on) → let x = began q .args in let c = plan-columns q in
-    Can (began q) → Fillable (account-at (began q)) (q .plan-on .result .count) (places (length (x .words .now)) (length (x .ints .now))) (c .symbol) (c .quantity) (c .price)
+    Can (began q) → Fillable (account-at (began q)) (q .plan-on .result .count) (recordPlaces (length (x .words .now)) (length (x .ints .now))) (c .symbol) (c .quantity) (c .price)
 fillable q y =
     let h = stands q y in
     record { sound = y .sound; roomy = room-for _ _ _ (h .few) (y .roomy); full = y .full; symbols = h .full .symbol; quantities = h .full .quantity; prices = h .full .price }
