@@ -21,7 +21,8 @@ use Rattle.word_bytes.specs.Words.{wordsOf}
 use Rattle.account_bytes.specs.Account.{gotAccount, noAccount, accountOf, holdAccount, readAccount}
 use Rattle.list_bytes.specs.declared.price.Prices.{Prices}
 use Rattle.list_bytes.specs.Entries.{wholeList}
-use Rattle.list_bytes.specs.Lists.{symbolsIn, pricesIn, pricesOf}
+use Rattle.list_bytes.specs.Lists.{symbolsIn, pricesIn}
+use Rattle.list_bytes.specs.Inner.Lists.{pricesOf}
 use Rattle.list_bytes.proofs.Columns.{count-small}
 use Rattle.list_bytes.proofs.Lists.{price-symbols, price-prices}
 use Rattle.portfolio.specs.Answers.{isDone}

@@ -22,7 +22,8 @@ use Rattle.account_bytes.specs.Account.{readAccount}
 use Rattle.list_bytes.specs.declared.price.Prices.{Prices}
 use Rattle.list_bytes.specs.declared.target.Targets.{Targets}
 use Rattle.list_bytes.specs.Entries.{wholeList}
-use Rattle.list_bytes.specs.Lists.{symbolsIn, pricesIn, targetsOf, pricesOf}
+use Rattle.list_bytes.specs.Lists.{symbolsIn, pricesIn}
+use Rattle.list_bytes.specs.Inner.Lists.{targetsOf, pricesOf}
 use Rattle.list_bytes.proofs.Lists.{target-symbols-long, target-weights-long, price-symbols, price-prices, price-symbols-long, price-prices-long}
 use Rattle.portfolio.specs.declared.trade.Traded.{Traded}
 use Rattle.portfolio.specs.Answers.{recordPlaces, returnAnswer}

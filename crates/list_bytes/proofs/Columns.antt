@@ -12,7 +12,8 @@ use borrow.Author.Tests.{leb-true}
 use Rattle.table.specs.Keyed.{pick}
 use Rattle.table.proofs.Keyed.{both-true}
 use Rattle.fills.specs.Records.{fronted}
-use Rattle.list_bytes.specs.Entries.{isWhole, countOf, atPlaces, paddedColumn}
+use Rattle.list_bytes.specs.Entries.{isWhole, atPlaces}
+use Rattle.list_bytes.specs.Inner.Entries.{countOf, paddedColumn}
 
 -- ---- how many are read
 counted : (most n : ℕ) (b : Bool) → isWhole most n ≡ b → pick b (n / 16) 0 ≤ most

@@ -7,7 +7,8 @@ use lib.IntN.{ℤ}
 use lib.Ieee.{Float}
 use lib.ListN.{length, take}
 use Rattle.list_bytes.specs.Entries.{wholeList, atPlaces}
-use Rattle.list_bytes.specs.Lists.{entrySymbol, entryWeight, entryPrice, symbolsIn, weightsIn, pricesIn, EntryColumns, entriesInto, targetsInto, pricesInto, targetsOf, pricesOf}
+use Rattle.list_bytes.specs.Lists.{entrySymbol, entryWeight, entryPrice, symbolsIn, weightsIn, pricesIn}
+use Rattle.list_bytes.specs.Inner.Lists.{EntryColumns, entriesInto, targetsInto, pricesInto, targetsOf, pricesOf}
 use Rattle.list_bytes.proofs.Columns.{count-small, places-long, front-room, front-long, front-all}
 
 module _ (l : List ℕ) where

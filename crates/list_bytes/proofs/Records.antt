@@ -13,8 +13,8 @@ use Rattle.word_bytes.proofs.Words.{length-bytes}
 use Rattle.fills.specs.declared.record.ExecutionRecord.{ExecutionRecord}
 use Rattle.fills.specs.Records.{allWords, allInts, fronted}
 use Rattle.list_bytes.specs.Entries.{atPlaces}
-use Rattle.list_bytes.specs.Records.{recordWords, recordBytes, allBytes, fourAt, intAt, rowsIn, fitting, writtenRecords}
-use Rattle.list_bytes.specs.Inner.Records.{putAll}
+use Rattle.list_bytes.specs.Records.{recordWords, recordBytes, allBytes}
+use Rattle.list_bytes.specs.Inner.Records.{fourAt, intAt, rowsIn, fitting, writtenRecords, putAll}
 use Rattle.list_bytes.proofs.Columns.{places-long, places-same}
 use Rattle.list_bytes.proofs.Puts.{put-all-append, bytes-append}
 

@@ -1,7 +1,8 @@
 // How many entries there are. Those that are read have two words, sixteen bytes.
 ghost use mathlib.Core.Path.{_≡_};
 ghost use Prim.Native.Nat.{min};
-ghost use Rattle.list_bytes.specs.Entries.{isWhole, countOf};
+ghost use Rattle.list_bytes.specs.Entries.{isWhole};
+ghost use Rattle.list_bytes.specs.Inner.Entries.{countOf};
 
 // Whether so many bytes are a whole number of entries, and no more than the bound.
 pub fn is_whole(bytes: usize, most: usize) -> bool

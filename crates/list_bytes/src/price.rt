@@ -1,7 +1,7 @@
 // A price list: each entry a symbol and the price of it in cents.
 ghost use mathlib.Core.Path.{_≡_};
 ghost use lib.ListN.{length};
-ghost use Rattle.list_bytes.specs.Lists.{entryColumns, pricesInto, pricesOf};
+ghost use Rattle.list_bytes.specs.Inner.Lists.{entryColumns, pricesInto, pricesOf};
 use crate::entry::count_of;
 use crate::entry::is_whole;
 use word_bytes::signed;

@@ -1,7 +1,7 @@
 // A target list: each entry a symbol and its weight, a double.
 ghost use mathlib.Core.Path.{_≡_};
 ghost use lib.ListN.{length};
-ghost use Rattle.list_bytes.specs.Lists.{entryColumns, targetsInto, targetsOf};
+ghost use Rattle.list_bytes.specs.Inner.Lists.{entryColumns, targetsInto, targetsOf};
 use crate::entry::count_of;
 use crate::entry::is_whole;
 use word_bytes::float;

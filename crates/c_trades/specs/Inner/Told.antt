@@ -5,7 +5,7 @@ use lib.IntN.{ℤ}
 use Rattle.answer.specs.Numbers.{numberOf}
 use Rattle.table.specs.Keyed.{pick}
 use Rattle.account_bytes.specs.Account.{writtenAccount}
-use Rattle.list_bytes.specs.Records.{writtenRecords}
+use Rattle.list_bytes.specs.Inner.Records.{writtenRecords}
 use Rattle.portfolio.specs.declared.trade.Traded.{Traded}
 use Rattle.portfolio.specs.Answers.{isDone}
 use Rattle.c_trades.specs.Told.{TradeTold, tellTrade}

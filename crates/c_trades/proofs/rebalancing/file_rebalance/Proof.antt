@@ -5,7 +5,8 @@ use borrow.Author.Needs.{needs}
 use lib.ListN.{length}
 use Rattle.table.specs.Rows.{Cols, cols}
 use Rattle.account.specs.Inner.Account.{accountWith}
-use Rattle.list_bytes.specs.Lists.{symbolsIn, weightsIn, pricesIn, entryColumns}
+use Rattle.list_bytes.specs.Lists.{symbolsIn, weightsIn, pricesIn}
+use Rattle.list_bytes.specs.Inner.Lists.{entryColumns}
 use Rattle.list_bytes.proofs.Lists.{Fronts, target-fronts, price-fronts}
 use Rattle.portfolio.specs.declared.trade.Traded.{Traded}
 use Rattle.portfolio.specs.Answers.{recordPlaces}

@@ -4,7 +4,8 @@ use borrow.Author.Needs.{needs}
 use Rattle.table.specs.Rows.{Cols, cols}
 use Rattle.account.specs.declared.account.Account.{Account}
 use Rattle.account.specs.Inner.Account.{accountWith}
-use Rattle.list_bytes.specs.Lists.{symbolsIn, pricesIn, entryColumns}
+use Rattle.list_bytes.specs.Lists.{symbolsIn, pricesIn}
+use Rattle.list_bytes.specs.Inner.Lists.{entryColumns}
 use Rattle.list_bytes.proofs.Lists.{Fronts, price-fronts}
 use Rattle.portfolio.specs.Returns.{recorded}
 use Rattle.portfolio.specs.Inner.Returns.{notedBy}

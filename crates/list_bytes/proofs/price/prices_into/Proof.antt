@@ -9,8 +9,10 @@ use mir.Val.{SFits}
 use mir.Facts.{toZ-ofZ}
 use Rattle.word_bytes.specs.Numbers.{signedOf}
 use Rattle.fills.specs.Records.{fronted}
-use Rattle.list_bytes.specs.Entries.{countOf, atPlaces}
-use Rattle.list_bytes.specs.Lists.{entrySymbol, entryPrice, pricesInto}
+use Rattle.list_bytes.specs.Entries.{atPlaces}
+use Rattle.list_bytes.specs.Inner.Entries.{countOf}
+use Rattle.list_bytes.specs.Lists.{entrySymbol, entryPrice}
+use Rattle.list_bytes.specs.Inner.Lists.{pricesInto}
 use Rattle.list_bytes.proofs.Columns.{count-small, put-on, read-all}
 use Rattle.list_bytes.proofs.price.prices_into.Statement.{statement}
 use Rattle.list_bytes.proofs.price.prices_into.Tie as tie

@@ -5,7 +5,8 @@ use mathlib.Core.List.{[]}
 use borrow.Author.Needs.{needs}
 use Rattle.table.specs.Keyed.{pick}
 use Rattle.list_bytes.specs.Entries.{wholeList}
-use Rattle.list_bytes.specs.Lists.{symbolsIn, pricesIn, EntryColumns, pricesInto, pricesOf}
+use Rattle.list_bytes.specs.Lists.{symbolsIn, pricesIn}
+use Rattle.list_bytes.specs.Inner.Lists.{EntryColumns, pricesInto, pricesOf}
 use Rattle.list_bytes.proofs.Columns.{padded-is}
 use Rattle.list_bytes.proofs.price.read_prices.Statement.{statement}
 use Rattle.list_bytes.proofs.price.read_prices.Tie as tie

@@ -9,8 +9,7 @@ use mir.Val.{SFits}
 use mir.Facts.{toZ-ofZ}
 use borrow.Author.Needs.{needs}
 use Rattle.list_bytes.specs.Entries.{atPlaces}
-use Rattle.list_bytes.specs.Records.{intAt}
-use Rattle.list_bytes.specs.Inner.Records.{putAll}
+use Rattle.list_bytes.specs.Inner.Records.{intAt, putAll}
 use Rattle.list_bytes.proofs.Puts.{put-place}
 use Rattle.list_bytes.proofs.record.put_ints.Statement.{statement}
 use Rattle.list_bytes.proofs.record.put_ints.Tie as tie

@@ -5,7 +5,8 @@ use mathlib.Core.List.{[]}
 use borrow.Author.Needs.{needs}
 use Rattle.table.specs.Keyed.{pick}
 use Rattle.list_bytes.specs.Entries.{wholeList}
-use Rattle.list_bytes.specs.Lists.{symbolsIn, weightsIn, EntryColumns, targetsInto, targetsOf}
+use Rattle.list_bytes.specs.Lists.{symbolsIn, weightsIn}
+use Rattle.list_bytes.specs.Inner.Lists.{EntryColumns, targetsInto, targetsOf}
 use Rattle.list_bytes.proofs.Columns.{padded-is}
 use Rattle.list_bytes.proofs.target.read_targets.Statement.{statement}
 use Rattle.list_bytes.proofs.target.read_targets.Tie as tie

@@ -6,8 +6,10 @@ use lib.ListN.{length}
 use borrow.Author.Needs.{needs}
 use Rattle.word_bytes.specs.Numbers.{floatOf}
 use Rattle.fills.specs.Records.{fronted}
-use Rattle.list_bytes.specs.Entries.{countOf, atPlaces}
-use Rattle.list_bytes.specs.Lists.{entrySymbol, entryWeight, targetsInto}
+use Rattle.list_bytes.specs.Entries.{atPlaces}
+use Rattle.list_bytes.specs.Inner.Entries.{countOf}
+use Rattle.list_bytes.specs.Lists.{entrySymbol, entryWeight}
+use Rattle.list_bytes.specs.Inner.Lists.{targetsInto}
 use Rattle.list_bytes.proofs.Columns.{count-small, put-on, read-all}
 use Rattle.list_bytes.proofs.target.targets_into.Statement.{statement}
 use Rattle.list_bytes.proofs.target.targets_into.Tie as tie
