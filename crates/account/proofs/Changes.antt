@@ -8,7 +8,7 @@ use Rattle.table.proofs.Keyed.{both-true}
 use Rattle.account.specs.declared.settings.Rules.{Rules}
 use Rattle.account.specs.declared.settings.Settings.{Settings}
 use Rattle.account.specs.declared.settings.TradeCap.{TradeCap}
-use Rattle.account.specs.Settings.{atLeast, goodBand, goodRules, goodSettings, withStep, withMinOrder, withMaxOrder, withBand, withTradeCap, withMaxNotional, withRecording, withCashFirst}
+use Rattle.account.specs.Settings.{isAtLeast, goodBand, goodRules, goodSettings, withStep, withMinOrder, withMaxOrder, withBand, withTradeCap, withMaxNotional, withRecording, withCashFirst}
 use Rattle.account.proofs.Columns.{both-unit}
 
 -- ---- good settings by their parts
@@ -16,47 +16,47 @@ pub rules-costs : (r : Rules) → goodRules r ≡ true → goodCosts (r .«cost_
 unfolding goodRules
 rules-costs r e = e
 
-pub record Good (s : Settings) : Type 0 where
+pub record GoodSettings (s : Settings) : Type 0 where
   pub rules : goodRules (s .rules) ≡ true
-  pub step : atLeast 1 (s .«quantity_step») ≡ true
-  pub min-order : atLeast 0 (s .«min_order_value») ≡ true
-  pub max-order : atLeast 0 (s .«max_order_value») ≡ true
+  pub step : isAtLeast 1 (s .«quantity_step») ≡ true
+  pub min-order : isAtLeast 0 (s .«min_order_value») ≡ true
+  pub max-order : isAtLeast 0 (s .«max_order_value») ≡ true
   pub band : goodBand (s .«no_trade_band_bps») ≡ true
-  pub max-notional : atLeast 0 (s .«max_rebalance_notional») ≡ true
+  pub max-notional : isAtLeast 0 (s .«max_rebalance_notional») ≡ true
 
-pub good-parts : (s : Settings) → goodSettings s ≡ true → Good s
+pub good-parts : (s : Settings) → goodSettings s ≡ true → GoodSettings s
 unfolding goodSettings
 good-parts s e =
     let a = both-true (goodRules (s .rules)) _ e in
-    let b = both-true (atLeast 1 (s .«quantity_step»)) _ (a .1) in
-    let c = both-true (atLeast 0 (s .«min_order_value»)) _ (b .1) in
-    let d = both-true (atLeast 0 (s .«max_order_value»)) _ (c .1) in
+    let b = both-true (isAtLeast 1 (s .«quantity_step»)) _ (a .1) in
+    let c = both-true (isAtLeast 0 (s .«min_order_value»)) _ (b .1) in
+    let d = both-true (isAtLeast 0 (s .«max_order_value»)) _ (c .1) in
     let f = both-true (goodBand (s .«no_trade_band_bps»)) _ (d .1) in
     record { rules = a .0; step = b .0; min-order = c .0; max-order = d .0; band = f .0; max-notional = f .1 }
 
-pub parts-good : (s : Settings) → Good s → goodSettings s ≡ true
+pub parts-good : (s : Settings) → GoodSettings s → goodSettings s ≡ true
 unfolding goodSettings
 parts-good s g = simp (g .rules, g .step, g .min-order, g .max-order, g .band, g .max-notional)
 
 -- ---- a setter on good settings is refused exactly where its value is bad
-module _ (s : Settings) (g : Good s) where
-  pub step-decides : (k : ℤ) → goodSettings (withStep k s) ≡ atLeast 1 k
+module _ (s : Settings) (g : GoodSettings s) where
+  pub step-decides : (k : ℤ) → goodSettings (withStep k s) ≡ isAtLeast 1 k
   unfolding goodSettings
-  step-decides k = simp (g .rules, g .min-order, g .max-order, g .band, g .max-notional) (both-unit (atLeast 1 k))
+  step-decides k = simp (g .rules, g .min-order, g .max-order, g .band, g .max-notional) (both-unit (isAtLeast 1 k))
 
-  pub min-order-decides : (v : ℤ) → goodSettings (withMinOrder v s) ≡ atLeast 0 v
+  pub min-order-decides : (v : ℤ) → goodSettings (withMinOrder v s) ≡ isAtLeast 0 v
   unfolding goodSettings
-  min-order-decides v = simp (g .rules, g .step, g .max-order, g .band, g .max-notional) (both-unit (atLeast 0 v))
+  min-order-decides v = simp (g .rules, g .step, g .max-order, g .band, g .max-notional) (both-unit (isAtLeast 0 v))
 
-  pub max-order-decides : (v : ℤ) → goodSettings (withMaxOrder v s) ≡ atLeast 0 v
+  pub max-order-decides : (v : ℤ) → goodSettings (withMaxOrder v s) ≡ isAtLeast 0 v
   unfolding goodSettings
-  max-order-decides v = simp (g .rules, g .step, g .min-order, g .band, g .max-notional) (both-unit (atLeast 0 v))
+  max-order-decides v = simp (g .rules, g .step, g .min-order, g .band, g .max-notional) (both-unit (isAtLeast 0 v))
 
   pub band-decides : (x : Float) → goodSettings (withBand x s) ≡ goodBand x
   unfolding goodSettings
   band-decides x = simp (g .rules, g .step, g .min-order, g .max-order, g .max-notional) (both-unit (goodBand x))
 
-  pub max-notional-decides : (v : ℤ) → goodSettings (withMaxNotional v s) ≡ atLeast 0 v
+  pub max-notional-decides : (v : ℤ) → goodSettings (withMaxNotional v s) ≡ isAtLeast 0 v
   unfolding goodSettings
   max-notional-decides v = simp (g .rules, g .step, g .min-order, g .max-order, g .band)
 

@@ -13,7 +13,8 @@ use Rattle.position.specs.Rows.{fresh}
 use Rattle.position.specs.Fills.{sound}
 use Rattle.position.specs.declared.position.Position.{Position}
 use Rattle.table.specs.Keyed.{both, all}
-use Rattle.table.specs.Rows.{Cols, zipped, rows, rowAt, heldAt, Full, Ordered, ordered}
+use Rattle.table.specs.Rows.{Cols, zipped, rows, rowAt, Full, ordered}
+use Rattle.table.specs.Inner.Rows.{heldAt, Ordered}
 use Rattle.table.specs.declared.found.Found.the-variants.{At}
 use Rattle.table.proofs.Keyed.{both-true, both-false}
 use Rattle.table.proofs.Zipped.{zipped-length, zipped-at}

@@ -5,13 +5,15 @@ use native.Mathlib.Omega.{arith}
 use lib.ListN.{length, take, getD}
 use Rattle.position.specs.Rows.{fresh, keyOf}
 use Rattle.table.specs.Keyed.{seek}
-use Rattle.table.specs.Places.{found}
-use Rattle.table.specs.Rows.{Cols, rows, heldAt, Ordered}
+use Rattle.table.specs.Inner.Places.{found}
+use Rattle.table.specs.Rows.{Cols, rows}
+use Rattle.table.specs.Inner.Rows.{heldAt, Ordered}
 use Rattle.table.specs.declared.found.Found.{Found}
 use Rattle.table.specs.declared.found.Found.the-variants.{At, Absent}
 use Rattle.table.proofs.Places.{stands, lacks}
 use Rattle.table.proofs.Zipped.{keys-of}
-use Rattle.account.specs.Calls.{present, presentOr, foundIn}
+use Rattle.account.specs.Calls.{present, presentOr}
+use Rattle.account.specs.Inner.Calls.{foundIn}
 use Rattle.account.proofs.Columns.{held-row, rows-length, row-of}
 
 pub place-holds : (n i : ℕ) (c : Cols) → Ordered n c → i < n → heldAt (At i) 0 c ≡ getD (rows n c) i (fresh 0)

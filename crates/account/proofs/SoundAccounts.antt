@@ -9,13 +9,14 @@ use Rattle.cost_model.specs.Costs.{free, goodCosts}
 use Rattle.position.specs.Fills.{sound}
 use Rattle.table.specs.declared.table.Table.{Table}
 use Rattle.table.specs.Keyed.{pick}
-use Rattle.table.specs.Rows.{columnsOf, rowAt, emptyTable, unused, ordered, Full, Ordered}
+use Rattle.table.specs.Rows.{columnsOf, rowAt, emptyTable, unused, ordered, Full}
+use Rattle.table.specs.Inner.Rows.{Ordered}
 use Rattle.table.proofs.Keyed.{both-true, both-false}
 use Rattle.account.specs.declared.settings.Settings.{Settings}
 use Rattle.account.specs.declared.account.Account.{Account}
 use Rattle.account.specs.declared.account.Counters.{Counters}
 use Rattle.account.specs.declared.account.Series.{Series}
-use Rattle.account.specs.Settings.{atLeast, goodRules, goodSettings, ofCosts, zeroSettings}
+use Rattle.account.specs.Settings.{isAtLeast, goodRules, goodSettings, ofCosts, zeroSettings}
 use Rattle.account.specs.Account.{soundPlaces, soundColumns, heldIn, soundTable, soundScalars, soundAccount, withSettings, withSeries}
 use Rattle.account.specs.Calls.{emptyAccount, zeroAccount, answered, changed}
 use Rattle.account.proofs.Columns.{allSound, ordered-small, sound-orders, sound-rows, sound-at}
@@ -27,13 +28,13 @@ module _ (a : Account) (e : soundAccount a ≡ true) where
   unfolding soundAccount
   account-scalars = both-true (soundScalars (a .cash) (a .settings)) _ e .0
 
-  pub account-cash : atLeast 0 (a .cash) ≡ true
+  pub account-cash : isAtLeast 0 (a .cash) ≡ true
   unfolding soundScalars
-  account-cash = both-true (atLeast 0 (a .cash)) _ account-scalars .0
+  account-cash = both-true (isAtLeast 0 (a .cash)) _ account-scalars .0
 
   pub account-settings : goodSettings (a .settings) ≡ true
   unfolding soundScalars
-  account-settings = both-true (atLeast 0 (a .cash)) _ account-scalars .1
+  account-settings = both-true (isAtLeast 0 (a .cash)) _ account-scalars .1
 
   pub account-costs : goodCosts (a .settings .rules .«cost_model») ≡ true
   account-costs = rules-costs (a .settings .rules) (good-parts (a .settings) account-settings .rules)
@@ -63,7 +64,7 @@ pub account-sound : (a : Account) → soundScalars (a .cash) (a .settings) ≡ t
 unfolding soundAccount
 account-sound a c t = simp (c, t)
 
-pub parts-account : (a : Account) → atLeast 0 (a .cash) ≡ true → goodSettings (a .settings) ≡ true → soundTable (a .positions) ≡ true → soundAccount a ≡ true
+pub parts-account : (a : Account) → isAtLeast 0 (a .cash) ≡ true → goodSettings (a .settings) ≡ true → soundTable (a .positions) ≡ true → soundAccount a ≡ true
 unfolding soundScalars
 parts-account a c g t = account-sound a (simp (c, g)) t
 
@@ -78,7 +79,7 @@ abbrev pub withPositions : Table → Account → Account
 withPositions t a = record { cash = a .cash; settings = a .settings; counters = a .counters; series = a .series; positions = t }
 
 module _ (a : Account) (e : soundAccount a ≡ true) where
-  pub cash-keeps-sound : (cash : ℤ) → atLeast 0 cash ≡ true → soundAccount (withCash cash a) ≡ true
+  pub cash-keeps-sound : (cash : ℤ) → isAtLeast 0 cash ≡ true → soundAccount (withCash cash a) ≡ true
   cash-keeps-sound cash c = parts-account (withCash cash a) c (account-settings a e) (account-table a e)
 
   pub settings-keep-sound : (s : Settings) → goodSettings s ≡ true → soundAccount (withSettings s a) ≡ true
@@ -103,7 +104,7 @@ zero-settings-bad = both-false (goodRules (ofCosts free))
 
 pub zero-scalars-unsound : (cash : ℤ) → soundScalars cash zeroSettings ≡ false
 unfolding soundScalars
-zero-scalars-unsound cash = rw zero-settings-bad (both-false (atLeast 0 cash))
+zero-scalars-unsound cash = rw zero-settings-bad (both-false (isAtLeast 0 cash))
 
 pub zero-unsound : soundAccount zeroAccount ≡ false
 unfolding soundAccount

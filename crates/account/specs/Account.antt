@@ -1,7 +1,7 @@
--- When an account is sound, the table that holds a list of positions, and an account taken apart into a ledger and columns.
+-- When an account is sound, and the table that holds a list of positions.
 use Prim.Native.Nat.{ℕ, zero, suc, _-_}
 use mathlib.Core.Bool.{Bool, true}
-use mathlib.Core.List.{List, [], _∷_, _++_, map}
+use mathlib.Core.List.{List, _++_, map}
 use lib.ListN.{length, replicate}
 use lib.IntN.{ℤ, pos}
 use Rattle.position.specs.declared.position.Position.{Position}
@@ -13,8 +13,7 @@ use Rattle.table.specs.Rows.{Cols, columnsOf, rows, rowAt, ordered}
 use Rattle.account.specs.declared.settings.Settings.{Settings}
 use Rattle.account.specs.declared.account.Account.{Account}
 use Rattle.account.specs.declared.account.Series.{Series}
-use Rattle.account.specs.declared.account.Ledger.{Ledger}
-use Rattle.account.specs.Settings.{atLeast, goodSettings}
+use Rattle.account.specs.Settings.{isAtLeast, goodSettings}
 
 -- each of the positions at the first n places is sound
 unfoldable pub soundPlaces : ℕ → Cols → Bool
@@ -34,35 +33,25 @@ soundTable t = soundColumns (t .count) (columnsOf t)
 
 -- "good settings, cash at least 0"
 unfoldable pub soundScalars : ℤ → Settings → Bool
-soundScalars cash s = both (atLeast 0 cash) (goodSettings s)
+soundScalars cash s = both (isAtLeast 0 cash) (goodSettings s)
 
 -- "A sound account has good settings, cash at least 0, positions [..]"
 unfoldable pub soundAccount : Account → Bool
 soundAccount a = both (soundScalars (a .cash) (a .settings)) (soundTable (a .positions))
 
--- ---- the table of a count and five columns, and the one that holds a list of positions
-abbrev pub tableFrom : ℕ → Cols → Table
-tableFrom n c = record {
-  count = n;
-  symbol = c .symbol;
-  quantity = c .quantity;
-  «avg_entry_price» = c .average;
-  «realized_pnl» = c .realized;
-  «total_cost» = c .total;
-}
-
+-- ---- the table that holds a list of positions
 -- a column with "unused places zero"
-abbrev pub padded : {A : Type 0} → A → List A → List A
-padded z l = l ++ replicate (64 - length l) z
+abbrev pub paddedColumn : {A : Type 0} → A → List A → List A
+paddedColumn z l = l ++ replicate (64 - length l) z
 
 unfoldable pub tableOf : List Position → Table
 tableOf ps = record {
   count = length ps;
-  symbol = padded 0 (map keyOf ps);
-  quantity = padded (pos 0) (map held ps);
-  «avg_entry_price» = padded (pos 0) (map avg ps);
-  «realized_pnl» = padded (pos 0) (map realized ps);
-  «total_cost» = padded (pos 0) (map total ps);
+  symbol = paddedColumn 0 (map keyOf ps);
+  quantity = paddedColumn (pos 0) (map held ps);
+  «avg_entry_price» = paddedColumn (pos 0) (map avg ps);
+  «realized_pnl» = paddedColumn (pos 0) (map realized ps);
+  «total_cost» = paddedColumn (pos 0) (map total ps);
 }
 
 -- ---- one field changed
@@ -71,10 +60,3 @@ withSettings s a = record { cash = a .cash; settings = s; counters = a .counters
 
 abbrev pub withSeries : Series → Account → Account
 withSeries s a = record { cash = a .cash; settings = a .settings; counters = a .counters; series = s; positions = a .positions }
-
--- ---- an account taken apart: a ledger, and the columns of the positions
-abbrev pub accountWith : Ledger → Cols → Account
-accountWith h c = record { cash = h .cash; settings = h .settings; counters = h .counters; series = h .series; positions = tableFrom (h .count) c }
-
-abbrev pub ledgerOf : Account → Ledger
-ledgerOf a = record { cash = a .cash; settings = a .settings; counters = a .counters; series = a .series; count = a .positions .count }

@@ -15,9 +15,7 @@ use Rattle.position.specs.Rows.{fresh, keyOf}
 use Rattle.position.specs.Symbols.{goodSymbol}
 use Rattle.position.specs.declared.position.Position.{Position}
 use Rattle.table.specs.Keyed.{pick, seek}
-use Rattle.table.specs.Rows.{Cols, emptyTable, heldAt}
-use Rattle.table.specs.declared.found.Found.{Found}
-use Rattle.table.specs.declared.found.Found.the-variants.{At, Absent}
+use Rattle.table.specs.Rows.{emptyTable}
 use Rattle.account.specs.declared.settings.Rules.{Rules}
 use Rattle.account.specs.declared.settings.Settings.{Settings}
 use Rattle.account.specs.declared.settings.TradeCap.{TradeCap}
@@ -65,8 +63,8 @@ pub record Opened : Type 0 where
   pub changed : Changed
   pub equity : List ℤ
 
-abbrev pub opened : Changed → List ℤ → Opened
-opened r l = record { changed = r; equity = l }
+abbrev pub openedWith : Changed → List ℤ → Opened
+openedWith r l = record { changed = r; equity = l }
 
 -- 1: "a setting or opening cash is bad"; then 10: "the equity .. buffer has no free place"; else "Opening writes the cash as the first equity".
 -- "Each refusal returns its number with zero figures, [..] and every lent place as found."
@@ -74,9 +72,9 @@ unfoldable pub opening : ℤ → Rules → ℤ → List ℤ → Opened
 opening cash r step equity =
     pick (soundScalars cash (openingSettings r step))
     (pick (ltb 0 (length equity))
-    (opened (answered Done (openAccount cash (openingSettings r step))) (set equity 0 cash))
-    (opened (answered BufferFull zeroAccount) equity))
-    (opened (answered BadSetting zeroAccount) equity)
+    (openedWith (answered Done (openAccount cash (openingSettings r step))) (set equity 0 cash))
+    (openedWith (answered BufferFull zeroAccount) equity))
+    (openedWith (answered BadSetting zeroAccount) equity)
 
 -- ---- setters
 -- 11: "the account is not sound"; then 1: "a setting .. is bad"; with "the account as given"
@@ -139,8 +137,3 @@ positionAt i a =
     (present (getD (heldIn (a .positions)) i (fresh 0)))
     (absent Done))
     (absent Unsound)
-
--- what a search in a table's symbols found
-abbrev pub foundIn : Found → Cols → Held
-foundIn (At i) c = present (heldAt (At i) 0 c)
-foundIn (Absent i) c = absent Done

@@ -2,3 +2,4 @@
 pub mod Settings
 pub mod Account
 pub mod Calls
+pub mod Inner

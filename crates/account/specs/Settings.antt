@@ -13,8 +13,8 @@ use Rattle.account.specs.declared.settings.TradeCap.{TradeCap}
 use Rattle.account.specs.declared.settings.TradeCap.the-variants.{Absent, AtMost}
 
 -- "at least 0"
-abbrev pub atLeast : ℕ → ℤ → Bool
-atLeast n z = leZ (pos n) z
+abbrev pub isAtLeast : ℕ → ℤ → Bool
+isAtLeast n z = leZ (pos n) z
 
 -- "finite and at least 0"
 abbrev pub goodBand : Float → Bool
@@ -29,11 +29,11 @@ goodRules r = goodCosts (r .«cost_model»)
 unfoldable pub goodSettings : Settings → Bool
 goodSettings s =
     both (goodRules (s .rules))
-    (both (atLeast 1 (s .«quantity_step»))
-    (both (atLeast 0 (s .«min_order_value»))
-    (both (atLeast 0 (s .«max_order_value»))
+    (both (isAtLeast 1 (s .«quantity_step»))
+    (both (isAtLeast 0 (s .«min_order_value»))
+    (both (isAtLeast 0 (s .«max_order_value»))
     (both (goodBand (s .«no_trade_band_bps»))
-    (atLeast 0 (s .«max_rebalance_notional»))))))
+    (isAtLeast 0 (s .«max_rebalance_notional»))))))
 
 -- ---- settings from their nine values, in the order of the struct
 abbrev pub settings : Rules → ℤ → ℤ → ℤ → Float → TradeCap → ℤ → Bool → Bool → Settings

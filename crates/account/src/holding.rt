@@ -1,8 +1,10 @@
 // One position of an account: by its symbol, or by its place in symbol order.
 ghost use mathlib.Core.Path.{_≡_};
-ghost use Rattle.table.specs.Rows.{columnsOf, heldAt};
+ghost use Rattle.table.specs.Rows.{columnsOf};
+ghost use Rattle.table.specs.Inner.Rows.{heldAt};
 ghost use Rattle.table.specs.declared.found.Found.the-variants.{At};
-ghost use Rattle.account.specs.Calls.{absent, present, foundIn, positionOf, positionAt};
+ghost use Rattle.account.specs.Calls.{absent, present, positionOf, positionAt};
+ghost use Rattle.account.specs.Inner.Calls.{foundIn};
 use crate::account::Account;
 use answer::Answer;
 use position::Position;

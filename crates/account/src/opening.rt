@@ -3,7 +3,7 @@ ghost use mathlib.Core.Path.{_≡_};
 ghost use lib.IntN.{pos};
 ghost use Rattle.sums.specs.Sums.{SCALE};
 ghost use Rattle.account.specs.Settings.{ofCosts, openingSettings, zeroSettings};
-ghost use Rattle.account.specs.Calls.{answered, emptyAccount, zeroAccount, openAccount, opened, opening};
+ghost use Rattle.account.specs.Calls.{answered, emptyAccount, zeroAccount, openAccount, openedWith, opening};
 use crate::account::Account;
 use crate::account::Counters;
 use crate::account::Series;
@@ -99,7 +99,7 @@ fn refused(answer: Answer) -> Changed
 
 // An account that trades whole shares.
 pub fn open(initial_cash: i64, cost_model: CostModel, equity: &mut [i64]) -> Changed
-    ensures { λ r. ⌜ opened r (now (equity .exit)) ≡ opening «initial_cash» (ofCosts «cost_model») (pos SCALE) (now (equity .entry)) ⌝ }
+    ensures { λ r. ⌜ openedWith r (now (equity .exit)) ≡ opening «initial_cash» (ofCosts «cost_model») (pos SCALE) (now (equity .entry)) ⌝ }
 {
     with_quantity_step(initial_cash, cost_model, Shares::SCALE, equity)
 }
@@ -111,7 +111,7 @@ pub fn with_quantity_step(
     quantity_step: i64,
     equity: &mut [i64],
 ) -> Changed
-    ensures { λ r. ⌜ opened r (now (equity .exit)) ≡ opening «initial_cash» (ofCosts «cost_model») «quantity_step» (now (equity .entry)) ⌝ }
+    ensures { λ r. ⌜ openedWith r (now (equity .exit)) ≡ opening «initial_cash» (ofCosts «cost_model») «quantity_step» (now (equity .entry)) ⌝ }
 {
     let settings = opening_settings(Rules::of_costs(cost_model), quantity_step);
     if !sound_scalars(initial_cash, settings) {

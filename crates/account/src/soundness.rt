@@ -2,7 +2,8 @@
 ghost use mathlib.Core.Path.{_≡_};
 ghost use Prim.Native.Nat.{_≤_};
 ghost use Rattle.table.specs.Rows.{cols};
-ghost use Rattle.account.specs.Account.{soundPlaces, soundColumns, soundScalars, soundAccount, accountWith};
+ghost use Rattle.account.specs.Account.{soundPlaces, soundColumns, soundScalars, soundAccount};
+ghost use Rattle.account.specs.Inner.Account.{accountWith};
 use crate::account::Ledger;
 use crate::settings::Settings;
 use table::Found;

@@ -7,7 +7,7 @@ use lib.ListN.{length}
 use borrow.Author.Tests.{eq-eqb}
 use Rattle.table.specs.Rows.{Cols, columnsOf}
 use Rattle.account.specs.declared.account.Ledger.{Ledger}
-use Rattle.account.specs.Account.{accountWith, ledgerOf}
+use Rattle.account.specs.Inner.Account.{accountWith, ledgerOf}
 use Rattle.word_bytes.specs.Words.{wordsOf}
 use Rattle.account_bytes.specs.Sizes.{accountLength}
 use Rattle.account_bytes.specs.Account.{accountOf, readAccount, readColumns}

@@ -3,7 +3,7 @@ ghost use mathlib.Core.Path.{_≡_};
 ghost use lib.ListN.{length};
 ghost use Rattle.word_bytes.specs.Words.{wordsOf};
 ghost use Rattle.table.specs.Rows.{cols};
-ghost use Rattle.account.specs.Account.{accountWith, ledgerOf};
+ghost use Rattle.account.specs.Inner.Account.{accountWith, ledgerOf};
 ghost use Rattle.account_bytes.specs.Sizes.{accountLength};
 ghost use Rattle.account_bytes.specs.Account.{countWords, countersOf, spareCounters, seriesOf, accountOf, readAccount, writtenAccount, writtenSeries};
 use crate::columns::put_columns;

@@ -19,7 +19,7 @@ use Rattle.position.specs.declared.shares.Shares.{Shares}
 use Rattle.position.specs.Rows.{shares}
 use Rattle.position.proofs.Counts.{not-lt-ge}
 use Rattle.table.specs.Keyed.{pick}
-use Rattle.table.specs.Places.{shorter}
+use Rattle.table.specs.Inner.Places.{shorter}
 use Rattle.table.specs.Rows.{isZero}
 use Rattle.sizing.specs.Sizing.{cutTo}
 use Rattle.account.specs.declared.settings.Settings.{Settings}
@@ -30,8 +30,8 @@ use Rattle.wanted.specs.Plan.{planned}
 use Rattle.admission.specs.declared.cap.Offered.{Offered}
 use Rattle.admission.specs.declared.cap.Offered.the-variants.{Whole, Part, Ends}
 use Rattle.admission.specs.Admission.{hasCap, capped, reached, notionalOf, lastAdmitted, admittedFrom, admitted}
-use Rattle.admission.specs.Columns.{Cols, cols, orderAt, from, plans, Counted, counted}
-use Rattle.admission.specs.Offers.{partOffered, offered, cutPlan}
+use Rattle.admission.specs.Inner.Columns.{PlanCols, planCols, orderAt, from, plans, CountedPlan, countedPlan}
+use Rattle.admission.specs.Inner.Offers.{partOffered, offered, cutPlan}
 use Rattle.admission.proofs.Plans.{from-on, from-end, from-last, from-length, plans-start}
 use Rattle.admission.proofs.Laying.{taken, front-is, front-set}
 
@@ -152,7 +152,7 @@ module _ (s : Settings) (n m i : ℕ) (left : ℤ) (f : ℕ → PlannedOrder) (a
   pub admit-part : (cut : Shares) → offered s i left (f i .quantity .0) (f i .price) ≡ Part cut → from f 0 i ++ (planned (f i .symbol .0) (cut .0) (f i .price) (f i .«drift_bps») ∷ []) ≡ all
   admit-part cut e = next (Part cut) e
 
-pub admit-start : (s : Settings) (n m : ℕ) (c : Cols) → m ≡ shorter n 64 → from (orderAt c) 0 0 ++ admittedFrom s 0 (s .«max_rebalance_notional») (from (orderAt c) 0 (m - 0)) ≡ admitted s (plans n c)
+pub admit-start : (s : Settings) (n m : ℕ) (c : PlanCols) → m ≡ shorter n 64 → from (orderAt c) 0 0 ++ admittedFrom s 0 (s .«max_rebalance_notional») (from (orderAt c) 0 (m - 0)) ≡ admitted s (plans n c)
 unfolding admitted
 admit-start s n m c h = let e : m - 0 ≡ m = omega arith in rw (plans-start n m c h) (rw e)
 
@@ -163,32 +163,32 @@ admit-all s m i left f all h inv = sym (append-nil _) ∙ rw (from-end f i m h) 
 -- ---- the columns as admission leaves them
 module _ (s : Settings) (n : ℕ) (k : List ℕ) (q p : List ℤ) (d : List Float) (i : ℕ) (long : length q ≡ 64) where
   abbrev at : ℕ → PlannedOrder
-  at = orderAt (cols k q p d)
+  at = orderAt (planCols k q p d)
 
   abbrev plan : List PlannedOrder
-  plan = plans n (cols k q p d)
+  plan = plans n (planCols k q p d)
 
-  abbrev cutTo-list : List PlannedOrder → Counted
-  cutTo-list l = counted (length l) (cols k (map (λ o. o .quantity .0) l ++ drop (length l) q) p d)
+  abbrev cutTo-list : List PlannedOrder → CountedPlan
+  cutTo-list l = countedPlan (length l) (planCols k (map (λ o. o .quantity .0) l ++ drop (length l) q) p d)
 
   -- the first i admitted whole
-  pub cut-whole : i ≤ 64 → from at 0 i ≡ admitted s plan → counted i (cols k q p d) ≡ cutPlan s (counted n (cols k q p d))
+  pub cut-whole : i ≤ 64 → from at 0 i ≡ admitted s plan → countedPlan i (planCols k q p d) ≡ cutPlan s (countedPlan n (planCols k q p d))
   unfolding cutPlan
   cut-whole h e =
-      ap (λ x. counted i (cols k x p d)) (front-is (λ o. o .quantity .0) q (pos 0) at (λ j. refl) q i (omega arith) refl)
-      ∙ ap (λ m. counted m (cols k (map (λ o. o .quantity .0) (from at 0 i) ++ drop (length (from at 0 i)) q) p d)) (sym (from-length at 0 i))
+      ap (λ x. countedPlan i (planCols k x p d)) (front-is (λ o. o .quantity .0) q (pos 0) at (λ j. refl) q i (omega arith) refl)
+      ∙ ap (λ m. countedPlan m (planCols k (map (λ o. o .quantity .0) (from at 0 i) ++ drop (length (from at 0 i)) q) p d)) (sym (from-length at 0 i))
       ∙ ap cutTo-list e
 
   -- and the next one cut
   pub cut-part : (cut : ℤ) → i < 64 → from at 0 i ++ (planned (at i .symbol .0) cut (at i .price) (at i .«drift_bps») ∷ []) ≡ admitted s plan
-      → counted (i + 1) (cols k (set q i cut) p d) ≡ cutPlan s (counted n (cols k q p d))
+      → countedPlan (i + 1) (planCols k (set q i cut) p d) ≡ cutPlan s (countedPlan n (planCols k q p d))
   unfolding cutPlan
   cut-part cut h e =
       let x = planned (at i .symbol .0) cut (at i .price) (at i .«drift_bps») in
       let l = from at 0 i ++ (x ∷ []) in
       let m : length l ≡ i + 1 = length-append (from at 0 i) (x ∷ []) ∙ omega (arith, from-length at 0 i) in
-      ap (λ y. counted (i + 1) (cols k y p d)) (front-set (λ o. o .quantity .0) q (pos 0) at (λ j. refl) i x (omega arith))
-      ∙ ap (λ y. counted y (cols k (map (λ o. o .quantity .0) l ++ drop (length l) q) p d)) (sym m)
+      ap (λ y. countedPlan (i + 1) (planCols k y p d)) (front-set (λ o. o .quantity .0) q (pos 0) at (λ j. refl) i x (omega arith))
+      ∙ ap (λ y. countedPlan y (planCols k (map (λ o. o .quantity .0) l ++ drop (length l) q) p d)) (sym m)
       ∙ ap cutTo-list e
 
 -- symbols, prices and drifts of the admitted orders are those of the first of the plan

@@ -10,17 +10,18 @@ use lib.ListN.{length, take}
 use lib.Seq.{take-all, take-take}
 use borrow.Author.Tests.{ltb-true, ltb-false, le-leb}
 use Rattle.table.specs.Keyed.{pick}
-use Rattle.table.specs.Places.{shorter}
+use Rattle.table.specs.Inner.Places.{shorter}
 use Rattle.table.specs.Rows.{isZero}
 use Rattle.table.proofs.Places.{shorter-below}
 use Rattle.account.specs.declared.settings.Settings.{Settings}
 use Rattle.account.specs.declared.settings.TradeCap.{TradeCap}
 use Rattle.account.specs.declared.settings.TradeCap.the-variants.{Absent, AtMost}
 use Rattle.wanted.specs.declared.plan.PlannedOrder.{PlannedOrder}
-use Rattle.admission.specs.Admission.{capped, drawnBefore, insertBy, added, reached, mostIn, mostOf, notionalOf, admittedFrom, admitted}
-use Rattle.admission.specs.Columns.{Cols, Full, plans}
+use Rattle.admission.specs.Admission.{capped, drawnBefore, insertBy, added, reached, notionalOf, admittedFrom, admitted}
+use Rattle.admission.specs.Inner.Admission.{mostIn, mostOf}
+use Rattle.admission.specs.Inner.Columns.{PlanCols, FullPlan, plans}
 use Rattle.admission.proofs.Plans.{plans-length}
-use Rattle.admission.proofs.Inserting.{zipped, plans-zipped}
+use Rattle.admission.proofs.Inserting.{zippedPlan, plans-zipped}
 
 -- ---- what stands past the first k decides none of the first k of the plan with one order more
 head-take : (k : ℕ) (x : PlannedOrder) (l : List PlannedOrder) → take k (x ∷ l) ≡ take k (x ∷ take k l)
@@ -53,14 +54,14 @@ added-take s o k l = go (isZero (o .quantity .0)) (capped s)
     go false false = append-take o k l
 
 -- the first k orders of the columns
-pub plans-take : (n k : ℕ) (c : Cols) → Full c → n ≤ 64 → plans (shorter n k) c ≡ take k (plans n c)
+pub plans-take : (n k : ℕ) (c : PlanCols) → FullPlan c → n ≤ 64 → plans (shorter n k) c ≡ take k (plans n c)
 plans-take n k c f h = go (ltb n k) refl
   where
     go : (b : Bool) → ltb n k ≡ b → plans (pick b n k) c ≡ take k (plans n c)
     go true e = sym (take-all k (plans n c) (omega (arith, ltb-true n k e, plans-length n c, shorter-below n 64)))
     go false e =
         let l : k ≤ n = ltb-false n k e in
-        plans-zipped c f k (omega (arith, l, h)) ∙ sym (take-take k n (zipped c) l) ∙ ap (take k) (sym (plans-zipped c f n h))
+        plans-zipped c f k (omega (arith, l, h)) ∙ sym (take-take k n (zippedPlan c) l) ∙ ap (take k) (sym (plans-zipped c f n h))
 
 -- ---- none past the trade cap is admitted
 from-take : (s : Settings) (k n : ℕ) (left : ℤ) (l : List PlannedOrder) → reached (s .«max_trades_per_rebalance») (n + k) ≡ true → admittedFrom s n left (take k l) ≡ admittedFrom s n left l

@@ -8,10 +8,10 @@ use native.Mathlib.Numerals.{add-one}
 use lib.Dec.{ltb}
 use lib.ListN.{length}
 use borrow.Author.Tests.{ltb-true, ltb-false}
-use Rattle.table.specs.Places.{shorter}
+use Rattle.table.specs.Inner.Places.{shorter}
 pub use Rattle.table.proofs.Places.{shorter-same}
 use Rattle.wanted.specs.declared.plan.PlannedOrder.{PlannedOrder}
-use Rattle.admission.specs.Columns.{Cols, orderAt, from, plans, placeOf}
+use Rattle.admission.specs.Inner.Columns.{PlanCols, orderAt, from, plans, placeOf}
 
 -- ---- what stands from a place on
 module _ {A : Type 0} (f : ℕ → A) where
@@ -36,19 +36,19 @@ module _ {A : Type 0} (f : ℕ → A) where
       let b : from f (suc i) k ≡ from g (suc i) k = from-same g (suc i) k (λ j l. h j (omega arith)) in
       cc
 
-pub plans-start : (n m : ℕ) (c : Cols) → m ≡ shorter n 64 → plans n c ≡ from (orderAt c) 0 m
+pub plans-start : (n m : ℕ) (c : PlanCols) → m ≡ shorter n 64 → plans n c ≡ from (orderAt c) 0 m
 unfolding plans
 plans-start n m c h = rw h
 
-pub plans-few : (n : ℕ) (c : Cols) → n ≤ 64 → plans n c ≡ from (orderAt c) 0 n
+pub plans-few : (n : ℕ) (c : PlanCols) → n ≤ 64 → plans n c ≡ from (orderAt c) 0 n
 unfolding plans
 plans-few n c h = rw (shorter-same n 64 h)
 
-pub plans-length : (n : ℕ) (c : Cols) → length (plans n c) ≡ shorter n 64
+pub plans-length : (n : ℕ) (c : PlanCols) → length (plans n c) ≡ shorter n 64
 unfolding plans
 plans-length n c = from-length (orderAt c) 0 (shorter n 64)
 
-pub plans-next : (i : ℕ) (c : Cols) → i < 64 → plans (i + 1) c ≡ plans i c ++ (orderAt c i ∷ [])
+pub plans-next : (i : ℕ) (c : PlanCols) → i < 64 → plans (i + 1) c ≡ plans i c ++ (orderAt c i ∷ [])
 plans-next i c h =
     let e : 0 + i ≡ i = omega arith in
     plans-few (i + 1) c (omega arith) ∙ ap (from (orderAt c) 0) (add-one i) ∙ rw (plans-few i c (omega arith)) (rw e at (from-last (orderAt c) 0 i))
@@ -64,7 +64,7 @@ module _ (test : PlannedOrder → Bool) (f : ℕ → PlannedOrder) (i m : ℕ) w
   pub place-end : m ≤ i → i ≡ i + placeOf test (from f i (m - i))
   place-end h = rw (from-end f i m h) (omega arith)
 
-pub place-start : (test : PlannedOrder → Bool) (n m : ℕ) (c : Cols) → m ≡ shorter n 64 → 0 + placeOf test (from (orderAt c) 0 (m - 0)) ≡ placeOf test (plans n c)
+pub place-start : (test : PlannedOrder → Bool) (n m : ℕ) (c : PlanCols) → m ≡ shorter n 64 → 0 + placeOf test (from (orderAt c) 0 (m - 0)) ≡ placeOf test (plans n c)
 place-start test n m c h = let e : m - 0 ≡ m = omega arith in rw (plans-start n m c h) (rw e (omega arith))
 
 -- where it fails before place i and holds from there on, the first is i

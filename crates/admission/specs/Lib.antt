@@ -1,7 +1,4 @@
 -- What a plan admits and in which order it runs: document 01, 'Planning'.
 pub mod Admission
 pub mod Running
-pub mod Columns
-pub mod Offers
-pub mod Runs
-pub mod Kept
+pub mod Inner

@@ -3,9 +3,10 @@ ghost use mathlib.Core.Path.{_≡_};
 ghost use mathlib.Core.List.{List};
 ghost use Prim.Native.Nat.{ℕ};
 ghost use lib.Ieee.{Float};
-ghost use Rattle.admission.specs.Admission.{capped, reached, mostOf};
-ghost use Rattle.admission.specs.Columns.{cols, counted};
-ghost use Rattle.admission.specs.Offers.{partOffered, offered, cutPlan};
+ghost use Rattle.admission.specs.Admission.{capped, reached};
+ghost use Rattle.admission.specs.Inner.Admission.{mostOf};
+ghost use Rattle.admission.specs.Inner.Columns.{planCols, countedPlan};
+ghost use Rattle.admission.specs.Inner.Offers.{partOffered, offered, cutPlan};
 use crate::column::whole_numbers;
 use account::Settings;
 use account::TradeCap;
@@ -92,8 +93,8 @@ fn offer(s: Settings, n: usize, left: i64, quantity: Shares, price: i64) -> Offe
 // Cuts the plan of n orders to what the caps admit: returns the count, and writes the quantity of the last where it is cut. Symbols and
 // drifts, whatever stands beside, take no part.
 pub fn admit(quantity: &mut [i64; 64], price: &[i64; 64], n: usize, s: Settings) -> usize
-    ensures { λ r. ⌜ ((k : List ℕ) (d : List Float) → counted r (cols k (now (quantity .exit)) (now (price .entry)) d)
-        ≡ cutPlan s (counted n (cols k (now (quantity .entry)) (now (price .entry)) d))) ⌝ }
+    ensures { λ r. ⌜ ((k : List ℕ) (d : List Float) → countedPlan r (planCols k (now (quantity .exit)) (now (price .entry)) d)
+        ≡ cutPlan s (countedPlan n (planCols k (now (quantity .entry)) (now (price .entry)) d))) ⌝ }
 {
     whole_numbers(*quantity);
     let m = used(n, 64);

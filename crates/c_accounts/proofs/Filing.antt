@@ -25,8 +25,9 @@ use Rattle.account.proofs.SoundAccounts.{zero-unsound}
 use Rattle.account_bytes.specs.Sizes.{accountLength}
 use Rattle.account_bytes.specs.Account.{gotAccount, noAccount, accountOf, holdAccount, readAccount, writtenAccount}
 use Rattle.account_bytes.proofs.AccountKept.{good-long}
-use Rattle.c_accounts.specs.Entries.{accountIn, soundIn, accountBytes, Told, told, answering}
-use Rattle.c_accounts.specs.Setters.{setIn, filed}
+use Rattle.c_accounts.specs.Entries.{accountIn, soundIn, accountBytes, AccountTold, accountTold, answering}
+use Rattle.c_accounts.specs.Setters.{setIn}
+use Rattle.c_accounts.specs.Inner.Setters.{setterTold}
 
 -- ---- bytes that hold no account
 good-or-zero : (t : Bool) (a : Account) → let r = pick t (gotAccount a) noAccount in both (r .good) (soundAccount (r .account)) ≡ soundAccount (r .account)
@@ -48,43 +49,43 @@ written-sound a b e = simp (sound-length b e)
 
 -- ---- a setter's answer, filed
 set-by : (t k g : Bool) (s : Settings) (b : List ℕ) → soundIn b ≡ t →
-    filed k (pick t (pick g (answered Done (withSettings s (accountIn b))) (answered BadSetting (accountIn b))) (answered Unsound (accountIn b))) b
+    setterTold k (pick t (pick g (answered Done (withSettings s (accountIn b))) (answered BadSetting (accountIn b))) (answered Unsound (accountIn b))) b
     ≡ pick t (pick (both k g) (answering Done (accountBytes (withSettings s (accountIn b)))) (answering BadSetting b)) (answering Unsound b)
-unfolding filed
-set-by true true true s b e = ap (told 0) (written-sound (withSettings s (accountIn b)) b e)
+unfolding setterTold
+set-by true true true s b e = ap (accountTold 0) (written-sound (withSettings s (accountIn b)) b e)
 set-by true true false s b e = refl
 set-by true false true s b e = refl
 set-by true false false s b e = refl
 set-by false k g s b e = refl
 
-set-filed : (given : Bool) (s : Settings) (b : List ℕ) → filed given (changed s (accountIn b)) b ≡ setIn given s b
+set-filed : (given : Bool) (s : Settings) (b : List ℕ) → setterTold given (changed s (accountIn b)) b ≡ setIn given s b
 unfolding changed setIn
 set-filed given s b = simp (← sound-in b) (set-by (soundIn b) given (goodSettings s) s b refl)
 
 -- the same over what the code of every setter has: the account that was read, what was made of it, and what was filed
-pub set-done : (f : Settings → Settings) (b : List ℕ) {k given : Bool} {a : Account} {c : Changed} {t : Told}
-    → a ≡ accountIn b → c ≡ changed (f (a .settings)) a → k ≡ given → t ≡ filed k c b → t ≡ setIn given (f (accountIn b .settings)) b
+pub set-done : (f : Settings → Settings) (b : List ℕ) {k given : Bool} {a : Account} {c : Changed} {t : AccountTold}
+    → a ≡ accountIn b → c ≡ changed (f (a .settings)) a → k ≡ given → t ≡ setterTold k c b → t ≡ setIn given (f (accountIn b .settings)) b
 set-done f b {k} {given} e h g w =
     w
-    ∙ ap (λ (x : Changed). filed k x b) (h ∙ ap (λ (x : Account). changed (f (x .settings)) x) e)
-    ∙ ap (λ (x : Bool). filed x (changed (f (accountIn b .settings)) (accountIn b)) b) g
+    ∙ ap (λ (x : Changed). setterTold k x b) (h ∙ ap (λ (x : Account). changed (f (x .settings)) x) e)
+    ∙ ap (λ (x : Bool). setterTold x (changed (f (accountIn b .settings)) (accountIn b)) b) g
     ∙ set-filed given (f (accountIn b .settings)) b
 
 -- where a signed number is given, through the bits that hold it
-pub set-number-done : (f : ℤ → Settings → Settings) {z : ℤ} (b : List ℕ) {a : Account} {c : Changed} {t : Told}
-    → SFits w64 z → a ≡ accountIn b → c ≡ changed (f (toZ w64 (ofZ w64 z)) (a .settings)) a → t ≡ filed true c b → t ≡ setIn true (f z (accountIn b .settings)) b
+pub set-number-done : (f : ℤ → Settings → Settings) {z : ℤ} (b : List ℕ) {a : Account} {c : Changed} {t : AccountTold}
+    → SFits w64 z → a ≡ accountIn b → c ≡ changed (f (toZ w64 (ofZ w64 z)) (a .settings)) a → t ≡ setterTold true c b → t ≡ setIn true (f z (accountIn b .settings)) b
 set-number-done f {z} b {a} k e h w = set-done (f z) b e (h ∙ ap (λ (x : ℤ). changed (f x (a .settings)) a) (toZ-ofZ w64 z k)) refl w
 
 -- ---- the writing back
 module _ (given : Bool) (n : ℕ) (c : Changed) (b : List ℕ) (e : n ≡ numberOf (c .answer)) where
-  pub file-not-done : (n ≡ 0 → ⊥) → told n b ≡ filed given c b
-  unfolding filed
+  pub file-not-done : (n ≡ 0 → ⊥) → accountTold n b ≡ setterTold given c b
+  unfolding setterTold
   file-not-done z = simp (← e, ne-eqb n 0 z)
 
-  pub file-bad : n ≡ 0 → given ≡ false → answering BadSetting b ≡ filed given c b
-  unfolding filed
+  pub file-bad : n ≡ 0 → given ≡ false → answering BadSetting b ≡ setterTold given c b
+  unfolding setterTold
   file-bad z g = let q : numberOf (c .answer) ≡ 0 = sym e ∙ z in simp (q, g)
 
-  pub file-done : n ≡ 0 → given ≡ true → (l : List ℕ) → l ≡ writtenAccount (c .account) b → told n l ≡ filed given c b
-  unfolding filed
+  pub file-done : n ≡ 0 → given ≡ true → (l : List ℕ) → l ≡ writtenAccount (c .account) b → accountTold n l ≡ setterTold given c b
+  unfolding setterTold
   file-done z g l w = let q : numberOf (c .answer) ≡ 0 = sym e ∙ z in simp (q, z, g, w)

@@ -22,13 +22,15 @@ use Rattle.account.specs.Account.{heldIn, soundAccount}
 use Rattle.account.specs.Calls.{absent, present, presentOr, positionOf, positionAt}
 use Rattle.account_bytes.specs.Sizes.{settingsLength}
 use Rattle.account_bytes.specs.Settings.{settingsWords, writtenSettings}
-use Rattle.c_accounts.specs.Entries.{accountIn, settingsIn, soundIn, told, answering, unlessUnsound}
-use Rattle.c_accounts.specs.Queries.{queried, heldWords, settingsTold, tellIn}
+use Rattle.c_accounts.specs.Entries.{accountIn, settingsIn, soundIn, accountTold, answering}
+use Rattle.c_accounts.specs.Inner.Entries.{unlessUnsound}
+use Rattle.c_accounts.specs.Queries.{queried, heldWords, settingsTold}
+use Rattle.c_accounts.specs.Inner.Queries.{tellIn}
 use Rattle.c_accounts.proofs.Filing.{sound-in}
 
 -- ---- words told, by each way out
 module _ (n : ℕ) (words out : List ℕ) where
-  pub tell-unsound : n ≡ 11 → told n out ≡ tellIn n words out
+  pub tell-unsound : n ≡ 11 → accountTold n out ≡ tellIn n words out
   unfolding tellIn
   tell-unsound e = simp (eq-eqb n 11 e)
 
@@ -36,11 +38,11 @@ module _ (n : ℕ) (words out : List ℕ) where
   unfolding tellIn
   tell-short e f = simp (ne-eqb n 11 e, ne-eqb (length out) (8 * length words) f)
 
-  pub tell-refused : (n ≡ 11 → ⊥) → length out ≡ 8 * length words → (n ≡ 0 → ⊥) → told n out ≡ tellIn n words out
+  pub tell-refused : (n ≡ 11 → ⊥) → length out ≡ 8 * length words → (n ≡ 0 → ⊥) → accountTold n out ≡ tellIn n words out
   unfolding tellIn
   tell-refused e f z = simp (ne-eqb n 11 e, eq-eqb (length out) (8 * length words) f, ne-eqb n 0 z)
 
-  pub tell-done : (l : List ℕ) → (n ≡ 11 → ⊥) → length out ≡ 8 * length words → n ≡ 0 → l ≡ bytesOf words → told n l ≡ tellIn n words out
+  pub tell-done : (l : List ℕ) → (n ≡ 11 → ⊥) → length out ≡ 8 * length words → n ≡ 0 → l ≡ bytesOf words → accountTold n l ≡ tellIn n words out
   unfolding tellIn
   tell-done l e f z w = simp (ne-eqb n 11 e, eq-eqb (length out) (8 * length words) f, eq-eqb n 0 z, w)
 
@@ -109,7 +111,7 @@ unsound-of true n e z = absurd (z e)
 unsound-of false n e z = refl
 
 module _ (b out : List ℕ) (a : Account) (n : ℕ) (h : a ≡ accountIn b) (e : n ≡ numberOf (unlessUnsound a Done)) where
-  pub settings-unsound : (n ≡ 0 → ⊥) → told n out ≡ settingsTold b out
+  pub settings-unsound : (n ≡ 0 → ⊥) → accountTold n out ≡ settingsTold b out
   unfolding queried
   settings-unsound z =
       let k = number-in b Done a n h e in
@@ -121,7 +123,7 @@ module _ (b out : List ℕ) (a : Account) (n : ℕ) (h : a ≡ accountIn b) (e :
   unfolding queried
   settings-short z f = simp (sound-of (soundIn b) n (number-in b Done a n h e) z, ne-eqb (length out) settingsLength f)
 
-  pub settings-done : (l : List ℕ) → n ≡ 0 → length out ≡ settingsLength → l ≡ writtenSettings (a .settings) out → told n l ≡ settingsTold b out
+  pub settings-done : (l : List ℕ) → n ≡ 0 → length out ≡ settingsLength → l ≡ writtenSettings (a .settings) out → accountTold n l ≡ settingsTold b out
   unfolding queried writtenSettings
   settings-done l z f w =
       let q = eq-eqb (length out) settingsLength f in

@@ -3,9 +3,8 @@ use Prim.Native.Nat.{ℕ}
 use mathlib.Core.Bool.{Bool}
 use mathlib.Core.List.{List}
 use Rattle.answer.specs.declared.Answer.{Answer}
-use Rattle.answer.specs.declared.Answer.the-variants.{Unsound}
 use Rattle.answer.specs.Numbers.{numberOf}
-use Rattle.table.specs.Keyed.{pick, both}
+use Rattle.table.specs.Keyed.{both}
 use Rattle.word_bytes.specs.Words.{bytesOf}
 use Rattle.account.specs.declared.account.Account.{Account}
 use Rattle.account.specs.declared.settings.Settings.{Settings}
@@ -27,17 +26,12 @@ unfoldable pub accountBytes : Account → List ℕ
 accountBytes a = bytesOf (accountWords a)
 
 -- ---- the answer's number, and the lent bytes as the entry leaves them
-pub record Told : Type 0 where
+pub record AccountTold : Type 0 where
   pub number : ℕ
   pub lent : List ℕ
 
-abbrev pub told : ℕ → List ℕ → Told
-told n l = record { number = n; lent = l }
+abbrev pub accountTold : ℕ → List ℕ → AccountTold
+accountTold n l = record { number = n; lent = l }
 
-abbrev pub answering : Answer → List ℕ → Told
-answering w l = told (numberOf w) l
-
--- ---- what the code does
--- "Check order where several apply: 11, ..": an answer of a sound account alone
-abbrev pub unlessUnsound : Account → Answer → Answer
-unlessUnsound a w = pick (soundAccount a) w Unsound
+abbrev pub answering : Answer → List ℕ → AccountTold
+answering w l = accountTold (numberOf w) l

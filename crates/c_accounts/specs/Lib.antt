@@ -3,3 +3,4 @@ pub mod Entries
 pub mod Opening
 pub mod Setters
 pub mod Queries
+pub mod Inner

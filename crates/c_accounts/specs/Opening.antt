@@ -24,8 +24,8 @@ pub record OpenTold : Type 0 where
 abbrev pub openTold : ℕ → List ℕ → List ℤ → OpenTold
 openTold n b es = record { number = n; account = b; equities = es }
 
-abbrev pub opening : Answer → List ℕ → List ℤ → OpenTold
-opening w b es = openTold (numberOf w) b es
+abbrev pub answeringOpen : Answer → List ℕ → List ℤ → OpenTold
+answeringOpen w b es = openTold (numberOf w) b es
 
 -- bytes of another length hold no settings, and so do those with a bad mark or flag or a NaN
 unfoldable pub soundOpening : ℤ → List ℕ → Bool
@@ -38,7 +38,7 @@ openIn cash given b es =
     pick (eqb (length b) accountLength)
     (pick (soundOpening cash given)
     (pick (ltb 0 (length es))
-    (opening Done (accountBytes (openAccount cash (readSettings given .settings))) (set es 0 cash))
-    (opening BufferFull b es))
-    (opening BadSetting b es))
-    (opening Unsound b es)
+    (answeringOpen Done (accountBytes (openAccount cash (readSettings given .settings))) (set es 0 cash))
+    (answeringOpen BufferFull b es))
+    (answeringOpen BadSetting b es))
+    (answeringOpen Unsound b es)

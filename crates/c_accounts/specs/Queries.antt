@@ -16,10 +16,10 @@ use Rattle.account.specs.Calls.{positionOf, positionAt}
 use Rattle.account_bytes.specs.Sizes.{settingsLength, countersSize, seriesSize}
 use Rattle.account_bytes.specs.Settings.{flagWord, settingsWords}
 use Rattle.account_bytes.specs.Account.{counterWords, seriesWords}
-use Rattle.c_accounts.specs.Entries.{accountIn, settingsIn, soundIn, Told, told, answering}
+use Rattle.c_accounts.specs.Entries.{accountIn, settingsIn, soundIn, AccountTold, answering}
 
 -- 11; then 6 where `out` has another length; then what the question itself is refused for; then the words, and nothing beside them.
-unfoldable pub queried : List ℕ → ℕ → Answer → List ℕ → List ℕ → Told
+unfoldable pub queried : List ℕ → ℕ → Answer → List ℕ → List ℕ → AccountTold
 queried b size w words out =
     pick (soundIn b)
     (pick (eqb (length out) size)
@@ -40,31 +40,21 @@ heldWords h =
     ∷ []
 
 -- ---- the questions
-abbrev pub cashTold : List ℕ → List ℕ → Told
+abbrev pub cashTold : List ℕ → List ℕ → AccountTold
 cashTold b out = queried b 8 Done (unsignedOf (accountIn b .cash) ∷ []) out
 
-abbrev pub settingsTold : List ℕ → List ℕ → Told
+abbrev pub settingsTold : List ℕ → List ℕ → AccountTold
 settingsTold b out = queried b settingsLength Done (settingsWords (settingsIn b)) out
 
-abbrev pub countersTold : List ℕ → List ℕ → Told
+abbrev pub countersTold : List ℕ → List ℕ → AccountTold
 countersTold b out = queried b (8 * countersSize) Done (counterWords (accountIn b .counters)) out
 
-abbrev pub seriesTold : List ℕ → List ℕ → Told
+abbrev pub seriesTold : List ℕ → List ℕ → AccountTold
 seriesTold b out = queried b (8 * seriesSize) Done (seriesWords (accountIn b .series)) out
 
 -- 2: "a symbol is bad"; "a position the account lacks is 0 with an absent mark"
-abbrev pub positionTold : ℕ → List ℕ → List ℕ → Told
+abbrev pub positionTold : ℕ → List ℕ → List ℕ → AccountTold
 positionTold s b out = queried b 48 (pick (goodSymbol s) Done BadSymbol) (heldWords (positionOf s (accountIn b))) out
 
-abbrev pub positionAtTold : ℕ → List ℕ → List ℕ → Told
+abbrev pub positionAtTold : ℕ → List ℕ → List ℕ → AccountTold
 positionAtTold i b out = queried b 48 Done (heldWords (positionAt i (accountIn b))) out
-
--- ---- what the code does
--- the number of a question to an account, and its words where all is well
-unfoldable pub tellIn : ℕ → List ℕ → List ℕ → Told
-tellIn n words out =
-    pick (eqb n 11)
-    (told n out)
-    (pick (eqb (length out) (8 * length words))
-    (told n (pick (eqb n 0) (bytesOf words) out))
-    (answering TooLong out))

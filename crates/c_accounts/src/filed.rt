@@ -1,8 +1,9 @@
 // Accounts out of lent bytes and back into them.
 ghost use mathlib.Core.Path.{_≡_};
 ghost use Rattle.answer.specs.Numbers.{numberOf};
-ghost use Rattle.c_accounts.specs.Entries.{accountIn, told, unlessUnsound};
-ghost use Rattle.c_accounts.specs.Setters.{filed};
+ghost use Rattle.c_accounts.specs.Entries.{accountIn, accountTold};
+ghost use Rattle.c_accounts.specs.Inner.Entries.{unlessUnsound};
+ghost use Rattle.c_accounts.specs.Inner.Setters.{setterTold};
 use account::Account;
 use account::Changed;
 use account_bytes::read_account;
@@ -29,7 +30,7 @@ pub(crate) fn unless_unsound(a: Account, answer: Answer) -> u64
 
 // The account after a call that was done, unless what it was given is no mark or flag; else the bytes stay.
 pub(crate) fn file(given: bool, c: Changed, bytes: &mut [u8]) -> u64
-    ensures { λ r. ⌜ told r (now (bytes .exit)) ≡ filed given c (now (bytes .entry)) ⌝ }
+    ensures { λ r. ⌜ accountTold r (now (bytes .exit)) ≡ setterTold given c (now (bytes .entry)) ⌝ }
 {
     let answer = c.answer;
     let number = answer::number(answer);

@@ -4,8 +4,9 @@ ghost use Prim.Native.Nat.{_*_, _≤_};
 ghost use lib.ListN.{length};
 ghost use Rattle.word_bytes.specs.Words.{wordsOf, turned};
 ghost use Rattle.account_bytes.specs.Account.{counterWords, seriesWords};
-ghost use Rattle.c_accounts.specs.Entries.{told};
-ghost use Rattle.c_accounts.specs.Queries.{heldWords, tellIn, cashTold, settingsTold, countersTold, seriesTold, positionTold, positionAtTold};
+ghost use Rattle.c_accounts.specs.Entries.{accountTold};
+ghost use Rattle.c_accounts.specs.Queries.{heldWords, cashTold, settingsTold, countersTold, seriesTold, positionTold, positionAtTold};
+ghost use Rattle.c_accounts.specs.Inner.Queries.{tellIn};
 use crate::filed::account_in;
 use crate::filed::unless_unsound;
 use account::Counters;
@@ -38,7 +39,7 @@ fn put_words(words: &[u64], out: &mut [u8])
 // The answer of a question to an account, and its words where it is 0.
 fn tell(number: u64, words: &[u64], out: &mut [u8]) -> u64
     requires { ⌜ length (now words) ≤ 7 ⌝ }
-    ensures { λ r. ⌜ told r (now (out .exit)) ≡ tellIn number (now (words .entry)) (now (out .entry)) ⌝ }
+    ensures { λ r. ⌜ accountTold r (now (out .exit)) ≡ tellIn number (now (words .entry)) (now (out .entry)) ⌝ }
 {
     if number == 11 {
         return number;
@@ -98,7 +99,7 @@ fn held_words(h: Held) -> [u64; 6]
 
 #[no_mangle]
 pub extern "C" fn tc_cash(account: &[u8], out: &mut [u8]) -> u64
-    ensures { λ r. ⌜ told r (now (out .exit)) ≡ cashTold (now (account .entry)) (now (out .entry)) ⌝ }
+    ensures { λ r. ⌜ accountTold r (now (out .exit)) ≡ cashTold (now (account .entry)) (now (out .entry)) ⌝ }
 {
     let a = account_in(account);
     let number = unless_unsound(a, Answer::Done);
@@ -109,7 +110,7 @@ pub extern "C" fn tc_cash(account: &[u8], out: &mut [u8]) -> u64
 // The words of the settings, as opening takes them.
 #[no_mangle]
 pub extern "C" fn tc_settings(account: &[u8], out: &mut [u8]) -> u64
-    ensures { λ r. ⌜ told r (now (out .exit)) ≡ settingsTold (now (account .entry)) (now (out .entry)) ⌝ }
+    ensures { λ r. ⌜ accountTold r (now (out .exit)) ≡ settingsTold (now (account .entry)) (now (out .entry)) ⌝ }
 {
     let a = account_in(account);
     let number = unless_unsound(a, Answer::Done);
@@ -126,7 +127,7 @@ pub extern "C" fn tc_settings(account: &[u8], out: &mut [u8]) -> u64
 // Seven words: last order count and notional, trimmed count and shortfall, record count, and two that stand for no counter.
 #[no_mangle]
 pub extern "C" fn tc_counters(account: &[u8], out: &mut [u8]) -> u64
-    ensures { λ r. ⌜ told r (now (out .exit)) ≡ countersTold (now (account .entry)) (now (out .entry)) ⌝ }
+    ensures { λ r. ⌜ accountTold r (now (out .exit)) ≡ countersTold (now (account .entry)) (now (out .entry)) ⌝ }
 {
     let a = account_in(account);
     let number = unless_unsound(a, Answer::Done);
@@ -137,7 +138,7 @@ pub extern "C" fn tc_counters(account: &[u8], out: &mut [u8]) -> u64
 // Three words: the counts of equities and returns, and the previous equity.
 #[no_mangle]
 pub extern "C" fn tc_series(account: &[u8], out: &mut [u8]) -> u64
-    ensures { λ r. ⌜ told r (now (out .exit)) ≡ seriesTold (now (account .entry)) (now (out .entry)) ⌝ }
+    ensures { λ r. ⌜ accountTold r (now (out .exit)) ≡ seriesTold (now (account .entry)) (now (out .entry)) ⌝ }
 {
     let a = account_in(account);
     let number = unless_unsound(a, Answer::Done);
@@ -148,7 +149,7 @@ pub extern "C" fn tc_series(account: &[u8], out: &mut [u8]) -> u64
 // Six words: the present mark, the symbol, quantity, average, realized profit and total cost.
 #[no_mangle]
 pub extern "C" fn tc_position(account: &[u8], symbol: u64, out: &mut [u8]) -> u64
-    ensures { λ r. ⌜ told r (now (out .exit)) ≡ positionTold symbol (now (account .entry)) (now (out .entry)) ⌝ }
+    ensures { λ r. ⌜ accountTold r (now (out .exit)) ≡ positionTold symbol (now (account .entry)) (now (out .entry)) ⌝ }
 {
     let a = account_in(account);
     let h = a.position(Symbol(symbol));
@@ -161,7 +162,7 @@ pub extern "C" fn tc_position(account: &[u8], symbol: u64, out: &mut [u8]) -> u6
 // The same by its place, the lowest symbol at place 0.
 #[no_mangle]
 pub extern "C" fn tc_position_at(account: &[u8], index: u64, out: &mut [u8]) -> u64
-    ensures { λ r. ⌜ told r (now (out .exit)) ≡ positionAtTold index (now (account .entry)) (now (out .entry)) ⌝ }
+    ensures { λ r. ⌜ accountTold r (now (out .exit)) ≡ positionAtTold index (now (account .entry)) (now (out .entry)) ⌝ }
 {
     let a = account_in(account);
     let h = a.position_at(index as usize);

@@ -16,8 +16,9 @@ use Rattle.call_lists.specs.Checks.{unless}
 use Rattle.table.specs.declared.found.Found.{Found}
 use Rattle.table.specs.declared.found.Found.the-variants.{Absent}
 use Rattle.table.specs.Keyed.{pick}
-use Rattle.table.specs.Places.{Finds}
-use Rattle.table.specs.Rows.{Cols, cols, Counted, counted, zipped, rows, Ordered, posted, heldAt}
+use Rattle.table.specs.Inner.Places.{Finds}
+use Rattle.table.specs.Rows.{Cols, cols, zipped, rows}
+use Rattle.table.specs.Inner.Rows.{Counted, counted, Ordered, posted, heldAt}
 use Rattle.table.proofs.Keyed.{both-true}
 use Rattle.table.proofs.Posting.{held-is-holding, posted-puts}
 use Rattle.fills.specs.declared.fill.Filled.{Filled}

@@ -18,7 +18,8 @@ use Rattle.cost_model.specs.Costs.{goodCosts}
 use Rattle.call_lists.specs.Checks.{unless}
 use Rattle.table.specs.declared.found.Found.the-variants.{Absent}
 use Rattle.table.specs.Keyed.{pick, both}
-use Rattle.table.specs.Rows.{Cols, Counted, counted, posted, holding}
+use Rattle.table.specs.Rows.{Cols, holding}
+use Rattle.table.specs.Inner.Rows.{Counted, counted, posted}
 use Rattle.fills.specs.declared.order.Book.{Book}
 use Rattle.fills.specs.declared.order.Order.{Order}
 use Rattle.fills.specs.declared.order.Terms.{Terms}

@@ -21,11 +21,13 @@ use Rattle.word_bytes.specs.Words.{wordsOf}
 use Rattle.account_bytes.specs.Account.{gotAccount, noAccount, accountOf, holdAccount, readAccount}
 use Rattle.list_bytes.specs.declared.price.Prices.{Prices}
 use Rattle.list_bytes.specs.Entries.{wholeList}
-use Rattle.list_bytes.specs.Lists.{symbolsIn, pricesIn, pricesOf}
+use Rattle.list_bytes.specs.Lists.{symbolsIn, pricesIn}
+use Rattle.list_bytes.specs.Inner.Lists.{pricesOf}
 use Rattle.list_bytes.proofs.Columns.{count-small}
 use Rattle.list_bytes.proofs.Lists.{price-symbols, price-prices}
 use Rattle.portfolio.specs.Answers.{isDone}
-use Rattle.c_queries.specs.Asked.{accountIn, soundIn, asked, early}
+use Rattle.c_queries.specs.Asked.{accountIn, soundIn, asked}
+use Rattle.c_queries.specs.Inner.Asked.{early}
 
 -- ---- bytes that hold no account
 good-or-zero : (t : Bool) (a : Account) → let r = pick t (gotAccount a) noAccount in both (r .good) (soundAccount (r .account)) ≡ soundAccount (r .account)
@@ -88,13 +90,13 @@ module _ (r : Read) where
   has-room {t} d n = both-true (wholeList 128 (r .list)) (r .fits) (tests-hold (sym d ∙ not-false t n)) .1
 
 -- ---- as many prices as were read are lent
-pub record Lent (p : Prices) : Type 0 where
+pub record LentPrices (p : Prices) : Type 0 where
   pub symbols-room : p .count ≤ length (p .symbol)
   pub symbols-long : p .count ≡ length (take (p .count) (p .symbol))
   pub prices-room : p .count ≤ length (p .price)
   pub prices-long : p .count ≡ length (take (p .count) (p .price))
 
-pub lent : (p : Prices) → length (p .symbol) ≡ 128 → length (p .price) ≡ 128 → p .count ≤ 128 → Lent p
+pub lent : (p : Prices) → length (p .symbol) ≡ 128 → length (p .price) ≡ 128 → p .count ≤ 128 → LentPrices p
 lent p es ep h =
     record {
       symbols-room = omega arith;

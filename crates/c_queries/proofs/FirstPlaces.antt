@@ -14,7 +14,7 @@ use Rattle.list_bytes.proofs.Weights.{weights-written}
 use Rattle.portfolio.specs.Answers.{isDone, queryAnswer}
 use Rattle.queries.specs.Queries.{Weight}
 use Rattle.queries.specs.Answers.{weighed, weightsNow, toldWeights}
-use Rattle.c_queries.specs.Told.{tell}
+use Rattle.c_queries.specs.Told.{tellQuery}
 use Rattle.c_queries.specs.Reports.{weightsTold}
 
 abbrev symbolsOf : List Weight → List ℕ
@@ -37,8 +37,8 @@ module _ (l : List Weight) (out : List ℕ) (h : length l ≤ 64) (g : length ou
 
 -- of a query that is done
 pub weights-first : (a : Account) (ss : List ℕ) (vs : List ℤ) (out : List ℕ) → isDone (queryAnswer a ss vs) ≡ true → let ws = weightsNow (priceOf ss vs) a in
-    length ws ≤ 64 → length out ≡ 1024 → weightsTold (toldWeights a ss vs) out ≡ tell (256 * length ws) (weightBytes (symbolsOf ws) (partsOf ws) ++ drop (16 * length ws) out)
+    length ws ≤ 64 → length out ≡ 1024 → weightsTold (toldWeights a ss vs) out ≡ tellQuery (256 * length ws) (weightBytes (symbolsOf ws) (partsOf ws) ++ drop (16 * length ws) out)
 unfolding weightsTold toldWeights weighed
 weights-first a ss vs out d h g =
     let ws = weightsNow (priceOf ss vs) a in
-    rw d (ap (tell (256 * length ws)) (weighed-written ws out h g))
+    rw d (ap (tellQuery (256 * length ws)) (weighed-written ws out h g))

@@ -14,7 +14,7 @@ use Rattle.word_bytes.specs.Words.{bytesOf, putWord}
 use Rattle.word_bytes.proofs.Words.{length-bytes}
 use Rattle.account.specs.declared.account.Account.{Account}
 use Rattle.account.specs.Account.{soundAccount}
-use Rattle.list_bytes.specs.Records.{putAll}
+use Rattle.list_bytes.specs.Inner.Records.{putAll}
 use Rattle.list_bytes.proofs.Puts.{put-all-fronts}
 use Rattle.portfolio.specs.Answers.{isDone, queryAnswer}
 use Rattle.portfolio.specs.Queries.{toldEquity}
@@ -25,7 +25,7 @@ use Rattle.queries.specs.declared.answered.Weights.{Weights}
 use Rattle.queries.specs.Queries.{Weight}
 use Rattle.queries.specs.Answers.{weighed, answeredWeights, weightsNow, toldUnpriced, toldWeights, toldSnapshot, noSnapshot}
 use Rattle.queries.proofs.Snapshots.{weights-told}
-use Rattle.c_queries.specs.Told.{Told, tell, refusing, ToldBoth, tellBoth, refusingBoth}
+use Rattle.c_queries.specs.Told.{QueryTold, tellQuery, refusing, ToldBoth, tellBoth, refusingBoth}
 use Rattle.c_queries.specs.Reports.{equityTold, unpricedTold, weightsTold, snapshotTold}
 use Rattle.c_queries.proofs.Asking.{Query}
 
@@ -89,14 +89,14 @@ module _ (out : List ℕ) (a : Account) (ss : List ℕ) (vs : List ℤ) (h : sou
   unfolding snapshotTold toldSnapshot noSnapshot queryAnswer
   snapshot-unsound weights = simp h
 
-abbrev pub equity-query : List ℕ → Query Cents Told
-equity-query out = record { gives = toldEquity; tells = λ c. equityTold c out; leaves = λ n. tell n out; unsound = equity-unsound out }
+abbrev pub equity-query : List ℕ → Query Cents QueryTold
+equity-query out = record { gives = toldEquity; tells = λ c. equityTold c out; leaves = λ n. tellQuery n out; unsound = equity-unsound out }
 
-abbrev pub unpriced-query : List ℕ → Query Unpriced Told
-unpriced-query out = record { gives = toldUnpriced; tells = λ u. unpricedTold u out; leaves = λ n. tell n out; unsound = unpriced-unsound out }
+abbrev pub unpriced-query : List ℕ → Query Unpriced QueryTold
+unpriced-query out = record { gives = toldUnpriced; tells = λ u. unpricedTold u out; leaves = λ n. tellQuery n out; unsound = unpriced-unsound out }
 
-abbrev pub weights-query : List ℕ → Query Weights Told
-weights-query out = record { gives = toldWeights; tells = λ w. weightsTold w out; leaves = λ n. tell n out; unsound = weights-unsound out }
+abbrev pub weights-query : List ℕ → Query Weights QueryTold
+weights-query out = record { gives = toldWeights; tells = λ w. weightsTold w out; leaves = λ n. tellQuery n out; unsound = weights-unsound out }
 
 abbrev pub snapshot-query : List ℕ → List ℕ → Query Snapshot ToldBoth
 snapshot-query figures weights =

@@ -3,9 +3,8 @@ use Prim.Native.Nat.{ℕ}
 use mathlib.Core.Bool.{Bool}
 use mathlib.Core.List.{List}
 use Rattle.answer.specs.declared.Answer.{Answer}
-use Rattle.answer.specs.declared.Answer.the-variants.{Done, TooLong, Unsound}
+use Rattle.answer.specs.declared.Answer.the-variants.{TooLong, Unsound}
 use Rattle.table.specs.Keyed.{pick, both}
-use Rattle.call_lists.specs.Checks.{unless}
 use Rattle.account.specs.declared.account.Account.{Account}
 use Rattle.account.specs.Account.{soundAccount}
 use Rattle.account_bytes.specs.Account.{readAccount}
@@ -22,11 +21,3 @@ soundIn b = both (readAccount b .good) (soundAccount (accountIn b))
 -- the query of an account at prices, unless its bytes are not sound, the prices no list within the bound, or what is lent has another length
 unfoldable pub asked : {X : Type 0} → (Answer → X) → List ℕ → List ℕ → Bool → X → X
 asked refuse b ps fits call = pick (soundIn b) (pick (both (wholeList 128 ps) fits) call (refuse TooLong)) (refuse Unsound)
-
--- ---- what the code does
-abbrev pub tooLong : Account → Answer
-tooLong a = unless (soundAccount a) Unsound TooLong
-
--- done where the query is to be made, which tells an unsound account itself
-unfoldable pub early : Account → Bool → Bool → Answer
-early a whole fits = pick (both whole fits) Done (tooLong a)

@@ -2,3 +2,4 @@
 pub mod Asked
 pub mod Told
 pub mod Reports
+pub mod Inner

@@ -17,19 +17,19 @@ use Rattle.queries.specs.declared.answered.Weights.{Weights}
 use Rattle.queries.specs.declared.answered.Unpriced.{Unpriced}
 use Rattle.queries.specs.Answers.{toldUnpriced, toldWeights, toldSnapshot}
 use Rattle.c_queries.specs.Asked.{accountIn, asked}
-use Rattle.c_queries.specs.Told.{Told, tell, refusing, ToldBoth, tellBoth, refusingBoth}
+use Rattle.c_queries.specs.Told.{QueryTold, tellQuery, refusing, ToldBoth, tellBoth, refusingBoth}
 
 -- ---- what is left of each answer: its words where it is done, what was found where it is a refusal
-unfoldable pub equityTold : Cents → List ℕ → Told
-equityTold c out = pick (isDone (c .answer)) (tell 0 (bytesOf (unsignedOf (c .cents) ∷ []))) (refusing out (c .answer))
+unfoldable pub equityTold : Cents → List ℕ → QueryTold
+equityTold c out = pick (isDone (c .answer)) (tellQuery 0 (bytesOf (unsignedOf (c .cents) ∷ []))) (refusing out (c .answer))
 
 -- the present mark, and the symbol's text, 0 where there is none
-unfoldable pub unpricedTold : Unpriced → List ℕ → Told
-unpricedTold u out = pick (isDone (u .answer)) (tell 0 (bytesOf (flagWord (u .present) ∷ turned (u .symbol) ∷ []))) (refusing out (u .answer))
+unfoldable pub unpricedTold : Unpriced → List ℕ → QueryTold
+unpricedTold u out = pick (isDone (u .answer)) (tellQuery 0 (bytesOf (flagWord (u .present) ∷ turned (u .symbol) ∷ []))) (refusing out (u .answer))
 
 -- the weights in the first places, which the answer counts, and the rest as found
-unfoldable pub weightsTold : Weights → List ℕ → Told
-weightsTold w out = pick (isDone (w .answer)) (tell (256 * w .count) (writtenWeights (w .count) (w .symbol) (w .weight) out)) (refusing out (w .answer))
+unfoldable pub weightsTold : Weights → List ℕ → QueryTold
+weightsTold w out = pick (isDone (w .answer)) (tellQuery (256 * w .count) (writtenWeights (w .count) (w .symbol) (w .weight) out)) (refusing out (w .answer))
 
 abbrev pub snapshotWords : Snapshot → List ℕ
 snapshotWords s =
@@ -47,14 +47,14 @@ snapshotTold s figures weights =
     (refusingBoth figures weights (s .answer))
 
 -- ---- the queries, of an account's bytes and those of its prices, with what is lent to be written
-unfoldable pub equityIn : List ℕ → List ℕ → List ℕ → Told
+unfoldable pub equityIn : List ℕ → List ℕ → List ℕ → QueryTold
 equityIn b ps out = asked (refusing out) b ps (eqb (length out) 8) (equityTold (toldEquity (accountIn b) (symbolsIn ps) (pricesIn ps)) out)
 
-unfoldable pub unpricedIn : List ℕ → List ℕ → List ℕ → Told
+unfoldable pub unpricedIn : List ℕ → List ℕ → List ℕ → QueryTold
 unpricedIn b ps out = asked (refusing out) b ps (eqb (length out) 16) (unpricedTold (toldUnpriced (accountIn b) (symbolsIn ps) (pricesIn ps)) out)
 
 -- room for 64 weights of 16 bytes
-unfoldable pub currentWeightsIn : List ℕ → List ℕ → List ℕ → Told
+unfoldable pub currentWeightsIn : List ℕ → List ℕ → List ℕ → QueryTold
 currentWeightsIn b ps out = asked (refusing out) b ps (eqb (length out) 1024) (weightsTold (toldWeights (accountIn b) (symbolsIn ps) (pricesIn ps)) out)
 
 unfoldable pub snapshotIn : List ℕ → List ℕ → List ℕ → List ℕ → ToldBoth

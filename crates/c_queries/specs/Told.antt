@@ -4,16 +4,16 @@ use mathlib.Core.List.{List}
 use Rattle.answer.specs.declared.Answer.{Answer}
 use Rattle.answer.specs.Numbers.{numberOf}
 
-pub record Told : Type 0 where
+pub record QueryTold : Type 0 where
   pub answer : ℕ
   pub out : List ℕ
 
-abbrev pub tell : ℕ → List ℕ → Told
-tell n out = record { answer = n; out = out }
+abbrev pub tellQuery : ℕ → List ℕ → QueryTold
+tellQuery n out = record { answer = n; out = out }
 
 -- a refusal leaves "every lent place as found"
-abbrev pub refusing : List ℕ → Answer → Told
-refusing out answer = tell (numberOf answer) out
+abbrev pub refusing : List ℕ → Answer → QueryTold
+refusing out answer = tellQuery (numberOf answer) out
 
 -- ---- the same where two runs are lent
 pub record ToldBoth : Type 0 where

@@ -1,6 +1,7 @@
 // What a query with prices is refused for before it is made: 11, then 6.
 ghost use mathlib.Core.Path.{_≡_};
-ghost use Rattle.c_queries.specs.Asked.{accountIn, tooLong, early};
+ghost use Rattle.c_queries.specs.Asked.{accountIn};
+ghost use Rattle.c_queries.specs.Inner.Asked.{tooLong, early};
 use account::Account;
 use account_bytes::read_account;
 use answer::Answer;

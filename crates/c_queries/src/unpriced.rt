@@ -4,7 +4,7 @@ ghost use Prim.Native.Nat.{_≤_};
 ghost use lib.ListN.{length, take};
 ghost use Rattle.account_bytes.specs.Settings.{flagWord};
 ghost use Rattle.queries.specs.Answers.{toldUnpriced};
-ghost use Rattle.c_queries.specs.Told.{tell};
+ghost use Rattle.c_queries.specs.Told.{tellQuery};
 ghost use Rattle.c_queries.specs.Reports.{unpricedTold, unpricedIn};
 use crate::asked::account_in;
 use crate::asked::early;
@@ -35,7 +35,7 @@ fn mark_of(present: bool) -> u64
 
 fn put_unpriced(u: Unpriced, out: &mut [u8]) -> u64
     requires { ⌜ length (now out) ≡ 16 ⌝ }
-    ensures { λ r. ⌜ tell r (now (out .exit)) ≡ unpricedTold u (now (out .entry)) ⌝ }
+    ensures { λ r. ⌜ tellQuery r (now (out .exit)) ≡ unpricedTold u (now (out .entry)) ⌝ }
 {
     let answer = u.answer;
     if !is_done(answer) {
@@ -49,7 +49,7 @@ fn put_unpriced(u: Unpriced, out: &mut [u8]) -> u64
 // Two words: the present mark and the symbol.
 #[no_mangle]
 pub extern "C" fn tc_unpriced_holding(account: &[u8], prices: &[u8], out: &mut [u8]) -> u64
-    ensures { λ r. ⌜ tell r (now (out .exit)) ≡ unpricedIn (now (account .entry)) (now (prices .entry)) (now (out .entry)) ⌝ }
+    ensures { λ r. ⌜ tellQuery r (now (out .exit)) ≡ unpricedIn (now (account .entry)) (now (prices .entry)) (now (out .entry)) ⌝ }
 {
     let a = account_in(account);
     let p = read_prices(prices);

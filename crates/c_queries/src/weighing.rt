@@ -3,7 +3,7 @@ ghost use mathlib.Core.Path.{_≡_};
 ghost use Prim.Native.Nat.{_≤_};
 ghost use lib.ListN.{take};
 ghost use Rattle.queries.specs.Answers.{toldWeights};
-ghost use Rattle.c_queries.specs.Told.{tell};
+ghost use Rattle.c_queries.specs.Told.{tellQuery};
 ghost use Rattle.c_queries.specs.Reports.{weightsTold, currentWeightsIn};
 use crate::asked::account_in;
 use crate::asked::early;
@@ -27,7 +27,7 @@ fn weights_at(p: Prices, a: Account) -> Weights
 
 fn put_weights(w: Weights, out: &mut [u8]) -> u64
     requires { ⌜ w .count ≤ 64 ⌝ }
-    ensures { λ r. ⌜ tell r (now (out .exit)) ≡ weightsTold w (now (out .entry)) ⌝ }
+    ensures { λ r. ⌜ tellQuery r (now (out .exit)) ≡ weightsTold w (now (out .entry)) ⌝ }
 {
     let answer = w.answer;
     if !is_done(answer) {
@@ -43,7 +43,7 @@ fn put_weights(w: Weights, out: &mut [u8]) -> u64
 // A symbol and a weight in each of the first places, which the answer counts.
 #[no_mangle]
 pub extern "C" fn tc_current_weights(account: &[u8], prices: &[u8], out: &mut [u8]) -> u64
-    ensures { λ r. ⌜ tell r (now (out .exit)) ≡ currentWeightsIn (now (account .entry)) (now (prices .entry)) (now (out .entry)) ⌝ }
+    ensures { λ r. ⌜ tellQuery r (now (out .exit)) ≡ currentWeightsIn (now (account .entry)) (now (prices .entry)) (now (out .entry)) ⌝ }
 {
     let a = account_in(account);
     let p = read_prices(prices);

@@ -3,7 +3,7 @@ ghost use mathlib.Core.Path.{_≡_};
 ghost use Prim.Native.Nat.{_≤_};
 ghost use lib.ListN.{length, take};
 ghost use Rattle.portfolio.specs.Queries.{toldEquity};
-ghost use Rattle.c_queries.specs.Told.{tell};
+ghost use Rattle.c_queries.specs.Told.{tellQuery};
 ghost use Rattle.c_queries.specs.Reports.{equityTold, equityIn};
 use crate::asked::account_in;
 use crate::asked::early;
@@ -28,7 +28,7 @@ fn equity_at(p: Prices, a: Account) -> Cents
 
 fn put_equity(c: Cents, out: &mut [u8]) -> u64
     requires { ⌜ length (now out) ≡ 8 ⌝ }
-    ensures { λ r. ⌜ tell r (now (out .exit)) ≡ equityTold c (now (out .entry)) ⌝ }
+    ensures { λ r. ⌜ tellQuery r (now (out .exit)) ≡ equityTold c (now (out .entry)) ⌝ }
 {
     let answer = c.answer;
     if !is_done(answer) {
@@ -41,7 +41,7 @@ fn put_equity(c: Cents, out: &mut [u8]) -> u64
 // One word, in cents.
 #[no_mangle]
 pub extern "C" fn tc_total_equity(account: &[u8], prices: &[u8], out: &mut [u8]) -> u64
-    ensures { λ r. ⌜ tell r (now (out .exit)) ≡ equityIn (now (account .entry)) (now (prices .entry)) (now (out .entry)) ⌝ }
+    ensures { λ r. ⌜ tellQuery r (now (out .exit)) ≡ equityIn (now (account .entry)) (now (prices .entry)) (now (out .entry)) ⌝ }
 {
     let a = account_in(account);
     let p = read_prices(prices);

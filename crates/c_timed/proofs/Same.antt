@@ -22,10 +22,11 @@ use Rattle.account_bytes.specs.Account.{readAccount}
 use Rattle.list_bytes.specs.declared.price.Prices.{Prices}
 use Rattle.list_bytes.specs.declared.target.Targets.{Targets}
 use Rattle.list_bytes.specs.Entries.{wholeList}
-use Rattle.list_bytes.specs.Lists.{symbolsIn, pricesIn, targetsOf, pricesOf}
+use Rattle.list_bytes.specs.Lists.{symbolsIn, pricesIn}
+use Rattle.list_bytes.specs.Inner.Lists.{targetsOf, pricesOf}
 use Rattle.list_bytes.proofs.Lists.{target-symbols-long, target-weights-long, price-symbols, price-prices, price-symbols-long, price-prices-long}
 use Rattle.portfolio.specs.declared.trade.Traded.{Traded}
-use Rattle.portfolio.specs.Answers.{places, returnAnswer}
+use Rattle.portfolio.specs.Answers.{recordPlaces, returnAnswer}
 use Rattle.portfolio.specs.Rebalance.{rebalanced}
 use Rattle.portfolio.specs.Returns.{Recorded, nextSeries, recorded, recordedBy}
 use Rattle.portfolio.specs.Trades.{Filed, filed, filedBy}
@@ -62,13 +63,13 @@ module _ (a : Account) (ps : List ℕ) (vs : List ℤ) where
 -- ---- a rebalance
 pub rebalance-made : (a : Account) (ts : List ℕ) (ws : List Float) (ps : List ℕ) (vs : List ℤ) (t : Traded) (xs′ xs : List ℕ) (ys′ ys : List ℤ)
     → length xs ≡ 256 → length ys ≡ 512
-    → filedBy t xs′ ys′ ≡ filed (rebalanced a ts ws ps vs 0 Rebalance (places (length xs) (length ys))) xs ys
+    → filedBy t xs′ ys′ ≡ filed (rebalanced a ts ws ps vs 0 Rebalance (recordPlaces (length xs) (length ys))) xs ys
     → change (t .answer) (t .account) ≡ rebalanceCall a ts ws ps vs
 unfolding rebalanceCall
 rebalance-made a ts ws ps vs t xs′ xs ys′ ys m n e =
     ap (λ (f : Filed). change (f .answer) (f .account)) e
-    ∙ ap (λ k. ofOutcome (rebalanced a ts ws ps vs 0 Rebalance (places k (length ys)))) m
-    ∙ ap (λ k. ofOutcome (rebalanced a ts ws ps vs 0 Rebalance (places 256 k))) n
+    ∙ ap (λ k. ofOutcome (rebalanced a ts ws ps vs 0 Rebalance (recordPlaces k (length ys)))) m
+    ∙ ap (λ k. ofOutcome (rebalanced a ts ws ps vs 0 Rebalance (recordPlaces 256 k))) n
 
 -- ---- of what was read from a list's bytes: whether the list is whole, and how much is lent of each column
 module _ (l : List ℕ) {t : Targets} (e : t ≡ targetsOf l) where

@@ -12,7 +12,7 @@ use Rattle.account.specs.declared.account.Account.{Account}
 use Rattle.account.specs.declared.change.Changed.{Changed}
 use Rattle.account.specs.Account.{soundAccount}
 use Rattle.account_bytes.specs.Account.{writtenAccount}
-use Rattle.list_bytes.specs.Records.{putAll}
+use Rattle.list_bytes.specs.Inner.Records.{putAll}
 use Rattle.list_bytes.specs.Weights.{writtenWeights}
 use Rattle.queries.specs.declared.answered.Snapshot.{Snapshot}
 
@@ -48,11 +48,11 @@ abbrev pub refusingBoth : List ℕ → List ℕ → Answer → LeftBoth
 refusingBoth fs ws answer = leaveBoth (numberOf answer) fs ws
 
 -- cash, equity, open positions and realized profit
-abbrev pub figuresOf : Snapshot → List ℕ
-figuresOf s = unsignedOf (s .cash) ∷ unsignedOf (s .equity) ∷ s .«num_positions» ∷ unsignedOf (s .«total_realized_pnl») ∷ []
+abbrev pub snapshotFigures : Snapshot → List ℕ
+snapshotFigures s = unsignedOf (s .cash) ∷ unsignedOf (s .equity) ∷ s .«num_positions» ∷ unsignedOf (s .«total_realized_pnl») ∷ []
 
 unfoldable pub leftBoth : Snapshot → List ℕ → List ℕ → LeftBoth
 leftBoth s fs ws =
     pick (isDone (s .answer))
-    (leaveBoth 0 (putAll fs 0 (figuresOf s)) (writtenWeights (s .weights .count) (s .weights .symbol) (s .weights .weight) ws))
+    (leaveBoth 0 (putAll fs 0 (snapshotFigures s)) (writtenWeights (s .weights .count) (s .weights .symbol) (s .weights .weight) ws))
     (refusingBoth fs ws (s .answer))

@@ -19,9 +19,10 @@ use Rattle.account.specs.Account.{soundAccount}
 use Rattle.account_bytes.specs.Account.{readAccount}
 use Rattle.portfolio.specs.Answers.{isDone, hasRoom, closeAnswer, rebalanceAnswer, returnAnswer}
 use Rattle.portfolio.specs.Rebalance.{refused, rebalanced}
-use Rattle.portfolio.specs.Close.{closed}
+use Rattle.portfolio.specs.Close.{positionClosed}
 use Rattle.portfolio.specs.Returns.{recorded}
-use Rattle.c_trades.specs.Asked.{accountIn, asked, early, earlyOn}
+use Rattle.c_trades.specs.Asked.{accountIn, asked}
+use Rattle.c_trades.specs.Inner.Asked.{early, earlyOn}
 
 module _ {X : Type 0} (refuse : Answer → X) (call : X) where
   by-tests : (g s k w : Bool) → (s ≡ false → call ≡ refuse Unsound)
@@ -74,12 +75,12 @@ room-enough a k q = ap (λ t. pick (a .settings .recording) t true) (enough k q 
 
 -- ---- a close
 module _ (a : Account) (s : ℕ) (price : ℤ) (period : ℕ) (kind : ExecutionKind) where
-  pub close-room : (q : ℕ) → closed a s price period kind (min q 1) ≡ closed a s price period kind q
-  unfolding closed closeAnswer
+  pub close-room : (q : ℕ) → positionClosed a s price period kind (min q 1) ≡ positionClosed a s price period kind q
+  unfolding positionClosed closeAnswer
   close-room q = simp (room-enough a 1 q)
 
-  pub close-unsound : (q : ℕ) → soundAccount a ≡ false → closed a s price period kind q ≡ refused Unsound a
-  unfolding closed closeAnswer
+  pub close-unsound : (q : ℕ) → soundAccount a ≡ false → positionClosed a s price period kind q ≡ refused Unsound a
+  unfolding positionClosed closeAnswer
   close-unsound q e = simp e
 
 -- ---- a rebalance

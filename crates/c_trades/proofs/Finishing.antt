@@ -9,10 +9,11 @@ use lib.Seq.{length-take-le}
 use Rattle.fills.specs.Records.{allWords, allInts, fronted}
 use Rattle.list_bytes.proofs.Records.{words-of, records-written}
 use Rattle.portfolio.specs.declared.trade.Traded.{Traded}
-use Rattle.portfolio.specs.Answers.{places}
+use Rattle.portfolio.specs.Answers.{recordPlaces}
 use Rattle.portfolio.specs.Rebalance.{Outcome}
 use Rattle.portfolio.specs.Trades.{Filed, filed, filedBy}
-use Rattle.c_trades.specs.Told.{told, finished}
+use Rattle.c_trades.specs.Told.{tradeTold}
+use Rattle.c_trades.specs.Inner.Told.{finished}
 
 module _ (o : Outcome) (t : Traded) (ws zw : List ℕ) (is zi : List ℤ) (e : filedBy t ws is ≡ filed o zw zi) where
   words-are : ws ≡ fronted (allWords (o .records)) zw
@@ -27,8 +28,8 @@ module _ (o : Outcome) (t : Traded) (ws zw : List ℕ) (is zi : List ℤ) (e : f
   count-is : t .records ≡ length (o .records)
   count-is = ap (λ (f : Filed). f .records) e
 
-  finished-told : (b rs : List ℕ) → length ws / 4 ≤ length rs / 96 → finished t ws is b rs ≡ told o b rs
-  unfolding finished told
+  finished-told : (b rs : List ℕ) → length ws / 4 ≤ length rs / 96 → finished t ws is b rs ≡ tradeTold o b rs
+  unfolding finished tradeTold
   finished-told b rs h =
       let n = ap (λ (f : Filed). f .answer) e in
       let a = ap (λ (f : Filed). f .account) e in
@@ -39,7 +40,7 @@ module _ (o : Outcome) (t : Traded) (ws zw : List ℕ) (is zi : List ℤ) (e : f
 -- what is written is what is told, and no more records than the buffer has places for
 pub record Finished (o : Outcome) (t : Traded) (ws : List ℕ) (is : List ℤ) (rs : List ℕ) : Type 0 where
   pub few : t .records ≤ 64
-  pub written : (b : List ℕ) → finished t ws is b rs ≡ told o b rs
+  pub written : (b : List ℕ) → finished t ws is b rs ≡ tradeTold o b rs
 
 pub finishing : (o : Outcome) (t : Traded) (ws zw : List ℕ) (is zi : List ℤ) (rs : List ℕ) → filedBy t ws is ≡ filed o zw zi
     → length ws ≡ length zw → length zw / 4 ≤ min (length rs / 96) 64 → Finished o t ws is rs
@@ -53,7 +54,7 @@ finishing o t ws zw is zi rs e n h =
 pub record Roomed (q most r : ℕ) (ws : List ℕ) (is : List ℤ) : Type 0 where
   pub words-long : length (take (4 * r) ws) ≡ 4 * r
   pub ints-long : length (take (8 * r) is) ≡ 8 * r
-  pub same : places (length (take (4 * r) ws)) (length (take (8 * r) is)) ≡ min q most
+  pub same : recordPlaces (length (take (4 * r) ws)) (length (take (8 * r) is)) ≡ min q most
 
 pub roomed : (q most r : ℕ) (ws : List ℕ) (is : List ℤ) → r ≡ min q most → length ws ≡ 4 * most → length is ≡ 8 * most → Roomed q most r ws is
 roomed q most r ws is e m n =
@@ -63,5 +64,5 @@ roomed q most r ws is e m n =
 
 -- a call that asks for no more places than these tells the same in them
 pub told-roomed : {q most r : ℕ} {ws : List ℕ} {is : List ℤ} → Roomed q most r ws is → (call : ℕ → Outcome) → call (min q most) ≡ call q
-    → (b rs : List ℕ) → told (call (places (length (take (4 * r) ws)) (length (take (8 * r) is)))) b rs ≡ told (call q) b rs
-told-roomed k call e b rs = ap (λ n. told (call n) b rs) (k .same) ∙ ap (λ o. told o b rs) e
+    → (b rs : List ℕ) → tradeTold (call (recordPlaces (length (take (4 * r) ws)) (length (take (8 * r) is)))) b rs ≡ tradeTold (call q) b rs
+told-roomed k call e b rs = ap (λ n. tradeTold (call n) b rs) (k .same) ∙ ap (λ o. tradeTold o b rs) e

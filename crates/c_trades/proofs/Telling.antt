@@ -17,7 +17,7 @@ use Rattle.list_bytes.specs.Records.{allBytes}
 use Rattle.portfolio.specs.Answers.{isDone}
 use Rattle.portfolio.specs.Rebalance.{Outcome}
 use Rattle.c_trades.specs.Asked.{accountIn, soundIn}
-use Rattle.c_trades.specs.Told.{tell, told}
+use Rattle.c_trades.specs.Told.{tellTrade, tradeTold}
 
 -- ---- "Account bytes of the wrong length answer 11": of a sound account's bytes the length is right
 pub account-bytes : (b : List ℕ) (a : Account) → soundIn b ≡ true → writtenAccount a b ≡ bytesOf (accountWords a)
@@ -26,11 +26,11 @@ account-bytes b a e = simp (eq-eqb (length b) accountLength (good-long b (both-t
 
 -- ---- a call that trades
 module _ (o : Outcome) (b rs : List ℕ) where
-  pub refused-as-found : isDone (o .answer) ≡ false → told o b rs ≡ tell (numberOf (o .answer)) b rs
-  unfolding told
+  pub refused-as-found : isDone (o .answer) ≡ false → tradeTold o b rs ≡ tellTrade (numberOf (o .answer)) b rs
+  unfolding tradeTold
   refused-as-found e = simp e
 
   pub done-written : isDone (o .answer) ≡ true → soundIn b ≡ true
-      → told o b rs ≡ tell (256 * length (o .records)) (bytesOf (accountWords (o .account))) (allBytes (o .records) ++ drop (96 * length (o .records)) rs)
-  unfolding told
+      → tradeTold o b rs ≡ tellTrade (256 * length (o .records)) (bytesOf (accountWords (o .account))) (allBytes (o .records) ++ drop (96 * length (o .records)) rs)
+  unfolding tradeTold
   done-written e h = simp (e, account-bytes b (o .account) h)

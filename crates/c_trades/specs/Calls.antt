@@ -9,7 +9,7 @@ use Rattle.fills.specs.Records.{kindOf}
 use Rattle.list_bytes.specs.Entries.{wholeList}
 use Rattle.list_bytes.specs.Lists.{symbolsIn, weightsIn, pricesIn}
 use Rattle.portfolio.specs.Rebalance.{Outcome, refused, rebalanced}
-use Rattle.portfolio.specs.Close.{closed}
+use Rattle.portfolio.specs.Close.{positionClosed}
 use Rattle.c_trades.specs.Asked.{accountIn, wholeRun, asked}
 
 abbrev pub refusedIn : List ℕ → Answer → Outcome
@@ -17,7 +17,7 @@ refusedIn b answer = refused answer (accountIn b)
 
 -- account, symbol, price, period, kind and the record buffer
 unfoldable pub closeIn : List ℕ → ℕ → ℤ → ℕ → ℕ → List ℕ → Outcome
-closeIn b s price period kind rs = asked (refusedIn b) b kind (wholeRun (length rs)) (closed (accountIn b) s price period (kindOf kind) (length rs / 96))
+closeIn b s price period kind rs = asked (refusedIn b) b kind (wholeRun (length rs)) (positionClosed (accountIn b) s price period (kindOf kind) (length rs / 96))
 
 -- account, targets, prices, period, kind and the record buffer
 unfoldable pub rebalanceIn : List ℕ → List ℕ → List ℕ → ℕ → ℕ → List ℕ → Outcome

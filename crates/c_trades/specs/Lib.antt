@@ -3,3 +3,4 @@ pub mod Asked
 pub mod Told
 pub mod Calls
 pub mod Returns
+pub mod Inner

@@ -13,18 +13,18 @@ use Rattle.portfolio.specs.Answers.{isDone}
 use Rattle.portfolio.specs.Returns.{Recorded, recorded}
 use Rattle.c_trades.specs.Asked.{accountIn, asked}
 
-pub record Noted : Type 0 where
+pub record ReturnTold : Type 0 where
   pub answer : ℕ
   pub account : List ℕ
   pub equities : List ℤ
   pub returns : List Float
 
-abbrev pub note : ℕ → List ℕ → List ℤ → List Float → Noted
-note n b es rs = record { answer = n; account = b; equities = es; returns = rs }
+abbrev pub tellReturn : ℕ → List ℕ → List ℤ → List Float → ReturnTold
+tellReturn n b es rs = record { answer = n; account = b; equities = es; returns = rs }
 
 -- the account's bytes after a call that was done; a refusal leaves "every lent place as found", as the series are already
-unfoldable pub noted : Recorded → List ℕ → Noted
-noted o b = note (numberOf (o .answer)) (pick (isDone (o .answer)) (writtenAccount (o .account) b) b) (o .equities) (o .returns)
+unfoldable pub returnTold : Recorded → List ℕ → ReturnTold
+returnTold o b = tellReturn (numberOf (o .answer)) (pick (isDone (o .answer)) (writtenAccount (o .account) b) b) (o .equities) (o .returns)
 
 abbrev pub unrecorded : List ℕ → List ℤ → List Float → Answer → Recorded
 unrecorded b es rs answer = record { answer = answer; account = accountIn b; equities = es; returns = rs }

@@ -1,35 +1,25 @@
 -- What a call over bytes returns and leaves: the answer's number in the low eight bits with the count of records above it, and the lent bytes.
 use Prim.Native.Nat.{ℕ, _*_}
 use mathlib.Core.List.{List, _++_}
-use lib.IntN.{ℤ}
 use lib.ListN.{length, drop}
 use Rattle.answer.specs.Numbers.{numberOf}
 use Rattle.table.specs.Keyed.{pick}
 use Rattle.account_bytes.specs.Account.{writtenAccount}
-use Rattle.list_bytes.specs.Records.{allBytes, writtenRecords}
-use Rattle.portfolio.specs.declared.trade.Traded.{Traded}
+use Rattle.list_bytes.specs.Records.{allBytes}
 use Rattle.portfolio.specs.Answers.{isDone}
 use Rattle.portfolio.specs.Rebalance.{Outcome}
 
-pub record Told : Type 0 where
+pub record TradeTold : Type 0 where
   pub answer : ℕ
   pub account : List ℕ
   pub records : List ℕ
 
-abbrev pub tell : ℕ → List ℕ → List ℕ → Told
-tell n b rs = record { answer = n; account = b; records = rs }
+abbrev pub tellTrade : ℕ → List ℕ → List ℕ → TradeTold
+tellTrade n b rs = record { answer = n; account = b; records = rs }
 
 -- "After 0, records fill the first places, the answer counts them, and the rest are as found"; a refusal leaves "every lent place as found"
-unfoldable pub told : Outcome → List ℕ → List ℕ → Told
-told o b rs =
+unfoldable pub tradeTold : Outcome → List ℕ → List ℕ → TradeTold
+tradeTold o b rs =
     pick (isDone (o .answer))
-    (tell (256 * length (o .records)) (writtenAccount (o .account) b) (allBytes (o .records) ++ drop (96 * length (o .records)) rs))
-    (tell (numberOf (o .answer)) b rs)
-
--- ---- what the code does
--- the same of records in number slices
-unfoldable pub finished : Traded → List ℕ → List ℤ → List ℕ → List ℕ → Told
-finished t ws is b rs =
-    pick (isDone (t .answer))
-    (tell (256 * t .records) (writtenAccount (t .account) b) (writtenRecords ws is (t .records) rs))
-    (tell (numberOf (t .answer)) b rs)
+    (tellTrade (256 * length (o .records)) (writtenAccount (o .account) b) (allBytes (o .records) ++ drop (96 * length (o .records)) rs))
+    (tellTrade (numberOf (o .answer)) b rs)

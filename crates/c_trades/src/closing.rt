@@ -3,11 +3,11 @@ ghost use mathlib.Core.Path.{_≡_};
 ghost use Prim.Native.Nat.{_/_, _≤_, min};
 ghost use lib.ListN.{length};
 ghost use Rattle.table.specs.Rows.{cols};
-ghost use Rattle.account.specs.Account.{accountWith};
-ghost use Rattle.portfolio.specs.Answers.{places};
-ghost use Rattle.portfolio.specs.Close.{closed};
+ghost use Rattle.account.specs.Inner.Account.{accountWith};
+ghost use Rattle.portfolio.specs.Answers.{recordPlaces};
+ghost use Rattle.portfolio.specs.Close.{positionClosed};
 ghost use Rattle.fills.specs.Records.{kindOf};
-ghost use Rattle.c_trades.specs.Told.{tell, told};
+ghost use Rattle.c_trades.specs.Told.{tellTrade, tradeTold};
 ghost use Rattle.c_trades.specs.Calls.{closeIn};
 use crate::asked::early;
 use crate::asked::whole_run;
@@ -39,8 +39,8 @@ fn file_close(
     records: &mut [u8],
 ) -> u64
     requires { ⌜ length (now words) / 4 ≤ min (length (now records) / 96) 64 ⌝ }
-    ensures { λ r. ⌜ tell r (now (account .exit)) (now (records .exit))
-        ≡ told (closed (accountWith h (cols (now (symbol .entry)) (now (quantity .entry)) (now (average .entry)) (now (realized .entry)) (now (total .entry)))) s price period (kindOf kind) (places (length (now (words .entry))) (length (now (ints .entry))))) (now (account .entry)) (now (records .entry)) ⌝ }
+    ensures { λ r. ⌜ tellTrade r (now (account .exit)) (now (records .exit))
+        ≡ tradeTold (positionClosed (accountWith h (cols (now (symbol .entry)) (now (quantity .entry)) (now (average .entry)) (now (realized .entry)) (now (total .entry)))) s price period (kindOf kind) (recordPlaces (length (now (words .entry))) (length (now (ints .entry))))) (now (account .entry)) (now (records .entry)) ⌝ }
 {
     let k = fills::kind_of(kind);
     let t = close_on(
@@ -86,8 +86,8 @@ fn close_in_room(
     account: &mut [u8],
     records: &mut [u8],
 ) -> u64
-    ensures { λ r. ⌜ tell r (now (account .exit)) (now (records .exit))
-        ≡ told (closed (accountWith h (cols (now (symbol .entry)) (now (quantity .entry)) (now (average .entry)) (now (realized .entry)) (now (total .entry)))) s price period (kindOf kind) (length (now (records .entry)) / 96)) (now (account .entry)) (now (records .entry)) ⌝ }
+    ensures { λ r. ⌜ tellTrade r (now (account .exit)) (now (records .exit))
+        ≡ tradeTold (positionClosed (accountWith h (cols (now (symbol .entry)) (now (quantity .entry)) (now (average .entry)) (now (realized .entry)) (now (total .entry)))) s price period (kindOf kind) (length (now (records .entry)) / 96)) (now (account .entry)) (now (records .entry)) ⌝ }
 {
     let mut words = [0u64; 4];
     let mut ints = [0i64; 8];
@@ -122,8 +122,8 @@ pub extern "C" fn tc_close_position_at(
     kind: u64,
     records: &mut [u8],
 ) -> u64
-    ensures { λ r. ⌜ tell r (now (account .exit)) (now (records .exit))
-        ≡ told (closeIn (now (account .entry)) symbol price period kind (now (records .entry))) (now (account .entry)) (now (records .entry)) ⌝ }
+    ensures { λ r. ⌜ tellTrade r (now (account .exit)) (now (records .exit))
+        ≡ tradeTold (closeIn (now (account .entry)) symbol price period kind (now (records .entry))) (now (account .entry)) (now (records .entry)) ⌝ }
 {
     if !is_account(account) {
         return answer::number(Answer::Unsound);

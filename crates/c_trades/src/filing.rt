@@ -2,8 +2,9 @@
 ghost use mathlib.Core.Path.{_≡_};
 ghost use Prim.Native.Nat.{_≤_, _/_, min};
 ghost use Rattle.table.specs.Rows.{cols};
-ghost use Rattle.portfolio.specs.Trades.{tradedOn};
-ghost use Rattle.c_trades.specs.Told.{tell, finished};
+ghost use Rattle.portfolio.specs.Inner.Trades.{tradedOn};
+ghost use Rattle.c_trades.specs.Told.{tellTrade};
+ghost use Rattle.c_trades.specs.Inner.Told.{finished};
 use account_bytes::write_ledger;
 use answer::is_done;
 use list_bytes::write_records;
@@ -31,7 +32,7 @@ pub(crate) fn finish<'a>(
     records: &mut [u8],
 ) -> u64
     requires { ⌜ t .records ≤ 64 ⌝ }
-    ensures { λ r. ⌜ tell r (now (account .exit)) (now (records .exit))
+    ensures { λ r. ⌜ tellTrade r (now (account .exit)) (now (records .exit))
         ≡ finished (tradedOn t (cols (now (symbol .entry)) (now (quantity .entry)) (now (average .entry)) (now (realized .entry)) (now (total .entry)))) (now (words .entry)) (now (ints .entry)) (now (account .entry)) (now (records .entry)) ⌝ }
 {
     let answer = t.answer;

@@ -4,13 +4,13 @@ ghost use mathlib.Core.Bool.{true};
 ghost use Prim.Native.Nat.{_/_, _≤_, min};
 ghost use lib.ListN.{length};
 ghost use Rattle.table.specs.Rows.{cols};
-ghost use Rattle.account.specs.Account.{accountWith};
+ghost use Rattle.account.specs.Inner.Account.{accountWith};
 ghost use Rattle.list_bytes.specs.Entries.{wholeList};
 ghost use Rattle.list_bytes.specs.Lists.{symbolsIn, weightsIn, pricesIn};
-ghost use Rattle.portfolio.specs.Answers.{places};
+ghost use Rattle.portfolio.specs.Answers.{recordPlaces};
 ghost use Rattle.portfolio.specs.Rebalance.{rebalanced};
 ghost use Rattle.fills.specs.Records.{kindOf};
-ghost use Rattle.c_trades.specs.Told.{tell, told};
+ghost use Rattle.c_trades.specs.Told.{tellTrade, tradeTold};
 ghost use Rattle.c_trades.specs.Calls.{rebalanceIn};
 use crate::asked::both;
 use crate::asked::early;
@@ -46,10 +46,10 @@ fn file_rebalance(
     records: &mut [u8],
 ) -> u64
     requires { ⌜ (wholeList 64 (now targets) ≡ true) × (wholeList 128 (now prices) ≡ true) × (length (now words) / 4 ≤ min (length (now records) / 96) 64) ⌝ }
-    ensures { λ r. ⌜ tell r (now (account .exit)) (now (records .exit))
-        ≡ told (rebalanced (accountWith h (cols (now (symbol .entry)) (now (quantity .entry)) (now (average .entry)) (now (realized .entry)) (now (total .entry))))
+    ensures { λ r. ⌜ tellTrade r (now (account .exit)) (now (records .exit))
+        ≡ tradeTold (rebalanced (accountWith h (cols (now (symbol .entry)) (now (quantity .entry)) (now (average .entry)) (now (realized .entry)) (now (total .entry))))
         (symbolsIn (now (targets .entry))) (weightsIn (now (targets .entry))) (symbolsIn (now (prices .entry))) (pricesIn (now (prices .entry)))
-        period (kindOf kind) (places (length (now (words .entry))) (length (now (ints .entry))))) (now (account .entry)) (now (records .entry)) ⌝ }
+        period (kindOf kind) (recordPlaces (length (now (words .entry))) (length (now (ints .entry))))) (now (account .entry)) (now (records .entry)) ⌝ }
 {
     let k = fills::kind_of(kind);
     let mut ts = [0u64; 64];
@@ -104,8 +104,8 @@ fn rebalance_in_room(
     records: &mut [u8],
 ) -> u64
     requires { ⌜ (wholeList 64 (now targets) ≡ true) × (wholeList 128 (now prices) ≡ true) ⌝ }
-    ensures { λ r. ⌜ tell r (now (account .exit)) (now (records .exit))
-        ≡ told (rebalanced (accountWith h (cols (now (symbol .entry)) (now (quantity .entry)) (now (average .entry)) (now (realized .entry)) (now (total .entry))))
+    ensures { λ r. ⌜ tellTrade r (now (account .exit)) (now (records .exit))
+        ≡ tradeTold (rebalanced (accountWith h (cols (now (symbol .entry)) (now (quantity .entry)) (now (average .entry)) (now (realized .entry)) (now (total .entry))))
         (symbolsIn (now (targets .entry))) (weightsIn (now (targets .entry))) (symbolsIn (now (prices .entry))) (pricesIn (now (prices .entry)))
         period (kindOf kind) (length (now (records .entry)) / 96)) (now (account .entry)) (now (records .entry)) ⌝ }
 {
@@ -142,8 +142,8 @@ pub extern "C" fn tc_rebalance_simple(
     kind: u64,
     records: &mut [u8],
 ) -> u64
-    ensures { λ r. ⌜ tell r (now (account .exit)) (now (records .exit))
-        ≡ told (rebalanceIn (now (account .entry)) (now (targets .entry)) (now (prices .entry)) period kind (now (records .entry))) (now (account .entry)) (now (records .entry)) ⌝ }
+    ensures { λ r. ⌜ tellTrade r (now (account .exit)) (now (records .exit))
+        ≡ tradeTold (rebalanceIn (now (account .entry)) (now (targets .entry)) (now (prices .entry)) period kind (now (records .entry))) (now (account .entry)) (now (records .entry)) ⌝ }
 {
     if !is_account(account) {
         return answer::number(Answer::Unsound);

@@ -9,8 +9,9 @@ ghost use Rattle.list_bytes.specs.Entries.{wholeList};
 ghost use Rattle.list_bytes.specs.Lists.{symbolsIn, pricesIn};
 ghost use Rattle.portfolio.specs.Answers.{isDone};
 ghost use Rattle.portfolio.specs.Returns.{recorded};
-ghost use Rattle.c_trades.specs.Asked.{accountIn, Holds};
-ghost use Rattle.c_trades.specs.Returns.{noted, note, returnIn};
+ghost use Rattle.c_trades.specs.Asked.{accountIn};
+ghost use Rattle.c_trades.specs.Inner.Asked.{HoldsAccount};
+ghost use Rattle.c_trades.specs.Returns.{returnTold, tellReturn, returnIn};
 use crate::asked::early;
 use account::Ledger;
 use account_bytes::is_account;
@@ -50,9 +51,9 @@ fn file_return<'a>(
     equities: &mut [i64],
     returns: &mut [f64],
 ) -> u64
-    requires { ⌜ (wholeList 128 (now prices) ≡ true) × Holds (now account) h (cols (now symbol) (now quantity) (now average) (now realized) (now total)) ⌝ }
-    ensures { λ r. ⌜ note r (now (account .exit)) (now (equities .exit)) (now (returns .exit))
-        ≡ noted (recorded (accountIn (now (account .entry))) (symbolsIn (now (prices .entry))) (pricesIn (now (prices .entry))) (now (equities .entry)) (now (returns .entry))) (now (account .entry)) ⌝ }
+    requires { ⌜ (wholeList 128 (now prices) ≡ true) × HoldsAccount (now account) h (cols (now symbol) (now quantity) (now average) (now realized) (now total)) ⌝ }
+    ensures { λ r. ⌜ tellReturn r (now (account .exit)) (now (equities .exit)) (now (returns .exit))
+        ≡ returnTold (recorded (accountIn (now (account .entry))) (symbolsIn (now (prices .entry))) (pricesIn (now (prices .entry))) (now (equities .entry)) (now (returns .entry))) (now (account .entry)) ⌝ }
 {
     let mut ss = [0u64; 128];
     let mut ps = [0i64; 128];
@@ -80,8 +81,8 @@ pub extern "C" fn tc_record_return(
     equities: &mut [i64],
     returns: &mut [f64],
 ) -> u64
-    ensures { λ r. ⌜ note r (now (account .exit)) (now (equities .exit)) (now (returns .exit))
-        ≡ noted (returnIn (now (account .entry)) (now (prices .entry)) (now (equities .entry)) (now (returns .entry))) (now (account .entry)) ⌝ }
+    ensures { λ r. ⌜ tellReturn r (now (account .exit)) (now (equities .exit)) (now (returns .exit))
+        ≡ returnTold (returnIn (now (account .entry)) (now (prices .entry)) (now (equities .entry)) (now (returns .entry))) (now (account .entry)) ⌝ }
 {
     if !is_account(account) {
         return answer::number(Answer::Unsound);

@@ -12,7 +12,8 @@ use lib.ListN.{length, take, drop, getD, length-drop, drop-of-length-le}
 use lib.Seq.{drop-cons, take-all}
 use borrow.Author.Tests.{lt-ltb, le-ltb, le-leb, eq-eqb, ne-eqb, not-true}
 use Rattle.call_lists.specs.Lists.{among, distinct}
-use Rattle.table.specs.Keyed.{pick, both, all, ascending, Over, Rising}
+use Rattle.table.specs.Keyed.{pick, both, all, ascending}
+use Rattle.table.specs.Inner.Keyed.{Over, Rising}
 use Rattle.table.proofs.Keyed.{ascending-rises, both-true}
 
 -- what a function of a list sees from place i on

@@ -12,8 +12,9 @@ use lib.Seq.{take-all}
 use mir.Syntax.{w64}
 use mir.Val.{SFits}
 use borrow.Author.Tests.{leb-true, leb-false, eqb-true, eqb-false}
-use Rattle.table.specs.Keyed.{pick, Rising}
-use Rattle.table.specs.Places.{foundFrom, found, Finds}
+use Rattle.table.specs.Keyed.{pick}
+use Rattle.table.specs.Inner.Keyed.{Rising}
+use Rattle.table.specs.Inner.Places.{foundFrom, found, Finds}
 use Rattle.table.specs.declared.found.Found.{Found}
 use Rattle.table.specs.declared.found.Found.the-variants.{At, Absent}
 use Rattle.table.proofs.Keyed.{both-true}

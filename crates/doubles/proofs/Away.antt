@@ -13,7 +13,7 @@ use lib.Ieee.Exact.{HasValue}
 use lib.Ieee.Nearest.{div-same}
 use lib.Ieee.Back.{round-whole, whole-unique}
 use Rattle.doubles.specs.Doubles.{roundAway}
-use Rattle.doubles.specs.Fields.{exponentOf, fractionOf, unitsOf, nearestOf, signedOf}
+use Rattle.doubles.specs.Fields.{exponentOf, fractionOf, unitsOf, nearestOf, signedSize}
 use Rattle.doubles.proofs.Fields.{Sized, fraction-lt}
 use Rattle.doubles.proofs.Whole.{units-lt, units-ge}
 
@@ -112,15 +112,15 @@ away-sized (fin u m (pos k)) s a t v l =
     ∙ whole-unique binary64 (round binary64 u (m * 2 ^ k) 1) (fin u m (pos k)) u (m * 2 ^ k) (round-fits binary64 u (m * 2 ^ k) 1) t (round-whole binary64 u (m * 2 ^ k) b) (refl, refl)
 
 -- ---- the cast after it
-pub cast-value : (y : Float) (s : Bool) (n : ℕ) → HasValue y s n 1 → signedOf s n ≡ toSigned 63 y
+pub cast-value : (y : Float) (s : Bool) (n : ℕ) → HasValue y s n 1 → signedSize s n ≡ toSigned 63 y
 unfolding toSigned
 cast-value nan s n v = absurd v
 cast-value (inf u) s n v = absurd v
 cast-value (fin u m e) s n v =
     let q : n ≡ m * up e / down e = sym (div-same (m * up e) (down e) n 1 (down-pos e) (pow-pos 0) (v .1) ∙ div-one n) in
-    λ i. signedOf (sym (v .0) i) (q i)
+    λ i. signedSize (sym (v .0) i) (q i)
 
-pub cast-away : (x : Float) (s : Bool) (a : ℕ) → T (fits binary64 x) → Sized x s a → a < 2 ^ 1126 → signedOf s (nearUnits a) ≡ toSigned 63 (roundAway x)
+pub cast-away : (x : Float) (s : Bool) (a : ℕ) → T (fits binary64 x) → Sized x s a → a < 2 ^ 1126 → signedSize s (nearUnits a) ≡ toSigned 63 (roundAway x)
 cast-away x s a t v l =
     cast-value (round binary64 s (nearUnits a) 1) s (nearUnits a) (round-whole binary64 s (nearUnits a) (le-trans (near-small a l) (pow-mono {i = 52} {j = 53} (omega arith))))
     ∙ ap (toSigned 63) (away-sized x s a t v l)
@@ -170,6 +170,6 @@ module _ (x : Float) (h : T (fits binary64 x)) (s : Bool) (b e : ℕ) (v : Sized
   pub away-above : 1075 ≤ e → x ≡ roundAway x
   away-above l = away-large x s (unitsOf (exponentOf b) (fractionOf b)) h v (size-above b e p l)
 
-  pub cast-below : e < 1075 → signedOf s (nearestOf b) ≡ toSigned 63 (roundAway x)
+  pub cast-below : e < 1075 → signedSize s (nearestOf b) ≡ toSigned 63 (roundAway x)
   unfolding nearestOf
   cast-below l = cast-away x s (unitsOf (exponentOf b) (fractionOf b)) h v (size-below b e p l)

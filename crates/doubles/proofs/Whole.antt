@@ -9,7 +9,7 @@ use lib.IntN.{pos, negℤ}
 use lib.Ieee.{Float, nan, inf, fin, up, down, toSigned}
 use lib.Ieee.Fits.{down-pos}
 use lib.Ieee.Nearest.{div-same}
-use Rattle.doubles.specs.Fields.{exponentOf, fractionOf, unitsOf, wholeOf, signedOf}
+use Rattle.doubles.specs.Fields.{exponentOf, fractionOf, unitsOf, wholeOf, signedSize}
 use Rattle.doubles.proofs.Fields.{Sized, fraction-lt}
 
 -- ---- the size of the fields between powers of two
@@ -104,18 +104,18 @@ module _ (b e : ℕ) (p : e ≡ exponentOf b) where
 min-min : (n a b : ℕ) → b ≤ a → min (min n a) b ≡ min n b
 min-min n a b h = omega arith
 
-signed-held : (s : Bool) (n : ℕ) → signedOf s (min n (2 ^ 63)) ≡ signedOf s n
+signed-held : (s : Bool) (n : ℕ) → signedSize s (min n (2 ^ 63)) ≡ signedSize s n
 signed-held true n = ap (λ (x : ℕ). negℤ (pos x)) (min-min n (2 ^ 63) (2 ^ 63) (omega arith))
 signed-held false n = ap pos (min-min n (2 ^ 63) (2 ^ 63 - 1) (omega arith))
 
-signed-top : (s : Bool) (n : ℕ) → 2 ^ 63 ≤ n → signedOf s n ≡ cond s (negℤ (pos (2 ^ 63))) (pos (2 ^ 63 - 1))
+signed-top : (s : Bool) (n : ℕ) → 2 ^ 63 ≤ n → signedSize s n ≡ cond s (negℤ (pos (2 ^ 63))) (pos (2 ^ 63 - 1))
 signed-top true n h = ap (λ (x : ℕ). negℤ (pos x)) (sym (top n h))
 signed-top false n h = ap pos (ends n h)
   where
     ends : (n : ℕ) → 2 ^ 63 ≤ n → min n (2 ^ 63 - 1) ≡ 2 ^ 63 - 1
     ends n h = omega arith
 
-pub cast-sized : (x : Float) (s : Bool) (a : ℕ) → Sized x s a → signedOf s (a / 2 ^ 1074) ≡ toSigned 63 x
+pub cast-sized : (x : Float) (s : Bool) (a : ℕ) → Sized x s a → signedSize s (a / 2 ^ 1074) ≡ toSigned 63 x
 unfolding toSigned
 cast-sized nan s a v = absurd v
 cast-sized (inf t) s a v =
@@ -123,8 +123,8 @@ cast-sized (inf t) s a v =
     ∙ ap (λ (s : Bool). cond s (negℤ (pos (2 ^ 63))) (pos (2 ^ 63 - 1))) (sym (v .0))
 cast-sized (fin t m e) s a v =
     let q : a / 2 ^ 1074 ≡ m * up e / down e = sym (div-same (m * up e) (down e) a (2 ^ 1074) (down-pos e) (pow-pos 1074) (v .1)) in
-    λ i. signedOf (sym (v .0) i) (q i)
+    λ i. signedSize (sym (v .0) i) (q i)
 
-pub cast-whole : (x : Float) (s : Bool) (b : ℕ) → Sized x s (unitsOf (exponentOf b) (fractionOf b)) → signedOf s (wholeOf b) ≡ toSigned 63 x
+pub cast-whole : (x : Float) (s : Bool) (b : ℕ) → Sized x s (unitsOf (exponentOf b) (fractionOf b)) → signedSize s (wholeOf b) ≡ toSigned 63 x
 unfolding wholeOf
 cast-whole x s b v = signed-held s (unitsOf (exponentOf b) (fractionOf b) / 2 ^ 1074) ∙ cast-sized x s (unitsOf (exponentOf b) (fractionOf b)) v

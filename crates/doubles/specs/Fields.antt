@@ -25,5 +25,5 @@ unfoldable pub nearestOf : ℕ → ℕ
 nearestOf b = (2 * unitsOf (exponentOf b) (fractionOf b) + 2 ^ 1074) / (2 * 2 ^ 1074)
 
 -- The number of that sign and size, held to i64's range.
-abbrev pub signedOf : Bool → ℕ → ℤ
-signedOf s n = cond s (negℤ (pos (min n (2 ^ 63)))) (pos (min n (2 ^ 63 - 1)))
+abbrev pub signedSize : Bool → ℕ → ℤ
+signedSize s n = cond s (negℤ (pos (min n (2 ^ 63)))) (pos (min n (2 ^ 63 - 1)))

@@ -2,7 +2,7 @@
 ghost use mathlib.Core.Path.{_≡_};
 ghost use Prim.Native.Nat.{_^_, _<_, _+_};
 ghost use lib.Ieee.Nearest.{closest};
-ghost use Rattle.doubles.specs.Fields.{exponentOf, fractionOf, wholeOf, nearestOf, signedOf};
+ghost use Rattle.doubles.specs.Fields.{exponentOf, fractionOf, wholeOf, nearestOf, signedSize};
 ghost use Rattle.doubles.specs.Doubles.{finite, toI64, ofI64, ofU64, roundAway};
 
 // The eleven bits between the sign and the fraction.
@@ -49,7 +49,7 @@ fn whole_part(bits: u64) -> u64
 
 // The number of that sign and size, held to i64's range.
 fn signed(negative: bool, size: u64) -> i64
-    ensures { λ r. ⌜ r ≡ signedOf negative size ⌝ }
+    ensures { λ r. ⌜ r ≡ signedSize negative size ⌝ }
 {
     if negative {
         if size < 0x8000_0000_0000_0000 {

@@ -10,7 +10,7 @@ use Rattle.fills.specs.declared.deal.Deal.{Deal}
 use Rattle.fills.specs.declared.order.Terms.{Terms}
 use Rattle.fills.specs.declared.order.Book.{Book}
 use Rattle.fills.specs.Orders.{nextCount}
-use Rattle.fills.specs.Inner.Deal.{dealt, noDeal, sold}
+use Rattle.fills.specs.Inner.Deal.{dealt, noDeal, saleDeal}
 use Rattle.fills.specs.Inner.Runs.{countedIn}
 
 module _ (t : Terms) (q p cash : ℤ) (d : Deal) (e : d ≡ dealt t q p cash false (pos 0)) where
@@ -18,14 +18,14 @@ module _ (t : Terms) (q p cash : ℤ) (d : Deal) (e : d ≡ dealt t q p cash fal
   unfolding dealt
   left = ap (λ x. x .«cash_after») e
 
-  pub sold-skips : ltZ (d .«cash_after») (pos 0) ≡ true → sold t q p cash ≡ noDeal p cash false (pos 0)
-  unfolding sold
+  pub sold-skips : ltZ (d .«cash_after») (pos 0) ≡ true → saleDeal t q p cash ≡ noDeal p cash false (pos 0)
+  unfolding saleDeal
   sold-skips h =
       let n : leZ (pos 0) (satSub cash (cashTaken (t .costs) q p)) ≡ false = ap (leZ (pos 0)) (sym left) ∙ lt-not-ge (d .«cash_after») (pos 0) h in
       simp n
 
-  pub sold-fills : ltZ (d .«cash_after») (pos 0) ≡ false → sold t q p cash ≡ d
-  unfolding sold
+  pub sold-fills : ltZ (d .«cash_after») (pos 0) ≡ false → saleDeal t q p cash ≡ d
+  unfolding saleDeal
   sold-fills h =
       let n : leZ (pos 0) (satSub cash (cashTaken (t .costs) q p)) ≡ true = ap (leZ (pos 0)) (sym left) ∙ not-lt-ge (d .«cash_after») (pos 0) h in
       simp (n, e)

@@ -17,9 +17,10 @@ use Rattle.sizing.specs.Afford.{need, affordable}
 use Rattle.sizing.specs.Cash.{cashTaken}
 use Rattle.table.specs.declared.found.Found.{Found}
 use Rattle.table.specs.Keyed.{pick, orElse, seek, put64}
-use Rattle.table.specs.Places.{Finds, found}
-use Rattle.table.specs.Rows.{Cols, Counted, rows, Ordered, Puts, holding, heldAt, posted}
-use Rattle.table.specs.Rows as Rows
+use Rattle.table.specs.Inner.Places.{Finds, found}
+use Rattle.table.specs.Rows.{Cols, rows, holding}
+use Rattle.table.specs.Inner.Rows.{Counted, Ordered, Puts, heldAt, posted}
+use Rattle.table.specs.Inner.Rows as Rows
 use Rattle.table.proofs.Keyed.{seek-key}
 use Rattle.table.proofs.Posting.{held-is-holding, posted-puts}
 use Rattle.fills.specs.declared.deal.Deal.{Deal}
@@ -31,7 +32,7 @@ use Rattle.fills.specs.declared.record.ExecutionRecord.{ExecutionRecord}
 use Rattle.fills.specs.Orders.{State, buys, paid}
 use Rattle.fills.specs.Records.{recordOf}
 use Rattle.fills.specs.Fill.{fillsWhole, made, counted, settled, trimmedFill, fill}
-use Rattle.fills.specs.Inner.Deal.{dealt, noDeal, trimmedTo, bought, sold, dealOf, recordBy, countedBy, settledBy, afterDeal}
+use Rattle.fills.specs.Inner.Deal.{dealt, noDeal, trimmedTo, buyDeal, saleDeal, dealOf, recordBy, countedBy, settledBy, afterDeal}
 use Rattle.fills.specs.Inner.Runs.{state, countedIn, sequenceAfter, settledIn, recordsOf, Fills}
 
 -- ---- a fill is what its deal says
@@ -73,7 +74,7 @@ module _ (t : Terms) (o : Order) (s : State) where
   by-tests false false w false e = sym nothing-done
 
   pub fill-is-deal : fill t o s ≡ afterDeal t o (dealOf t o (s .cash)) s
-  unfolding fill fillsWhole dealOf bought sold
+  unfolding fill fillsWhole dealOf buyDeal saleDeal
   fill-is-deal = by-tests (isZero (o .quantity .0)) (buys o) (leZ (need (t .costs) (o .quantity .0) (paid t o)) (s .cash)) (leZ (pos 0) (satSub (s .cash) (cashTaken (t .costs) (o .quantity .0) (paid t o)))) refl
 
   -- a deal of nothing, and of something

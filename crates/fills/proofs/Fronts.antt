@@ -14,7 +14,7 @@ use Rattle.fills.specs.declared.order.Order.{Order}
 use Rattle.fills.specs.declared.order.Terms.{Terms}
 use Rattle.fills.specs.declared.record.ExecutionRecord.{ExecutionRecord}
 use Rattle.fills.specs.Orders.{State}
-use Rattle.fills.specs.Records.{wordsOf, intsOf, allWords, allInts, fronted, Buffers, buffers, storedAll}
+use Rattle.fills.specs.Records.{wordsOfRecord, intsOfRecord, allWords, allInts, fronted, Buffers, buffers, storedAll}
 use Rattle.fills.specs.Fill.{counted, settled, fill, fillAll}
 use Rattle.fills.specs.Inner.Runs.{state, Runs}
 use Rattle.fills.proofs.Cash.{by-outcome}
@@ -32,18 +32,18 @@ stored-from [] ws is n h g = let e : n ≡ n + 0 = omega arith in ap (buffers ws
 stored-from (r ∷ rs) ws is n h g =
     let a : n < length ws / 4 = omega arith in
     let b : n < length is / 8 = omega arith in
-    let ws′ = sets ws (n * 4) (wordsOf r) in
-    let is′ = sets is (n * 8) (intsOf r) in
-    let lw : length ws′ ≡ length ws = length-sets ws (n * 4) (wordsOf r) in
-    let li : length is′ ≡ length is = length-sets is (n * 8) (intsOf r) in
+    let ws′ = sets ws (n * 4) (wordsOfRecord r) in
+    let is′ = sets is (n * 8) (intsOfRecord r) in
+    let lw : length ws′ ≡ length ws = length-sets ws (n * 4) (wordsOfRecord r) in
+    let li : length is′ ≡ length is = length-sets is (n * 8) (intsOfRecord r) in
     let e : n + 1 + length rs ≡ n + suc (length rs) = omega arith in
-    let ew = sets-on (wordsOf r) (allWords rs) ws (n * 4) ((n + 1) * 4) (omega arith) in
-    let ei = sets-on (intsOf r) (allInts rs) is (n * 8) ((n + 1) * 8) (omega arith) in
+    let ew = sets-on (wordsOfRecord r) (allWords rs) ws (n * 4) ((n + 1) * 4) (omega arith) in
+    let ei = sets-on (intsOfRecord r) (allInts rs) is (n * 8) ((n + 1) * 8) (omega arith) in
     ap (storedAll rs) (with-room r ws is n a b)
     ∙ stored-from rs ws′ is′ (n + 1) (omega (arith, lw, h)) (omega (arith, li, g))
     ∙ ap (λ x. buffers (sets ws′ ((n + 1) * 4) (allWords rs)) (sets is′ ((n + 1) * 8) (allInts rs)) x) e
     ∙ ap (λ x. buffers x (sets is′ ((n + 1) * 8) (allInts rs)) (n + suc (length rs))) ew
-    ∙ ap (λ x. buffers (sets ws (n * 4) (wordsOf r ++ allWords rs)) x (n + suc (length rs))) ei
+    ∙ ap (λ x. buffers (sets ws (n * 4) (wordsOfRecord r ++ allWords rs)) x (n + suc (length rs))) ei
 
 sets-front : {A : Type 0} (vs l : List A) → length vs ≤ length l → sets l 0 vs ≡ fronted vs l
 sets-front vs l h =

@@ -9,14 +9,15 @@ use lib.IntN.{ℤ, pos}
 use lib.ListN.{length, take, drop, getD, length-take, drop-of-length-le}
 use lib.Seq.{drop-cons, getD-take, length-sets}
 use Rattle.table.specs.Keyed.{pick}
-use Rattle.table.specs.Rows.{zip2, give, Cols, Ordered}
+use Rattle.table.specs.Rows.{zip2, give, Cols}
+use Rattle.table.specs.Inner.Rows.{Ordered}
 use Rattle.table.proofs.Columns.{zip-length, zip-getD}
 use Rattle.fills.specs.declared.fill.Filled.{Filled}
 use Rattle.fills.specs.declared.order.Book.{Book}
 use Rattle.fills.specs.declared.order.Order.{Order}
 use Rattle.fills.specs.declared.order.Terms.{Terms}
 use Rattle.fills.specs.declared.record.ExecutionRecord.{ExecutionRecord}
-use Rattle.fills.specs.Records.{wordsOf, intsOf, Buffers, buffers, room, stored, storedAll}
+use Rattle.fills.specs.Records.{wordsOfRecord, intsOfRecord, Buffers, buffers, room, stored, storedAll}
 use Rattle.fills.specs.Fill.{fillAll}
 use Rattle.fills.specs.Inner.Runs.{order, orders, state, keptIn, recordsOf, Fills, Runs, Given}
 
@@ -37,7 +38,7 @@ either false l k h = record { words = refl; ints = refl }
 
 stored-keeps : (r : ExecutionRecord) (l : Buffers) → SameLengths l (stored r l)
 unfolding stored
-stored-keeps r l = either (room (l .written) l) l _ (record { words = length-sets (l .words) _ (wordsOf r); ints = length-sets (l .ints) _ (intsOf r) })
+stored-keeps r l = either (room (l .written) l) l _ (record { words = length-sets (l .words) _ (wordsOfRecord r); ints = length-sets (l .ints) _ (intsOfRecord r) })
 
 pub stored-all-keeps : (rs : List ExecutionRecord) (l : Buffers) → SameLengths l (storedAll rs l)
 unfolding storedAll

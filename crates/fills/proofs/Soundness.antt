@@ -18,7 +18,8 @@ use Rattle.position.specs.Fills.{sound}
 use Rattle.position.proofs.Fills.{applied-keeps-symbol, applied-keeps-sound, fresh-sound}
 use Rattle.cost_model.specs.Costs.{goodCosts}
 use Rattle.cost_model.proofs.Costs.{effective-nonneg}
-use Rattle.table.specs.Keyed.{pick, there, orElse, seek, put, put64, all, Rising}
+use Rattle.table.specs.Keyed.{pick, there, orElse, seek, put, put64, all}
+use Rattle.table.specs.Inner.Keyed.{Rising}
 use Rattle.table.proofs.Keyed.{seek-key, seek-put, put64-rises, put64-fits, all-put64, all-seek}
 use Rattle.fills.specs.declared.order.Order.{Order}
 use Rattle.fills.specs.declared.order.Terms.{Terms}
@@ -36,17 +37,17 @@ pub record Sound (s : State) : Type 0 where
   pub room : length (s .held) ≤ 64
 
 -- an order that a plan may hold: a good symbol and a price of 1 to 2^63-1
-pub record Listed (o : Order) : Type 0 where
+pub record ListedOrder (o : Order) : Type 0 where
   pub symbol : goodSymbol (o .symbol .0) ≡ true
   pub price : leZ (pos 1) (o .price) ≡ true
   pub price-fits : SFits w64 (o .price)
 
 abbrev pub AllListed : List Order → Type 0
 AllListed [] = 0 ≤ 0
-AllListed (o ∷ os) = Listed o × AllListed os
+AllListed (o ∷ os) = ListedOrder o × AllListed os
 
 -- ---- the position that a fill makes
-module _ (t : Terms) (good : goodCosts (t .costs) ≡ true) (o : Order) (l : Listed o) where
+module _ (t : Terms) (good : goodCosts (t .costs) ≡ true) (o : Order) (l : ListedOrder o) where
   price-nonneg : leZ (pos 0) (paid t o) ≡ true
   unfolding paid
   price-nonneg = effective-nonneg (t .costs) (buys o) (o .price) good (l .price-fits) (l .price)

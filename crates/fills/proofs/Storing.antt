@@ -11,7 +11,7 @@ use borrow.Author.Tests.{lt-leb, le-leb}
 use Rattle.table.proofs.Keyed.{both-false}
 use Rattle.fills.specs.declared.record.ExecutionRecord.{ExecutionRecord}
 use Rattle.fills.specs.declared.fill.Filled.{Filled}
-use Rattle.fills.specs.Records.{wordsOf, intsOf, Buffers, buffers, room, stored, storedAll}
+use Rattle.fills.specs.Records.{wordsOfRecord, intsOfRecord, Buffers, buffers, room, stored, storedAll}
 use Rattle.fills.specs.Inner.Runs.{recordsOf}
 
 -- ---- stores in a row, as code writes them: at i + j, i + (j + 1), ..
@@ -45,7 +45,7 @@ module _ (r : ExecutionRecord) (ws : List ℕ) (is : List ℤ) (n : ℕ) where
       let l : length is < n * 8 + 8 = omega arith in
       simp (lt-leb _ _ l, both-false)
 
-  pub with-room : n < length ws / 4 → n < length is / 8 → stored r (buffers ws is n) ≡ buffers (sets ws (n * 4) (wordsOf r)) (sets is (n * 8) (intsOf r)) (n + 1)
+  pub with-room : n < length ws / 4 → n < length is / 8 → stored r (buffers ws is n) ≡ buffers (sets ws (n * 4) (wordsOfRecord r)) (sets is (n * 8) (intsOfRecord r)) (n + 1)
   unfolding stored room
   with-room h g =
       let a : n * 4 + 4 ≤ length ws = omega arith in

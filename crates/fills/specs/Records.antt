@@ -48,20 +48,20 @@ recordOf t o q n before after = record {
 }
 
 -- a record as four words and eight signed numbers
-abbrev pub wordsOf : ExecutionRecord → List ℕ
-wordsOf r = r .sequence ∷ r .«period_index» ∷ kindNumber (r .kind) ∷ r .symbol .0 ∷ []
+abbrev pub wordsOfRecord : ExecutionRecord → List ℕ
+wordsOfRecord r = r .sequence ∷ r .«period_index» ∷ kindNumber (r .kind) ∷ r .symbol .0 ∷ []
 
-abbrev pub intsOf : ExecutionRecord → List ℤ
-intsOf r =
+abbrev pub intsOfRecord : ExecutionRecord → List ℤ
+intsOfRecord r =
     r .quantity .0 ∷ r .price ∷ r .«reference_price» ∷ r .notional ∷ r .«reference_notional» ∷ r .cost ∷ r .«cash_delta» ∷ r .«cash_after» ∷ []
 
 unfoldable pub allWords : List ExecutionRecord → List ℕ
 allWords [] = []
-allWords (r ∷ rs) = wordsOf r ++ allWords rs
+allWords (r ∷ rs) = wordsOfRecord r ++ allWords rs
 
 unfoldable pub allInts : List ExecutionRecord → List ℤ
 allInts [] = []
-allInts (r ∷ rs) = intsOf r ++ allInts rs
+allInts (r ∷ rs) = intsOfRecord r ++ allInts rs
 
 -- ---- records in lent number slices, four words and eight signed numbers a place, and the count of places written
 pub record Buffers : Type 0 where
@@ -79,7 +79,7 @@ room n b = both (leb (n * 4 + 4) (length (b .words))) (leb (n * 8 + 8) (length (
 -- a record goes to the next place, if there is one
 unfoldable pub stored : ExecutionRecord → Buffers → Buffers
 stored r b = pick (room (b .written) b)
-    (buffers (sets (b .words) (b .written * 4) (wordsOf r)) (sets (b .ints) (b .written * 8) (intsOf r)) (b .written + 1))
+    (buffers (sets (b .words) (b .written * 4) (wordsOfRecord r)) (sets (b .ints) (b .written * 8) (intsOfRecord r)) (b .written + 1))
     b
 
 unfoldable pub storedAll : List ExecutionRecord → Buffers → Buffers

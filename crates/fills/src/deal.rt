@@ -1,6 +1,6 @@
 // What an order comes to before anything is written.
 ghost use mathlib.Core.Path.{_≡_};
-ghost use Rattle.fills.specs.Inner.Deal.{dealt, noDeal, trimmedTo, bought, sold, dealOf};
+ghost use Rattle.fills.specs.Inner.Deal.{dealt, noDeal, trimmedTo, buyDeal, saleDeal, dealOf};
 use crate::order::Order;
 use crate::order::Terms;
 use position::Shares;
@@ -66,7 +66,7 @@ fn trimmed_to(t: Terms, requested: Shares, got: Shares, price: i64, cash: i64) -
 
 // "If it exceeds cash, the fill becomes the largest step multiple, not above the request, whose need fits cash."
 fn bought(t: Terms, quantity: Shares, price: i64, cash: i64) -> Deal
-    ensures { λ r. ⌜ r ≡ bought t (quantity .0) price cash ⌝ }
+    ensures { λ r. ⌜ r ≡ buyDeal t (quantity .0) price cash ⌝ }
 {
     let need = sizing::buy_cash_required(quantity, price, t.costs);
     if need <= cash {
@@ -78,7 +78,7 @@ fn bought(t: Terms, quantity: Shares, price: i64, cash: i64) -> Deal
 
 // "A sell whose cash afterwards would be below 0 is skipped and not counted as trimmed."
 fn sold(t: Terms, quantity: Shares, price: i64, cash: i64) -> Deal
-    ensures { λ r. ⌜ r ≡ sold t (quantity .0) price cash ⌝ }
+    ensures { λ r. ⌜ r ≡ saleDeal t (quantity .0) price cash ⌝ }
 {
     let d = dealt(t, quantity, price, cash, false, 0);
     if d.cash_after < 0 {

@@ -3,7 +3,8 @@ ghost use mathlib.Core.Path.{_≡_};
 ghost use Prim.Native.Nat.{_<_};
 ghost use lib.IntN.{pos};
 ghost use lib.ListN.{getD};
-ghost use Rattle.table.specs.Rows.{cols, Ordered};
+ghost use Rattle.table.specs.Rows.{cols};
+ghost use Rattle.table.specs.Inner.Rows.{Ordered};
 ghost use Rattle.fills.specs.Orders.{nextCount};
 ghost use Rattle.fills.specs.Records.{buffers, storedAll};
 ghost use Rattle.fills.specs.Inner.Runs.{order, orders, sequenceAfter, settledIn, countedIn, recordsOf, keptIn, Fills, Given, Runs};
@@ -89,9 +90,9 @@ pub fn fill_one(
     o: Order,
     t: Terms,
 ) -> Filled
-    ensures { λ r. ⌜ (Ordered (b .count) (cols (now (symbol .entry)) (now (quantity .entry)) (now (average .entry)) (now (realized .entry)) (now (total .entry)))
-        → Fills t o b (cols (now (symbol .entry)) (now (quantity .entry)) (now (average .entry)) (now (realized .entry)) (now (total .entry)))
-        r (cols (now (symbol .exit)) (now (quantity .exit)) (now (average .exit)) (now (realized .exit)) (now (total .exit)))) ⌝ }
+    ensures { λ r. ⌜ (let c = cols (now (symbol .entry)) (now (quantity .entry)) (now (average .entry)) (now (realized .entry)) (now (total .entry)) in
+        let d = cols (now (symbol .exit)) (now (quantity .exit)) (now (average .exit)) (now (realized .exit)) (now (total .exit)) in
+        Ordered (b .count) c → Fills t o b c r d) ⌝ }
 {
     let d = deal_of(o, b.cash, t);
     let record = record_of(t, o, d, b.sequence, b.cash);
@@ -161,13 +162,11 @@ pub fn fill_all(
     b0: Book,
     t: Terms,
 ) -> Book
-    ensures { λ r. ⌜ (Given (b0 .count) (cols (now (symbol .entry)) (now (quantity .entry)) (now (average .entry)) (now (realized .entry)) (now (total .entry)))
-        (now (os .entry)) (now (oq .entry)) (now (op .entry))
+    ensures { λ r. ⌜ (let c = cols (now (symbol .entry)) (now (quantity .entry)) (now (average .entry)) (now (realized .entry)) (now (total .entry)) in
+        let d = cols (now (symbol .exit)) (now (quantity .exit)) (now (average .exit)) (now (realized .exit)) (now (total .exit)) in
+        Given (b0 .count) c (now (os .entry)) (now (oq .entry)) (now (op .entry))
         → Runs t (orders m (now (os .entry)) (now (oq .entry)) (now (op .entry)))
-        b0 (cols (now (symbol .entry)) (now (quantity .entry)) (now (average .entry)) (now (realized .entry)) (now (total .entry)))
-        (buffers (now (words .entry)) (now (ints .entry)) (b0 .written))
-        r (cols (now (symbol .exit)) (now (quantity .exit)) (now (average .exit)) (now (realized .exit)) (now (total .exit)))
-        (buffers (now (words .exit)) (now (ints .exit)) (r .written))) ⌝ }
+        b0 c (buffers (now (words .entry)) (now (ints .entry)) (b0 .written)) r d (buffers (now (words .exit)) (now (ints .exit)) (r .written))) ⌝ }
 {
     let n = table::used(m, 64);
     let mut b = b0;

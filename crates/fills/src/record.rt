@@ -4,7 +4,7 @@ ghost use Prim.Native.Nat.{_+_, _*_, _≤_};
 ghost use lib.ListN.{length};
 ghost use lib.Seq.{sets};
 ghost use Rattle.fills.specs.Inner.Deal.{recordBy};
-ghost use Rattle.fills.specs.Records.{kindNumber, kindOf, wordsOf, intsOf, buffers, stored};
+ghost use Rattle.fills.specs.Records.{kindNumber, kindOf, wordsOfRecord, intsOfRecord, buffers, stored};
 use crate::deal::Deal;
 use crate::order::Order;
 use crate::order::Terms;
@@ -95,7 +95,7 @@ pub fn kind_of(n: u64) -> ExecutionKind
 // Writes the four words of a record from place 4 times `at` on.
 fn store_words(words: &mut [u64], at: usize, r: ExecutionRecord)
     requires { ⌜ at * 4 + 4 ≤ length (now words) ⌝ }
-    ensures { λ u. ⌜ now (words .exit) ≡ sets (now (words .entry)) (at * 4) (wordsOf r) ⌝ }
+    ensures { λ u. ⌜ now (words .exit) ≡ sets (now (words .entry)) (at * 4) (wordsOfRecord r) ⌝ }
 {
     let i = at * 4;
     let n = r.sequence;
@@ -112,7 +112,7 @@ fn store_words(words: &mut [u64], at: usize, r: ExecutionRecord)
 // Writes the eight signed numbers of a record from place 8 times `at` on.
 fn store_ints(ints: &mut [i64], at: usize, r: ExecutionRecord)
     requires { ⌜ at * 8 + 8 ≤ length (now ints) ⌝ }
-    ensures { λ u. ⌜ now (ints .exit) ≡ sets (now (ints .entry)) (at * 8) (intsOf r) ⌝ }
+    ensures { λ u. ⌜ now (ints .exit) ≡ sets (now (ints .entry)) (at * 8) (intsOfRecord r) ⌝ }
 {
     let i = at * 8;
     let q = r.quantity.raw();

@@ -9,8 +9,8 @@ use lib.Seq.{sets, sets-eq, take-at, drop-append-add, drop-drop}
 use Rattle.word_bytes.specs.Words.{digits, bytesOf, putWord}
 use Rattle.word_bytes.proofs.Words.{put-fits, put-length}
 use Rattle.fills.specs.Records.{fronted}
-use Rattle.list_bytes.specs.Entries.{places}
-use Rattle.list_bytes.specs.Records.{putAll}
+use Rattle.list_bytes.specs.Entries.{atPlaces}
+use Rattle.list_bytes.specs.Inner.Records.{putAll}
 use Rattle.list_bytes.proofs.Columns.{places-long}
 
 -- ---- in two goes
@@ -67,11 +67,11 @@ pub four-written : (l : List ℕ) (u v x y : ℕ) {a b c d : List ℕ} → a ≡
 four-written l u v x y ea eb ec ed = ed ∙ ap (λ k. putWord k 3 y) (ec ∙ ap (λ k. putWord k 2 x) (eb ∙ ap (λ k. putWord k 1 v) ea)) ∙ four-puts l 0 u v x y
 
 -- one more of what stands at places in a row
-pub put-place : (l : List ℕ) (k m n : ℕ) (f : ℕ → ℕ) {o p : List ℕ} {v : ℕ} → o ≡ putAll l k (places n f) → v ≡ f n → p ≡ putWord o m v → m ≡ k + n → p ≡ putAll l k (places (n + 1) f)
-unfolding places
+pub put-place : (l : List ℕ) (k m n : ℕ) (f : ℕ → ℕ) {o p : List ℕ} {v : ℕ} → o ≡ putAll l k (atPlaces n f) → v ≡ f n → p ≡ putWord o m v → m ≡ k + n → p ≡ putAll l k (atPlaces (n + 1) f)
+unfolding atPlaces
 put-place l k m n f {o} {p} {v} e g h q =
-    let z : m ≡ k + length (places n f) = omega (arith, places-long n f) in
-    h ∙ ap (λ x. putWord x m v) e ∙ ap (putWord (putAll l k (places n f)) m) g ∙ put-all-one l k m (f n) (places n f) z ∙ ap (λ x. putAll l k (places x f)) (sym (add-one n))
+    let z : m ≡ k + length (atPlaces n f) = omega (arith, places-long n f) in
+    h ∙ ap (λ x. putWord x m v) e ∙ ap (putWord (putAll l k (atPlaces n f)) m) g ∙ put-all-one l k m (f n) (atPlaces n f) z ∙ ap (λ x. putAll l k (atPlaces x f)) (sym (add-one n))
 
 -- ---- bytes of words
 pub bytes-append : (xs ys : List ℕ) → bytesOf (xs ++ ys) ≡ bytesOf xs ++ bytesOf ys

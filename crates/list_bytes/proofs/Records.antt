@@ -12,14 +12,15 @@ use Rattle.word_bytes.specs.Numbers.{unsignedOf}
 use Rattle.word_bytes.proofs.Words.{length-bytes}
 use Rattle.fills.specs.declared.record.ExecutionRecord.{ExecutionRecord}
 use Rattle.fills.specs.Records.{allWords, allInts, fronted}
-use Rattle.list_bytes.specs.Entries.{places}
-use Rattle.list_bytes.specs.Records.{recordWords, recordBytes, allBytes, putAll, fourAt, intAt, rowsIn, fitting, writtenRecords}
+use Rattle.list_bytes.specs.Entries.{atPlaces}
+use Rattle.list_bytes.specs.Records.{recordWords, recordBytes, allBytes}
+use Rattle.list_bytes.specs.Inner.Records.{fourAt, intAt, rowsIn, fitting, writtenRecords, putAll}
 use Rattle.list_bytes.proofs.Columns.{places-long, places-same}
 use Rattle.list_bytes.proofs.Puts.{put-all-append, bytes-append}
 
 -- ---- turn by turn
 abbrev row : List ℕ → List ℤ → ℕ → List ℕ
-row ws is n = fourAt ws n ++ places 8 (intAt is n)
+row ws is n = fourAt ws n ++ atPlaces 8 (intAt is n)
 
 pub rows-long : (n : ℕ) (ws : List ℕ) (is : List ℤ) → length (rowsIn n ws is) ≡ 12 * n
 unfolding rowsIn
@@ -27,13 +28,13 @@ rows-long zero ws is = refl
 rows-long (suc n) ws is = simp length-append (omega (arith, rows-long n ws is, places-long 8 (intAt is n)))
 
 pub rows-on : (l ws : List ℕ) (is : List ℤ) (n : ℕ) {o p q : List ℕ} → o ≡ putAll l 0 (rowsIn n ws is) → p ≡ putAll o (12 * n) (fourAt ws n)
-    → q ≡ putAll p (12 * n + 4) (places 8 (intAt is n)) → q ≡ putAll l 0 (rowsIn (n + 1) ws is)
+    → q ≡ putAll p (12 * n + 4) (atPlaces 8 (intAt is n)) → q ≡ putAll l 0 (rowsIn (n + 1) ws is)
 unfolding rowsIn
 rows-on l ws is n {o} {p} {q} e f g =
     let z : 12 * n ≡ 0 + length (rowsIn n ws is) = omega (arith, rows-long n ws is) in
     g
-    ∙ ap (λ k. putAll k (12 * n + 4) (places 8 (intAt is n))) f
-    ∙ sym (put-all-append o (12 * n) (12 * n + 4) (fourAt ws n) (places 8 (intAt is n)) refl)
+    ∙ ap (λ k. putAll k (12 * n + 4) (atPlaces 8 (intAt is n))) f
+    ∙ sym (put-all-append o (12 * n) (12 * n + 4) (fourAt ws n) (atPlaces 8 (intAt is n)) refl)
     ∙ ap (λ k. putAll k (12 * n) (row ws is n)) e
     ∙ sym (put-all-append l 0 (12 * n) (rowsIn n ws is) (row ws is n) z)
     ∙ ap (λ k. putAll l 0 (rowsIn k ws is)) (sym (add-one n))
@@ -65,7 +66,7 @@ allRows [] = []
 allRows (r ∷ rs) = recordWords r ++ allRows rs
 
 rows-records : (rs : List ExecutionRecord) (x : List ℕ) (y : List ℤ) → rowsIn (length rs) (allWords rs ++ x) (allInts rs ++ y) ≡ allRows rs
-unfolding rowsIn allWords allInts places
+unfolding rowsIn allWords allInts atPlaces
 rows-records [] x y = refl
 rows-records (r ∷ rs) x y = rows-front (length rs) (allWords (r ∷ rs) ++ x) (allInts (r ∷ rs) ++ y) ∙ ap (λ k. recordWords r ++ k) (rows-records rs x y)
 

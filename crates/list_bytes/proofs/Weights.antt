@@ -10,7 +10,7 @@ use lib.Seq.{take-at, take-length, take-all}
 use Rattle.word_bytes.proofs.Words.{length-bytes}
 use Rattle.word_bytes.specs.Words.{turned, putWord}
 use Rattle.word_bytes.specs.Numbers.{patternOf}
-use Rattle.list_bytes.specs.Records.{putAll}
+use Rattle.list_bytes.specs.Inner.Records.{putAll}
 use Rattle.list_bytes.specs.Weights.{pairWords, weightBytes, weightsFitting, writtenWeights}
 use Rattle.list_bytes.proofs.Puts.{put-all-append}
 

@@ -3,4 +3,4 @@ pub mod Entries
 pub mod Lists
 pub mod Records
 pub mod Weights
-pub mod Figures
+pub mod Inner

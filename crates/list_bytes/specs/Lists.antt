@@ -1,71 +1,29 @@
 -- Targets and prices as bytes: an entry is two words, the first the symbol's text. Definitions only.
 use Prim.Native.Nat.{ℕ, _+_, _*_, _/_}
-use mathlib.Core.List.{List, []}
-use lib.IntN.{ℤ, pos}
-use lib.Ieee.{Float, binary64, ofBits}
+use mathlib.Core.List.{List}
+use lib.IntN.{ℤ}
+use lib.Ieee.{Float}
 use lib.ListN.{length}
 use Rattle.word_bytes.specs.Words.{wordAt, symbolAt}
 use Rattle.word_bytes.specs.Numbers.{signedOf, floatOf}
-use Rattle.table.specs.Keyed.{pick}
-use Rattle.fills.specs.Records.{fronted}
-use Rattle.list_bytes.specs.declared.price.Prices.{Prices}
-use Rattle.list_bytes.specs.declared.target.Targets.{Targets}
-use Rattle.list_bytes.specs.Entries.{wholeList, countOf, places, padded}
+use Rattle.list_bytes.specs.Entries.{atPlaces}
 
 -- what stands at the entry i
-abbrev pub symbolOf : List ℕ → ℕ → ℕ
-symbolOf l i = symbolAt l (2 * i)
+abbrev pub entrySymbol : List ℕ → ℕ → ℕ
+entrySymbol l i = symbolAt l (2 * i)
 
-abbrev pub weightOf : List ℕ → ℕ → Float
-weightOf l i = floatOf (wordAt l (2 * i + 1))
+abbrev pub entryWeight : List ℕ → ℕ → Float
+entryWeight l i = floatOf (wordAt l (2 * i + 1))
 
-abbrev pub priceOf : List ℕ → ℕ → ℤ
-priceOf l i = signedOf (wordAt l (2 * i + 1))
+abbrev pub entryPrice : List ℕ → ℕ → ℤ
+entryPrice l i = signedOf (wordAt l (2 * i + 1))
 
 -- the columns of all entries; fewer than sixteen bytes that are left at the end are no entry
 abbrev pub symbolsIn : List ℕ → List ℕ
-symbolsIn l = places (length l / 16) (symbolOf l)
+symbolsIn l = atPlaces (length l / 16) (entrySymbol l)
 
 abbrev pub weightsIn : List ℕ → List Float
-weightsIn l = places (length l / 16) (weightOf l)
+weightsIn l = atPlaces (length l / 16) (entryWeight l)
 
 abbrev pub pricesIn : List ℕ → List ℤ
-pricesIn l = places (length l / 16) (priceOf l)
-
--- ---- in lent columns
--- how many entries there are, a column of symbols and one of what stands beside them
-pub record Listed (A : Type 0) : Type 0 where
-  pub count : ℕ
-  pub symbol : List ℕ
-  pub value : List A
-
-abbrev pub listed : {A : Type 0} → ℕ → List ℕ → List A → Listed A
-listed n s v = record { count = n; symbol = s; value = v }
-
--- all entries in the first places, and the rest as found; a list that is not whole gives nothing
-abbrev pub entriesInto : {A : Type 0} → ℕ → List ℕ → List A → List ℕ → List A → Listed A
-entriesInto most l vs s v = listed (countOf most (length l)) (fronted (pick (wholeList most l) (symbolsIn l) []) s) (fronted (pick (wholeList most l) vs []) v)
-
-unfoldable pub targetsInto : List ℕ → List ℕ → List Float → Listed Float
-targetsInto l s v = entriesInto 64 l (weightsIn l) s v
-
-unfoldable pub pricesInto : List ℕ → List ℕ → List ℤ → Listed ℤ
-pricesInto l s v = entriesInto 128 l (pricesIn l) s v
-
--- ---- by value
--- a list that is not whole gives nothing
-unfoldable pub targetsOf : List ℕ → Targets
-targetsOf l = record {
-  whole = wholeList 64 l;
-  count = countOf 64 (length l);
-  symbol = padded 64 0 (pick (wholeList 64 l) (symbolsIn l) []);
-  weight = padded 64 (ofBits binary64 0) (pick (wholeList 64 l) (weightsIn l) []);
-}
-
-unfoldable pub pricesOf : List ℕ → Prices
-pricesOf l = record {
-  whole = wholeList 128 l;
-  count = countOf 128 (length l);
-  symbol = padded 128 0 (pick (wholeList 128 l) (symbolsIn l) []);
-  price = padded 128 (pos 0) (pick (wholeList 128 l) (pricesIn l) []);
-}
+pricesIn l = atPlaces (length l / 16) (entryPrice l)

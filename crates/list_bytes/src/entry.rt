@@ -1,11 +1,12 @@
 // How many entries there are. Those that are read have two words, sixteen bytes.
 ghost use mathlib.Core.Path.{_≡_};
 ghost use Prim.Native.Nat.{min};
-ghost use Rattle.list_bytes.specs.Entries.{wholeOf, countOf};
+ghost use Rattle.list_bytes.specs.Entries.{isWhole};
+ghost use Rattle.list_bytes.specs.Inner.Entries.{countOf};
 
 // Whether so many bytes are a whole number of entries, and no more than the bound.
 pub fn is_whole(bytes: usize, most: usize) -> bool
-    ensures { λ r. ⌜ r ≡ wholeOf most bytes ⌝ }
+    ensures { λ r. ⌜ r ≡ isWhole most bytes ⌝ }
 {
     if bytes % 16 == 0 {
         bytes / 16 <= most

@@ -1,7 +1,7 @@
 // The figures of a snapshot as bytes: four words.
 ghost use mathlib.Core.Path.{_≡_};
-ghost use Rattle.list_bytes.specs.Records.{putAll};
-ghost use Rattle.list_bytes.specs.Figures.{figureWords};
+ghost use Rattle.list_bytes.specs.Inner.Records.{putAll};
+ghost use Rattle.list_bytes.specs.Inner.Figures.{figureWords};
 use word_bytes::put_word;
 use word_bytes::unsigned;
 

@@ -1,7 +1,7 @@
 // A price list: each entry a symbol and the price of it in cents.
 ghost use mathlib.Core.Path.{_≡_};
 ghost use lib.ListN.{length};
-ghost use Rattle.list_bytes.specs.Lists.{listed, pricesInto, pricesOf};
+ghost use Rattle.list_bytes.specs.Inner.Lists.{entryColumns, pricesInto, pricesOf};
 use crate::entry::count_of;
 use crate::entry::is_whole;
 use word_bytes::signed;
@@ -31,7 +31,7 @@ fn whole_prices(column: [i64; 128])
 
 // The entries into the first places of two columns, and how many there are. The rest is as found; of a list that is not whole nothing is read.
 pub fn prices_into(bytes: &[u8], symbol: &mut [u64; 128], price: &mut [i64; 128]) -> usize
-    ensures { λ r. ⌜ listed r (now (symbol .exit)) (now (price .exit)) ≡ pricesInto (now (bytes .entry)) (now (symbol .entry)) (now (price .entry)) ⌝ }
+    ensures { λ r. ⌜ entryColumns r (now (symbol .exit)) (now (price .exit)) ≡ pricesInto (now (bytes .entry)) (now (symbol .entry)) (now (price .entry)) ⌝ }
 {
     whole_symbols(*symbol);
     whole_prices(*price);

@@ -2,8 +2,8 @@
 ghost use mathlib.Core.Path.{_≡_};
 ghost use Prim.Native.Nat.{_+_, _*_, _≤_};
 ghost use lib.ListN.{length};
-ghost use Rattle.list_bytes.specs.Entries.{places};
-ghost use Rattle.list_bytes.specs.Records.{putAll, fourAt, intAt, writtenRecords};
+ghost use Rattle.list_bytes.specs.Entries.{atPlaces};
+ghost use Rattle.list_bytes.specs.Inner.Records.{fourAt, intAt, writtenRecords, putAll};
 use crate::entry::least;
 use word_bytes::put_symbol;
 use word_bytes::put_word;
@@ -25,7 +25,7 @@ fn put_words(words: &[u64], i: usize, out: &mut [u8])
 // Its eight signed numbers, after them.
 fn put_ints(ints: &[i64], i: usize, out: &mut [u8])
     requires { ⌜ (8 * i + 8 ≤ length (now ints)) × (96 * i + 96 ≤ length (now out)) ⌝ }
-    ensures { λ _. ⌜ now (out .exit) ≡ putAll (now (out .entry)) (12 * i + 4) (places 8 (intAt (now (ints .entry)) i)) ⌝ }
+    ensures { λ _. ⌜ now (out .exit) ≡ putAll (now (out .entry)) (12 * i + 4) (atPlaces 8 (intAt (now (ints .entry)) i)) ⌝ }
 {
     let mut j = 0;
     while j < 8 {

@@ -1,7 +1,7 @@
 // A target list: each entry a symbol and its weight, a double.
 ghost use mathlib.Core.Path.{_≡_};
 ghost use lib.ListN.{length};
-ghost use Rattle.list_bytes.specs.Lists.{listed, targetsInto, targetsOf};
+ghost use Rattle.list_bytes.specs.Inner.Lists.{entryColumns, targetsInto, targetsOf};
 use crate::entry::count_of;
 use crate::entry::is_whole;
 use word_bytes::float;
@@ -31,7 +31,7 @@ fn whole_weights(column: [f64; 64])
 
 // The entries into the first places of two columns, and how many there are. The rest is as found; of a list that is not whole nothing is read.
 pub fn targets_into(bytes: &[u8], symbol: &mut [u64; 64], weight: &mut [f64; 64]) -> usize
-    ensures { λ r. ⌜ listed r (now (symbol .exit)) (now (weight .exit)) ≡ targetsInto (now (bytes .entry)) (now (symbol .entry)) (now (weight .entry)) ⌝ }
+    ensures { λ r. ⌜ entryColumns r (now (symbol .exit)) (now (weight .exit)) ≡ targetsInto (now (bytes .entry)) (now (symbol .entry)) (now (weight .entry)) ⌝ }
 {
     whole_symbols(*symbol);
     whole_weights(*weight);

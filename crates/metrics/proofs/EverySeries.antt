@@ -15,7 +15,7 @@ use borrow.Author.Tests.{ltb-true, lt-ltb}
 use Rattle.metrics.proofs.OnePass.{equity-is}
 use Rattle.metrics.specs.Double as D
 use Rattle.metrics.specs.Double.{one}
-use Rattle.metrics.specs.Curve.{grown, raised, fallen, flat, curveAfter}
+use Rattle.metrics.specs.Curve.{compounded, raised, fallen, flat, curveAfter}
 use Rattle.metrics.specs.Tally.{wins, loses}
 use Rattle.metrics.specs.Series.{totalReturn, maxDrawdown, filtered, winningPeriods, losingPeriods}
 use Rattle.metrics.specs.declared.curve.Curve.{Curve}
@@ -129,7 +129,7 @@ zero-is s m e f q = go m (nothing m (up e) (up-pos e) none) f
 
 -- 1 + 0 is 1, and 1 times 1 is 1
 still : (s : Bool) → curveAfter flat (fin s 0 (pos 0)) ≡ flat
-unfolding curveAfter grown raised fallen mul add sub div lt
+unfolding curveAfter compounded raised fallen mul add sub div lt
 still true = refl
 still false = refl
 

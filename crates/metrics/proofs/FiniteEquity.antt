@@ -6,7 +6,7 @@ use lib.Dec.{eqb}
 use lib.Ieee.{Float, nan, inf, fin, binary64, unlike, add, mul}
 use Rattle.doubles.specs.Doubles.{finite}
 use Rattle.metrics.specs.Double.{one, allFinite}
-use Rattle.metrics.specs.Curve.{grown, curveAfter}
+use Rattle.metrics.specs.Curve.{compounded, curveAfter}
 use Rattle.metrics.specs.declared.curve.Curve.{Curve}
 
 never-finite : (z s : Bool) → finite (cond z nan (inf s)) ≡ false
@@ -30,7 +30,7 @@ return-finite (inf s) h = h
 return-finite (fin s m e) h = refl
 
 pub equity-finite : (c : Curve) (rs : List Float) → finite (foldl curveAfter c rs .equity) ≡ true → (finite (c .equity) ≡ true) × (allFinite rs ≡ true)
-unfolding curveAfter grown allFinite
+unfolding curveAfter compounded allFinite
 equity-finite c [] h = (h, refl)
 equity-finite c (r ∷ rs) h =
     let rest = equity-finite (curveAfter c r) rs h in

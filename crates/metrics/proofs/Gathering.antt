@@ -11,8 +11,9 @@ use lib.Ieee.{Float}
 use Rattle.doubles.specs.Doubles.{finite}
 use Rattle.metrics.specs.Double.{allFinite}
 use Rattle.metrics.specs.Curve.{flat, curveAfter}
-use Rattle.metrics.specs.Tally.{wins, loses, counted, noReturns, tallyAfter}
-use Rattle.metrics.specs.Gathered.{gathered}
+use Rattle.metrics.specs.Tally.{wins, loses}
+use Rattle.metrics.specs.Inner.Tally.{countedIf, noReturns, tallyAfter}
+use Rattle.metrics.specs.Inner.Gathered.{gathered}
 use Rattle.metrics.specs.declared.curve.Curve.{Curve}
 use Rattle.metrics.specs.declared.tally.Tally.{Tally}
 use Rattle.metrics.proofs.FiniteEquity.{equity-finite}
@@ -37,7 +38,7 @@ and-true : (a : Bool) → (a && true) ≡ a
 and-true true = refl
 and-true false = refl
 
-counted-one : (n i : ℕ) (b : Bool) → n ≤ i → counted n b ≤ i + 1
+counted-one : (n i : ℕ) (b : Bool) → n ≤ i → countedIf n b ≤ i + 1
 counted-one n i true l = omega arith
 counted-one n i false l = omega arith
 

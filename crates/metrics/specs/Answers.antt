@@ -12,8 +12,8 @@ use Rattle.metrics.specs.Figures.{figuresOf, noFigures}
 use Rattle.metrics.specs.declared.Metrics.{Metrics}
 
 -- "a list or return series is over its bound"
-abbrev pub tooLong : List Float → Bool
-tooLong rs = ltb mostReturns (length rs)
+abbrev pub overBound : List Float → Bool
+overBound rs = ltb mostReturns (length rs)
 
 -- "a return series is empty or has a non-finite member"
 abbrev pub goodSeries : List Float → Bool
@@ -25,4 +25,4 @@ refusal a = record { answer = a; figures = noFigures }
 
 -- The check order is 6, then 12.
 unfoldable pub metricsOf : List Float → Metrics
-metricsOf rs = cond (tooLong rs) (refusal TooLong) (cond (goodSeries rs) (record { answer = Done; figures = figuresOf rs }) (refusal BadSeries))
+metricsOf rs = cond (overBound rs) (refusal TooLong) (cond (goodSeries rs) (record { answer = Done; figures = figuresOf rs }) (refusal BadSeries))

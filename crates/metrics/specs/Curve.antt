@@ -5,8 +5,8 @@ use Rattle.metrics.specs.Double.{zero, one}
 use Rattle.metrics.specs.declared.curve.Curve.{Curve}
 
 -- `acc * (1.0 + r)`, and `equity *= 1.0 + r`
-unfoldable pub grown : Float → Float → Float
-grown equity r = mul binary64 equity (add binary64 one r)
+unfoldable pub compounded : Float → Float → Float
+compounded equity r = mul binary64 equity (add binary64 one r)
 
 -- `if other > value { value = other; }`: a NaN is above nothing.
 unfoldable pub raised : Float → Float → Float
@@ -22,6 +22,6 @@ flat = record { equity = one; peak = one; «max_drawdown» = zero }
 
 unfoldable pub curveAfter : Curve → Float → Curve
 curveAfter c r =
-    let equity = grown (c .equity) r in
+    let equity = compounded (c .equity) r in
     let peak = raised (c .peak) equity in
     record { equity = equity; peak = peak; «max_drawdown» = raised (c .«max_drawdown») (fallen peak equity) }

@@ -4,6 +4,6 @@ pub mod Curve
 pub mod Tally
 pub mod Ratio
 pub mod Series
-pub mod Gathered
 pub mod Figures
 pub mod Answers
+pub mod Inner

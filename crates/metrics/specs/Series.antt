@@ -5,13 +5,13 @@ use Prim.Native.Nat.{ℕ}
 use lib.ListN.{length}
 use lib.Ieee.{Float, binary64, add, sub}
 use Rattle.metrics.specs.Double.{zero, one}
-use Rattle.metrics.specs.Curve.{grown, flat, curveAfter}
+use Rattle.metrics.specs.Curve.{compounded, flat, curveAfter}
 use Rattle.metrics.specs.Tally.{wins, loses}
 use Rattle.metrics.specs.Ratio.{winRate, mean, gainOverLoss, kellyOf}
 
 -- "Total return: product of (1 + r_i) - 1"
 unfoldable pub totalReturn : List Float → Float
-totalReturn rs = sub binary64 (foldl grown one rs) one
+totalReturn rs = sub binary64 (foldl compounded one rs) one
 
 -- "Compute maximum drawdown from a return series."
 unfoldable pub maxDrawdown : List Float → Float

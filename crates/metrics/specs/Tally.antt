@@ -1,9 +1,8 @@
--- The winning and the losing returns, one return at a time. Definitions only.
-use mathlib.Core.Bool.{Bool, cond}
-use Prim.Native.Nat.{ℕ, _+_}
-use lib.Ieee.{Float, binary64, add, lt}
+-- Which returns win and which lose, and how many a series may have. Definitions only.
+use mathlib.Core.Bool.{Bool}
+use Prim.Native.Nat.{ℕ}
+use lib.Ieee.{Float, lt}
 use Rattle.metrics.specs.Double.{zero}
-use Rattle.metrics.specs.declared.tally.Tally.{Tally}
 
 -- "4,096 returns in one set of figures"
 abbrev pub mostReturns : ℕ
@@ -16,21 +15,3 @@ wins r = lt zero r
 -- `r < 0.0`
 abbrev pub loses : Float → Bool
 loses r = lt r zero
-
-abbrev pub counted : ℕ → Bool → ℕ
-counted n counts = cond counts (n + 1) n
-
-abbrev pub summed : Float → Bool → Float → Float
-summed sum counts r = cond counts (add binary64 sum r) sum
-
-abbrev pub noReturns : Tally
-noReturns = record { «winning_periods» = 0; «losing_periods» = 0; «sum_positive» = zero; «sum_negative» = zero }
-
-unfoldable pub tallyAfter : Tally → Float → Tally
-tallyAfter t r =
-    record {
-      «winning_periods» = counted (t .«winning_periods») (wins r);
-      «losing_periods» = counted (t .«losing_periods») (loses r);
-      «sum_positive» = summed (t .«sum_positive») (wins r) r;
-      «sum_negative» = summed (t .«sum_negative») (loses r) r;
-    }

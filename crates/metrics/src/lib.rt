@@ -6,7 +6,7 @@ mod tally;
 
 ghost use mathlib.Core.Path.{_≡_};
 ghost use Rattle.metrics.specs.Answers.{metricsOf, refusal};
-ghost use Rattle.metrics.specs.Gathered.{figuresFrom};
+ghost use Rattle.metrics.specs.Inner.Gathered.{figuresFrom};
 use answer::Answer;
 
 // At most 4,096 returns in one set of figures.

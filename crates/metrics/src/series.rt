@@ -4,7 +4,7 @@ ghost use Prim.Native.Nat.{_≤_};
 ghost use lib.ListN.{length};
 ghost use Rattle.metrics.specs.Double.{allFinite};
 ghost use Rattle.metrics.specs.Tally.{mostReturns};
-ghost use Rattle.metrics.specs.Gathered.{gathered};
+ghost use Rattle.metrics.specs.Inner.Gathered.{gathered};
 use crate::curve::Curve;
 use crate::tally::Tally;
 use doubles::is_finite;

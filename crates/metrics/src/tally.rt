@@ -1,7 +1,8 @@
 // The winning and the losing returns: how many, and what they come to.
 ghost use mathlib.Core.Path.{_≡_};
 ghost use Prim.Native.Nat.{_<_};
-ghost use Rattle.metrics.specs.Tally.{mostReturns, counted, summed, noReturns, tallyAfter};
+ghost use Rattle.metrics.specs.Tally.{mostReturns};
+ghost use Rattle.metrics.specs.Inner.Tally.{countedIf, summedIf, noReturns, tallyAfter};
 
 pub(crate) struct Tally {
     pub(crate) winning_periods: u64,
@@ -13,7 +14,7 @@ pub(crate) struct Tally {
 // One more where the return counts.
 fn counted(n: u64, counts: bool) -> u64
     requires { ⌜ n < mostReturns ⌝ }
-    ensures { λ r. ⌜ r ≡ counted n counts ⌝ }
+    ensures { λ r. ⌜ r ≡ countedIf n counts ⌝ }
 {
     if counts { n + 1 } else { n }
 }
@@ -21,7 +22,7 @@ fn counted(n: u64, counts: bool) -> u64
 // The sum with the return where it counts. Else -0.0 is added, which leaves every double as it is: a sum that is
 // always taken needs no branch on the return's sign, which no processor can foretell.
 fn summed(sum: f64, counts: bool, r: f64) -> f64
-    ensures { λ s. ⌜ s ≡ summed sum counts r ⌝ }
+    ensures { λ s. ⌜ s ≡ summedIf sum counts r ⌝ }
 {
     let added = if counts { r } else { -0.0 };
     sum + added

@@ -8,16 +8,18 @@ use lib.IntN.{ℤ, pos, _+ℤ_}
 use Rattle.position.specs.declared.position.Position.{Position}
 use Rattle.cost_model.specs.declared.CostModel.{CostModel}
 use Rattle.cost_model.specs.Costs.{goodCosts}
-use Rattle.table.specs.Rows.{Cols, rows, Ordered}
+use Rattle.table.specs.Rows.{Cols, rows}
+use Rattle.table.specs.Inner.Rows.{Ordered}
 use Rattle.account.specs.declared.account.Account.{Account}
-use Rattle.account.specs.Account.{tableFrom, tableOf}
+use Rattle.account.specs.Account.{tableOf}
+use Rattle.account.specs.Inner.Account.{tableWith}
 use Rattle.account.proofs.SoundAccounts.{account-cash, account-costs}
 use Rattle.account.proofs.Tables.{ordered-table}
 use Rattle.fills.specs.declared.order.Order.{Order}
 use Rattle.fills.specs.declared.order.Terms.{Terms}
 use Rattle.fills.specs.Orders.{State}
 use Rattle.fills.specs.Fill.{fillAll}
-use Rattle.order.specs.Running.{Perm, total, Room, NotBelow0, InRange}
+use Rattle.order.specs.Running.{Perm, sumOver, Room, NotBelow0, InRange}
 use Rattle.order.specs.Statement.{cashRaised, placesAsked, Batch, AllWhole, OrderIsFree}
 use Rattle.order.specs.OnAccount.{Begins, OrdersOn, SameAccount}
 use Rattle.order.proofs.OrderTheorem.{condition-3}
@@ -30,10 +32,10 @@ module _ (a : Account) (t : Terms) (os : List Order) (s : State) (g : OrdersOn a
           costs = subst (λ (m : CostModel). goodCosts m ≡ true) (sym (b .costs)) (account-costs a (g .sound));
           orders = g .orders;
           cash-low = subst NotBelow0 (sym (b .cash)) (account-cash a (g .sound));
-          cash-top = subst (λ (z : ℤ). InRange (z +ℤ pos (total (cashRaised t) os))) (sym (b .cash)) (g .cash-top);
+          cash-top = subst (λ (z : ℤ). InRange (z +ℤ pos (sumOver (cashRaised t) os))) (sym (b .cash)) (g .cash-top);
         };
         different = g .different;
-        room = subst (λ (ps : List Position). Room (length ps) (total (placesAsked ps) os)) (sym (b .held)) (g .room);
+        room = subst (λ (ps : List Position). Room (length ps) (sumOver (placesAsked ps) os)) (sym (b .held)) (g .room);
       }
 
   -- both halves
@@ -48,7 +50,7 @@ module _ (a : Account) (t : Terms) (os : List Order) (s : State) (g : OrdersOn a
 
   -- and of the count and the five columns that two such runs leave
   pub same-columns : (v w : List Order) → Perm Order os v → Perm Order os w → AllWhole t v s → AllWhole t w s
-      → (n m : ℕ) (c d : Cols) → Ordered n c → Ordered m d → rows n c ≡ fillAll t v s .held → rows m d ≡ fillAll t w s .held → tableFrom n c ≡ tableFrom m d
+      → (n m : ℕ) (c d : Cols) → Ordered n c → Ordered m d → rows n c ≡ fillAll t v s .held → rows m d ≡ fillAll t w s .held → tableWith n c ≡ tableWith m d
   same-columns v w p q x y n m c d o k e f =
       let same = order-is-free .same v w p q x y in
       sym (ordered-table n c o) ∙ ap tableOf (e ∙ same .held ∙ sym f) ∙ ordered-table m d k

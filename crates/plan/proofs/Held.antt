@@ -11,10 +11,11 @@ use lib.ListN.{length, take, drop, getD, drop-of-length-le}
 use lib.Seq.{drop-cons}
 use Rattle.position.specs.Rows.{fresh}
 use Rattle.table.specs.Keyed.{pick}
-use Rattle.table.specs.Places.{shorter, found}
+use Rattle.table.specs.Inner.Places.{shorter, found}
 use Rattle.table.specs.declared.found.Found.{Found}
 use Rattle.table.specs.declared.found.Found.the-variants.{At, Absent}
-use Rattle.table.specs.Rows.{Cols, zipped, rows, Full, Ordered, holding, heldAt, rowAt}
+use Rattle.table.specs.Rows.{Cols, zipped, rows, Full, holding, rowAt}
+use Rattle.table.specs.Inner.Rows.{Ordered, heldAt}
 use Rattle.table.proofs.Zipped.{zipped-length, zipped-at}
 use Rattle.table.proofs.Posting.{held-is-holding}
 use Rattle.table.proofs.Places.{shorter-same}
@@ -23,8 +24,8 @@ use Rattle.wanted.specs.declared.plan.PlannedOrder.{PlannedOrder}
 use Rattle.wanted.specs.Plan.{closing, closings, targeting, targetings, wanted}
 use Rattle.admission.specs.Admission.{addedAll, admitted}
 use Rattle.admission.specs.Running.{planOf}
-use Rattle.admission.specs.Columns.{from}
-use Rattle.plan.specs.Adding.{closeAt, closesAt, quantityAt, targetAt, targetsAt, wantedAt}
+use Rattle.admission.specs.Inner.Columns.{from}
+use Rattle.plan.specs.Inner.Adding.{closeAt, closesAt, quantityAt, targetAt, targetsAt, wantedAt}
 
 quantity-held : (f : Found) (s : ℕ) (c : Cols) → quantityAt f (c .quantity) ≡ heldAt f s c .quantity .0
 quantity-held (At i) s c = go (ltb i 64)

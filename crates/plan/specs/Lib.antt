@@ -1,3 +1,2 @@
 -- The plan of a rebalance as it is made in columns.
-pub mod Adding
-pub mod Planning
+pub mod Inner

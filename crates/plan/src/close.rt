@@ -1,8 +1,8 @@
 // "Priced open holdings absent from targets are closed, in symbol order".
 ghost use mathlib.Core.Path.{_≡_};
 ghost use Rattle.call_lists.specs.Lists.{among};
-ghost use Rattle.admission.specs.Columns.{cols, counted};
-ghost use Rattle.plan.specs.Adding.{Closes};
+ghost use Rattle.admission.specs.Inner.Columns.{planCols, countedPlan};
+ghost use Rattle.plan.specs.Inner.Adding.{PlansCloses};
 use account::Settings;
 use admission::add_order;
 use admission::is_capped;
@@ -44,9 +44,9 @@ pub fn plan_closes<'a>(
     drift: &mut [f64; 64],
     m: usize,
 ) -> usize
-    ensures { λ r. ⌜ Closes s equity (now (key .entry)) (now (held .entry)) n (now (targets .entry)) (now (symbols .entry)) (now (prices .entry))
-        (counted m (cols (now (symbol .entry)) (now (quantity .entry)) (now (price .entry)) (now (drift .entry))))
-        (counted r (cols (now (symbol .exit)) (now (quantity .exit)) (now (price .exit)) (now (drift .exit)))) ⌝ }
+    ensures { λ r. ⌜ PlansCloses s equity (now (key .entry)) (now (held .entry)) n (now (targets .entry)) (now (symbols .entry)) (now (prices .entry))
+        (countedPlan m (planCols (now (symbol .entry)) (now (quantity .entry)) (now (price .entry)) (now (drift .entry))))
+        (countedPlan r (planCols (now (symbol .exit)) (now (quantity .exit)) (now (price .exit)) (now (drift .exit)))) ⌝ }
 {
     let places = used(n, 64);
     let capped = is_capped(s);

@@ -1,8 +1,8 @@
 // The plan of a rebalance.
 ghost use mathlib.Core.Path.{_≡_};
-ghost use Rattle.admission.specs.Columns.{cols, counted};
-ghost use Rattle.plan.specs.Adding.{Makes};
-ghost use Rattle.plan.specs.Planning.{Plans};
+ghost use Rattle.admission.specs.Inner.Columns.{planCols, countedPlan};
+ghost use Rattle.plan.specs.Inner.Adding.{Makes};
+ghost use Rattle.plan.specs.Inner.Planning.{Plans};
 use crate::close::plan_closes;
 use crate::target::plan_targets;
 use account::Settings;
@@ -33,8 +33,8 @@ pub fn admit_plan<'a>(
     drift: &mut [f64; 64],
 ) -> usize
     ensures { λ r. ⌜ Makes s equity (now (key .entry)) (now (held .entry)) n (now (targets .entry)) (now (weights .entry)) (now (symbols .entry)) (now (prices .entry))
-        (counted 0 (cols (now (symbol .entry)) (now (quantity .entry)) (now (price .entry)) (now (drift .entry))))
-        (counted r (cols (now (symbol .exit)) (now (quantity .exit)) (now (price .exit)) (now (drift .exit)))) ⌝ }
+        (countedPlan 0 (planCols (now (symbol .entry)) (now (quantity .entry)) (now (price .entry)) (now (drift .entry))))
+        (countedPlan r (planCols (now (symbol .exit)) (now (quantity .exit)) (now (price .exit)) (now (drift .exit)))) ⌝ }
 {
     let closes = plan_closes(
         key,
@@ -87,8 +87,8 @@ pub fn make_plan<'a>(
     drift: &mut [f64; 64],
 ) -> Planned
     ensures { λ r. ⌜ Plans s equity (now (key .entry)) (now (held .entry)) n (now (targets .entry)) (now (weights .entry)) (now (symbols .entry)) (now (prices .entry))
-        (cols (now (symbol .entry)) (now (quantity .entry)) (now (price .entry)) (now (drift .entry)))
-        (cols (now (symbol .exit)) (now (quantity .exit)) (now (price .exit)) (now (drift .exit))) r ⌝ }
+        (planCols (now (symbol .entry)) (now (quantity .entry)) (now (price .entry)) (now (drift .entry)))
+        (planCols (now (symbol .exit)) (now (quantity .exit)) (now (price .exit)) (now (drift .exit))) r ⌝ }
 {
     let count = admit_plan(
         key,

@@ -1,9 +1,9 @@
 // "Then targets in list order".
 ghost use mathlib.Core.Path.{_≡_};
 ghost use lib.ListN.{take};
-ghost use Rattle.table.specs.Keyed.{Rising};
-ghost use Rattle.admission.specs.Columns.{cols, counted};
-ghost use Rattle.plan.specs.Adding.{quantityAt, Holds, Targets};
+ghost use Rattle.table.specs.Inner.Keyed.{Rising};
+ghost use Rattle.admission.specs.Inner.Columns.{planCols, countedPlan};
+ghost use Rattle.plan.specs.Inner.Adding.{quantityAt, HoldsQuantity, PlansTargets};
 use account::Settings;
 use admission::add_order;
 use admission::is_capped;
@@ -36,7 +36,7 @@ fn quantity_of<'a>(
     symbol: u64,
     hint: usize,
 ) -> i64
-    ensures { λ r. ⌜ Holds (now (key .entry)) (now (held .entry)) n symbol r ⌝ }
+    ensures { λ r. ⌜ HoldsQuantity (now (key .entry)) (now (held .entry)) n symbol r ⌝ }
 {
     let f = find(key, n, symbol, hint);
     quantity_at(held, f)
@@ -60,9 +60,9 @@ pub fn plan_targets<'a>(
     drift: &mut [f64; 64],
     m: usize,
 ) -> usize
-    ensures { λ r. ⌜ Targets s equity (now (key .entry)) (now (held .entry)) n (now (targets .entry)) (now (weights .entry)) (now (symbols .entry)) (now (prices .entry))
-        (counted m (cols (now (symbol .entry)) (now (quantity .entry)) (now (price .entry)) (now (drift .entry))))
-        (counted r (cols (now (symbol .exit)) (now (quantity .exit)) (now (price .exit)) (now (drift .exit)))) ⌝ }
+    ensures { λ r. ⌜ PlansTargets s equity (now (key .entry)) (now (held .entry)) n (now (targets .entry)) (now (weights .entry)) (now (symbols .entry)) (now (prices .entry))
+        (countedPlan m (planCols (now (symbol .entry)) (now (quantity .entry)) (now (price .entry)) (now (drift .entry))))
+        (countedPlan r (planCols (now (symbol .exit)) (now (quantity .exit)) (now (price .exit)) (now (drift .exit)))) ⌝ }
 {
     let places = used(targets.len(), weights.len());
     let capped = is_capped(s);

@@ -12,13 +12,14 @@ use lib.Seq.{drop-cons}
 use Rattle.position.specs.declared.position.Position.{Position}
 use Rattle.position.specs.Rows.{keyOf}
 use Rattle.table.specs.Keyed.{pick, there, new, seek}
-use Rattle.table.specs.Places.{found, foundFrom}
-use Rattle.table.specs.Rows.{Cols, rows, Ordered}
+use Rattle.table.specs.Inner.Places.{found, foundFrom}
+use Rattle.table.specs.Rows.{Cols, rows}
+use Rattle.table.specs.Inner.Rows.{Ordered}
 use Rattle.table.specs.declared.found.Found.{Found}
 use Rattle.table.specs.declared.found.Found.the-variants.{At, Absent}
 use Rattle.table.proofs.Zipped.{keys-of}
 use Rattle.portfolio.specs.Answers.{notHeld}
-use Rattle.portfolio.specs.Planned.{lackedBy, lacking}
+use Rattle.portfolio.specs.Inner.Planned.{lackedBy, lacking}
 
 -- ---- the loop over the targets
 pub lacked-most : (f : Found) → lackedBy f ≤ 1

@@ -15,7 +15,7 @@ use Rattle.table.specs.Keyed.{pick}
 use Rattle.table.specs.Rows.{columnsOf}
 use Rattle.table.proofs.Keyed.{both-true}
 use Rattle.call_lists.specs.Lists.{priceOf}
-use Rattle.call_lists.specs.Sorted.{columns, roomy, sortedInto}
+use Rattle.call_lists.specs.Inner.Sorted.{columns, roomy, sortedInto}
 use Rattle.call_lists.proofs.Sorted.{sorted-serves}
 use Rattle.account.specs.declared.account.Account.{Account}
 use Rattle.account.specs.declared.settings.Settings.{Settings}
@@ -23,7 +23,8 @@ use Rattle.account.specs.Account.{heldIn}
 use Rattle.account.proofs.SoundAccounts.{account-ordered}
 use Rattle.wanted.specs.declared.plan.PlannedOrder.{PlannedOrder}
 use Rattle.wanted.specs.Equity.{equityOf}
-use Rattle.wanted.specs.Plan.{closings, targetings, wanted, orderCount}
+use Rattle.wanted.specs.Plan.{closings, targetings, wanted}
+use Rattle.wanted.specs.Inner.Plan.{orderCount}
 use Rattle.wanted.proofs.Plans.{targetings-length}
 use Rattle.wanted.proofs.Room.{count-append, count-most, orders-at-most}
 use Rattle.fills.specs.declared.record.ExecutionKind.{ExecutionKind}
@@ -31,18 +32,18 @@ use Rattle.fills.specs.Inner.Runs.{orders}
 use Rattle.fills.proofs.Running.{next-order, no-order}
 use Rattle.admission.specs.Admission.{addedAll, admitted}
 use Rattle.admission.specs.Running.{parted, sortedWith, cashFirst, inRunningOrder, notionalFrom}
-use Rattle.admission.specs.Columns.{Cols, Full, from, orderAt, plans}
+use Rattle.admission.specs.Inner.Columns.{PlanCols, FullPlan, from, orderAt, plans}
 use Rattle.admission.proofs.Plans.{plans-few, plans-length, shorter-same}
 use Rattle.admission.proofs.Kept.{running-length}
 use Rattle.plan.specs.declared.plan.Planned.{Planned}
-use Rattle.plan.specs.Adding.{wantedAt}
-use Rattle.plan.specs.Planning.{standing, planMade}
+use Rattle.plan.specs.Inner.Adding.{wantedAt}
+use Rattle.plan.specs.Inner.Planning.{standing, planMade}
 use Rattle.plan.proofs.Held.{wanted-of-rows, plan-of-rows}
-use Rattle.plan.proofs.Made.{Stands, made-stands}
+use Rattle.plan.proofs.Made.{PlanStands, made-stands}
 use Rattle.portfolio.specs.Answers.{hasRoom, notHeld}
 use Rattle.portfolio.specs.Rebalance.{orderOf, admittedPlan, afterPlan, afterRebalance}
-use Rattle.portfolio.specs.Trades.{afterOrders}
-use Rattle.portfolio.specs.Planned.{equityAt, planAt, Plans, Ready}
+use Rattle.portfolio.specs.Inner.Trades.{afterOrders}
+use Rattle.portfolio.specs.Inner.Planned.{equityAt, planAt, PlansFromCash, Ready}
 use Rattle.portfolio.proofs.Worths.{equity-of-places}
 
 -- ---- prices that were sorted
@@ -73,7 +74,7 @@ no-run s = go (s .«cash_first»)
     go true = refl
     go false = refl
 
-no-plan : (s : Settings) (c : Cols) → Full c → Stands s [] c (record { count = 0; notional = pos 0 })
+no-plan : (s : Settings) (c : PlanCols) → FullPlan c → PlanStands s [] c (record { count = 0; notional = pos 0 })
 unfolding notionalFrom
 no-plan s c f = record { full = f; few = omega arith; same = plans-few 0 c (omega arith) ∙ sym (no-run s); notional = refl }
 
@@ -117,29 +118,29 @@ module _ (a : Account) (ts : List ℕ) (ws : List Float) (ps : List ℕ) (room :
       rw (wanted-of-rows (a .settings) at-places price ts (columnsOf (a .positions)) ws (a .positions .count) (account-ordered a (y .sound) (y .full)) (y .paired)) (few-wanted at-places)
 
   -- at equity 0 or below, or else
-  stands-by : (b : Bool) (k c : Cols) (r : Planned) → Full k
+  stands-by : (b : Bool) (k c : PlanCols) (r : Planned) → FullPlan k
       → standing c r ≡ pick b (standing k (record { count = 0; notional = pos 0 })) (planMade (a .settings) at-places price (a .positions .count) (a .positions .symbol) (a .positions .quantity) ts ws k)
-      → Stands (a .settings) (pick b [] (admitted (a .settings) (addedAll (a .settings) wanted-at []))) c r
+      → PlanStands (a .settings) (pick b [] (admitted (a .settings) (addedAll (a .settings) wanted-at []))) c r
   stands-by true k c r f e = rw (ap (λ x. x .columns) e, ap (λ x. x .planned) e) (no-plan (a .settings) k f)
   stands-by false k c r f e = made-stands (a .settings) at-places price (a .positions .count) (a .positions .symbol) (a .positions .quantity) ts ws k f few-orders c r e
 
 -- what the function that plans it answers
-pub account-stands : (a : Account) (ts : List ℕ) (ws : List Float) (ps : List ℕ) (vs : List ℤ) (room : ℕ) → Ready a ts ws ps room → (k c : Cols) (r : Planned)
-    → Full k → Plans (a .settings) (a .cash) (a .positions .symbol) (a .positions .quantity) (a .positions .count) ts ws ps vs k c r → Stands (a .settings) (admittedPlan a ts ws (priceOf ps vs)) c r
+pub account-stands : (a : Account) (ts : List ℕ) (ws : List Float) (ps : List ℕ) (vs : List ℤ) (room : ℕ) → Ready a ts ws ps room → (k c : PlanCols) (r : Planned)
+    → FullPlan k → PlansFromCash (a .settings) (a .cash) (a .positions .symbol) (a .positions .quantity) (a .positions .count) ts ws ps vs k c r → PlanStands (a .settings) (admittedPlan a ts ws (priceOf ps vs)) c r
 unfolding planAt
 account-stands a ts ws ps vs room y k c r f p =
     let price = priceOf ps vs in
-    subst (λ plan. Stands (a .settings) plan c r) (plan-of-account a ts ws ps room y price)
+    subst (λ plan. PlanStands (a .settings) plan c r) (plan-of-account a ts ws ps room y price)
     (stands-by a ts ws ps room y price (leZ (at-places a ts ws ps room y price) (pos 0)) k c r f (p .settled (y .priced) (account-ordered a (y .sound) (y .full) .rising)))
 
 -- ---- the columns of a plan as orders
-orders-from : (c : Cols) → Full c → (n i k : ℕ) → n ≤ 64 → i + k ≡ n → drop i (orders n (c .symbol) (c .quantity) (c .price)) ≡ map orderOf (from (orderAt c) i k)
+orders-from : (c : PlanCols) → FullPlan c → (n i k : ℕ) → n ≤ 64 → i + k ≡ n → drop i (orders n (c .symbol) (c .quantity) (c .price)) ≡ map orderOf (from (orderAt c) i k)
 orders-from c f n i zero h e = no-order n (c .symbol) (c .quantity) (c .price) (f .symbol) (f .quantity) (f .price) i (omega arith)
 orders-from c f n i (suc k) h e =
     next-order n (c .symbol) (c .quantity) (c .price) (f .symbol) (f .quantity) (f .price) i (omega arith)
     ∙ ap (λ l. orderOf (orderAt c i) ∷ l) (rw add-one (orders-from c f n (suc i) k h (omega arith)))
 
-pub orders-of-plan : (n : ℕ) (c : Cols) → Full c → n ≤ 64 → orders n (c .symbol) (c .quantity) (c .price) ≡ map orderOf (plans n c)
+pub orders-of-plan : (n : ℕ) (c : PlanCols) → FullPlan c → n ≤ 64 → orders n (c .symbol) (c .quantity) (c .price) ≡ map orderOf (plans n c)
 orders-of-plan n c f h = orders-from c f n 0 n h (omega arith) ∙ sym (ap (map orderOf) (plans-few n c h))
 
 -- ---- the run is the rebalance
@@ -151,7 +152,7 @@ room-for a m room h e = go (a .settings .recording) e
     go true q = le-leb m room (omega (arith, leb-true 64 room q, h))
     go false q = refl
 
-module _ (a : Account) (plan : List PlannedOrder) (c : Cols) (r : Planned) (h : Stands (a .settings) plan c r) where
+module _ (a : Account) (plan : List PlannedOrder) (c : PlanCols) (r : Planned) (h : PlanStands (a .settings) plan c r) where
   counted : r .count ≡ length plan
   counted = omega (arith, ap length (h .same), running-length (a .settings) plan, plans-length (r .count) c, shorter-same (r .count) 64 (h .few))
 

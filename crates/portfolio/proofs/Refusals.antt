@@ -12,7 +12,8 @@ use lib.Signed.{leZ}
 use borrow.Author.Tests.{leb-true, le-leb, lt-leb}
 use Rattle.answer.specs.declared.Answer.the-variants.{Done, BadSymbol, BadPrice, TooMany, NoRecordRoom, BufferFull, Unsound}
 use Rattle.answer.proofs.Answers.{done-is, passed, passed-both}
-use Rattle.table.specs.Keyed.{both, Rising}
+use Rattle.table.specs.Keyed.{both}
+use Rattle.table.specs.Inner.Keyed.{Rising}
 use Rattle.table.specs.Rows.{columnsOf, Full}
 use Rattle.table.proofs.Keyed.{both-true}
 use Rattle.call_lists.specs.Checks.{unless, listsAnswer, pricesAnswer}
@@ -21,7 +22,7 @@ use Rattle.account.specs.declared.account.Account.{Account}
 use Rattle.position.specs.Symbols.{goodSymbol}
 use Rattle.account.specs.Account.{soundAccount, heldIn}
 use Rattle.portfolio.specs.Answers.{isDone, orLater, hasRoom, notHeld, rebalanceAnswer, queryAnswer, returnAnswer, closeAnswer}
-use Rattle.portfolio.specs.Planned.{Ready}
+use Rattle.portfolio.specs.Inner.Planned.{Ready}
 
 -- ---- a query with prices
 pub record Queried (a : Account) (ps : List ℕ) (vs : List ℤ) : Type 0 where

@@ -37,12 +37,12 @@ use Rattle.wanted.specs.Equity.{equityOf}
 use Rattle.wanted.specs.Plan.{closings, targetings, wanted}
 use Rattle.wanted.proofs.Plans as planning
 use Rattle.admission.specs.Admission.{addedAll}
-use Rattle.admission.specs.Kept.{All}
+use Rattle.admission.specs.Inner.Kept.{Each}
 use Rattle.admission.specs.Running.{inRunningOrder, planOf}
 use Rattle.admission.proofs.Kept.{addedAll-all, admitted-all, running-all}
 use Rattle.portfolio.specs.Answers.{isDone, closeAnswer, rebalanceAnswer, returnAnswer}
 use Rattle.portfolio.specs.Rebalance.{Outcome, orderOf, termsOf, stateOf, accountAfter, admittedPlan, afterPlan, afterRebalance, rebalanced}
-use Rattle.portfolio.specs.Close.{closeOrder, afterClose, closed}
+use Rattle.portfolio.specs.Close.{closeOrder, afterClose, positionClosed}
 use Rattle.portfolio.specs.Returns.{Recorded, recorded}
 use Rattle.portfolio.proofs.Refusals.{close-done, rebalance-done}
 
@@ -54,12 +54,12 @@ Tradable o = (goodSymbol (o .symbol .0) ≡ true) × (leZ (pos 1) (o .price) ≡
 abbrev Wanted : PlannedOrder → Type 0
 Wanted o = isZero (o .quantity .0) ≡ false → Tradable o
 
-order-wanted : (k : ℕ) (p : ℤ) (o : PlannedOrder) → planning.Order k p o → goodSymbol k ≡ true → SFits w64 p → Wanted o
+order-wanted : (k : ℕ) (p : ℤ) (o : PlannedOrder) → planning.OrderFor k p o → goodSymbol k ≡ true → SFits w64 p → Wanted o
 order-wanted k p o h g f z =
     let w = h .priced z in
     (rw (h .symbol) g, rw (w .0) (w .1), h .price-fits f)
 
-all-append : (F : PlannedOrder → Type 0) (l k : List PlannedOrder) → All F l → All F k → All F (l ++ k)
+all-append : (F : PlannedOrder → Type 0) (l k : List PlannedOrder) → Each F l → Each F k → Each F (l ++ k)
 all-append F [] k h g = g
 all-append F (x ∷ l) k h g = (h .0, all-append F l k (h .1) g)
 
@@ -68,14 +68,14 @@ unfolding sound
 sound-symbol p e = both-true (goodSymbol (keyOf p)) _ (sym (and-both (goodSymbol (keyOf p)) _) ∙ e) .0
 
 module _ (s : Settings) (equity : ℤ) (price : ℕ → ℤ) (fits : (k : ℕ) → SFits w64 (price k)) where
-  closings-wanted : (ts : List ℕ) (ps : List Position) → all sound ps ≡ true → All Wanted (closings s equity price ts ps)
+  closings-wanted : (ts : List ℕ) (ps : List Position) → all sound ps ≡ true → Each Wanted (closings s equity price ts ps)
   unfolding closings
   closings-wanted ts [] e = omega arith
   closings-wanted ts (p ∷ ps) e =
       let b = both-true (sound p) _ e in
       (order-wanted (keyOf p) (price (keyOf p)) _ (planning.closing-order s equity price ts p) (sound-symbol p (b .0)) (fits (keyOf p)), closings-wanted ts ps (b .1))
 
-  targetings-wanted : (held : List Position) (ts : List ℕ) (ws : List Float) → allGood ts ≡ true → All Wanted (targetings s equity price held ts ws)
+  targetings-wanted : (held : List Position) (ts : List ℕ) (ws : List Float) → allGood ts ≡ true → Each Wanted (targetings s equity price held ts ws)
   unfolding targetings allGood
   targetings-wanted held [] ws e = omega arith
   targetings-wanted held (t ∷ ts) [] e = omega arith
@@ -83,13 +83,13 @@ module _ (s : Settings) (equity : ℤ) (price : ℕ → ℤ) (fits : (k : ℕ) �
       let b = both-true (goodSymbol t) _ e in
       (order-wanted t (price t) _ (planning.targeting-order s equity price held t w) (b .0) (fits t), targetings-wanted held ts ws (b .1))
 
-  plan-tradable : (held : List Position) (ts : List ℕ) (ws : List Float) → all sound held ≡ true → allGood ts ≡ true → All Tradable (planOf s equity price held ts ws)
+  plan-tradable : (held : List Position) (ts : List ℕ) (ws : List Float) → all sound held ≡ true → allGood ts ≡ true → Each Tradable (planOf s equity price held ts ws)
   unfolding planOf wanted
   plan-tradable held ts ws e g =
       admitted-all s (addedAll s (wanted s equity price held ts ws) []) (λ k p. (goodSymbol k ≡ true) × (leZ (pos 1) p ≡ true) × SFits w64 p)
       (addedAll-all s Tradable (wanted s equity price held ts ws) [] (all-append Wanted (closings s equity price ts held) (targetings s equity price held ts ws) (closings-wanted ts held e) (targetings-wanted held ts ws g)) (omega arith))
 
-orders-listed : (l : List PlannedOrder) → All Tradable l → AllListed (map orderOf l)
+orders-listed : (l : List PlannedOrder) → Each Tradable l → AllListed (map orderOf l)
 orders-listed [] h = omega arith
 orders-listed (o ∷ l) h = (record { symbol = h .0 .0; price = h .0 .1; price-fits = h .0 .2 }, orders-listed l (h .1))
 
@@ -117,8 +117,8 @@ module _ (a : Account) (f : Full (columnsOf (a .positions))) (e : soundAccount a
   run-sound : (os : List Order) (period : ℕ) (kind : ExecutionKind) → AllListed os → Sound (fillAll (termsOf a period kind) os (stateOf a))
   run-sound os period kind l = fills-keep-sound (termsOf a period kind) (account-costs a e) os l (stateOf a) state-sound
 
-  pub close-keeps-sound : (s : ℕ) (price : ℤ) → SFits w64 price → (period : ℕ) (kind : ExecutionKind) (room : ℕ) → soundAccount (closed a s price period kind room .account) ≡ true
-  unfolding closed afterClose fillAll
+  pub close-keeps-sound : (s : ℕ) (price : ℤ) → SFits w64 price → (period : ℕ) (kind : ExecutionKind) (room : ℕ) → soundAccount (positionClosed a s price period kind room .account) ≡ true
+  unfolding positionClosed afterClose fillAll
   close-keeps-sound s price fits period kind room =
       either-sound (λ (o : Outcome). o .account) (isDone (closeAnswer a s price room)) _ _
       (λ d.
@@ -140,7 +140,7 @@ module _ (a : Account) (f : Full (columnsOf (a .positions))) (e : soundAccount a
       after-sound _ _ _ (run-sound _ period kind (orders-listed (inRunningOrder (a .settings) plan) (running-all (a .settings) plan Tradable (go (leZ equity (pos 0)) (planOf (a .settings) equity price (heldIn (a .positions)) ts ws) p)))))
       e
     where
-      go : (b : Bool) (l : List PlannedOrder) → All Tradable l → All Tradable (pick b [] l)
+      go : (b : Bool) (l : List PlannedOrder) → Each Tradable l → Each Tradable (pick b [] l)
       go true l h = omega arith
       go false l h = h
 

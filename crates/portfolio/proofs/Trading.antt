@@ -10,7 +10,7 @@ use lib.IntN.{ℤ, pos}
 use borrow.Author.Tests.{leb-true}
 use Rattle.answer.specs.declared.Answer.the-variants.{Done}
 use Rattle.table.specs.declared.table.Table.{Table}
-use Rattle.table.specs.Rows.{Cols}
+use Rattle.table.specs.Rows.{Cols, holding}
 use Rattle.fills.specs.declared.order.Book.{Book}
 use Rattle.fills.specs.declared.order.Order.{Order}
 use Rattle.fills.specs.declared.record.ExecutionKind.{ExecutionKind}
@@ -21,21 +21,22 @@ use Rattle.fills.specs.Fill.{fillAll}
 use Rattle.fills.proofs.Fronts.{run-fronts, unrecorded, unrecorded-run}
 use Rattle.account.specs.declared.account.Account.{Account}
 use Rattle.account.specs.declared.account.Ledger.{Ledger}
-use Rattle.account.specs.Account.{heldIn, accountWith}
+use Rattle.account.specs.Account.{heldIn}
+use Rattle.account.specs.Inner.Account.{accountWith}
 use Rattle.account.proofs.Tables.{ordered-table}
-use Rattle.portfolio.specs.Answers.{isDone, places, hasRoom, closeAnswer}
+use Rattle.portfolio.specs.Answers.{isDone, recordPlaces, hasRoom, closeAnswer}
 use Rattle.portfolio.specs.Rebalance.{Outcome, termsBy, termsOf, stateOf, accountAfter}
 use Rattle.sums.specs.Sums.{satNeg}
-use Rattle.table.specs.Rows.{holding}
-use Rattle.portfolio.specs.Close.{afterClose, closed}
-use Rattle.portfolio.specs.Trades.{Filed, filed, stateAfter, afterOrders, bookOf, ledgerFrom}
+use Rattle.portfolio.specs.Close.{afterClose, positionClosed}
+use Rattle.portfolio.specs.Trades.{Filed, filed}
+use Rattle.portfolio.specs.Inner.Trades.{stateAfter, afterOrders, bookOfLedger, ledgerFrom}
 
 pub orders-most : (m : ℕ) (s : List ℕ) (q p : List ℤ) → length (orders m s q p) ≤ m
 unfolding orders
 orders-most m s q p = simp length-take (omega arith)
 
 -- ---- the room that was asked for
-room-recorded : (m w i : ℕ) → leb m (places w i) ≡ true → (m * 4 ≤ w) × (m * 8 ≤ i)
+room-recorded : (m w i : ℕ) → leb m (recordPlaces w i) ≡ true → (m * 4 ≤ w) × (m * 8 ≤ i)
 room-recorded m w i e =
     let h : m ≤ min (w / 4) (i / 8) = leb-true _ _ e in
     (omega arith, omega arith)
@@ -47,8 +48,8 @@ abbrev pub filing : Account → Buffers → Filed
 filing x b = record { answer = Done; account = x; records = b .written; words = b .words; ints = b .ints }
 
 module _ (h : Ledger) (c : Cols) (os : List Order) (period : ℕ) (kind : ExecutionKind) (ws : List ℕ) (is : List ℤ) (r : Book) (d : Cols) (ws′ : List ℕ) (is′ : List ℤ)
-    (m : ℕ) (few : length os ≤ m) (room : hasRoom (accountWith h c) m (places (length ws) (length is)) ≡ true)
-    (g : Runs (termsBy (h .settings) period kind) os (bookOf h) c (buffers ws is 0) r d (buffers ws′ is′ (r .written))) where
+    (m : ℕ) (few : length os ≤ m) (room : hasRoom (accountWith h c) m (recordPlaces (length ws) (length is)) ≡ true)
+    (g : Runs (termsBy (h .settings) period kind) os (bookOfLedger h) c (buffers ws is 0) r d (buffers ws′ is′ (r .written))) where
   abbrev a : Account
   a = accountWith h c
 
@@ -68,10 +69,10 @@ module _ (h : Ledger) (c : Cols) (os : List Order) (period : ℕ) (kind : Execut
           let k = room-recorded m (length ws) (length is) (rw e at room) in
           let u : length os * 4 ≤ length ws = omega (arith, k .0) in
           let v : length os * 8 ≤ length is = omega (arith, k .1) in
-          run-fronts _ os (bookOf h) c (buffers ws is 0) r d (buffers ws′ is′ (r .written)) g refl u v
+          run-fronts _ os (bookOfLedger h) c (buffers ws is 0) r d (buffers ws′ is′ (r .written)) g refl u v
       go false e =
           let n : made ≡ [] = unrecorded (termsOf a period kind) os (stateOf a) e in
-          unrecorded-run _ os (bookOf h) c (buffers ws is 0) r d (buffers ws′ is′ (r .written)) g e ∙ sym (ap fronts n)
+          unrecorded-run _ os (bookOfLedger h) c (buffers ws is 0) r d (buffers ws′ is′ (r .written)) g e ∙ sym (ap fronts n)
 
   account-put : (n : ℕ) (traded : ℤ) → accountWith (ledgerFrom h r n traded) d ≡ accountAfter a (stateAfter a os period kind) n traded
   unfolding accountAfter
@@ -92,7 +93,7 @@ kept a period kind os = afterOrders a os period kind (a .counters .«last_rebala
 module _ (a : Account) (s : ℕ) (price : ℤ) (period : ℕ) (kind : ExecutionKind) (room : ℕ) where
   pub closed-by-run : isDone (closeAnswer a s price room) ≡ true → (q : ℤ) → q ≡ satNeg (holding s (heldIn (a .positions)) .quantity .0)
       → afterOrders a (orders 1 (set (replicate 64 0) 0 s) (set (replicate 64 (pos 0)) 0 q) (set (replicate 64 (pos 0)) 0 price)) period kind (a .counters .«last_rebalance_order_count») (a .counters .«last_rebalance_notional»)
-      ≡ closed a s price period kind room
-  unfolding closed afterClose fillAll
+      ≡ positionClosed a s price period kind room
+  unfolding positionClosed afterClose fillAll
   closed-by-run e q h =
       rw e (ap (kept a period kind) (one-order s q price) ∙ ap (λ k. kept a period kind (order s k price ∷ [])) h)

@@ -5,13 +5,14 @@ use mathlib.Core.Bool.{true}
 use mathlib.Core.List.{List}
 use lib.IntN.{ℤ, pos}
 use Rattle.sums.specs.Sums.{satAdd}
-use Rattle.table.specs.Places.{shorter}
+use Rattle.table.specs.Inner.Places.{shorter}
 use Rattle.table.specs.Rows.{columnsOf, Full}
 use Rattle.call_lists.specs.Lists.{priceOf}
 use Rattle.account.specs.declared.account.Account.{Account}
 use Rattle.account.specs.Account.{soundAccount, heldIn}
 use Rattle.account.proofs.SoundAccounts.{account-ordered}
-use Rattle.wanted.specs.Equity.{worthPlaces, equityOf}
+use Rattle.wanted.specs.Equity.{equityOf}
+use Rattle.wanted.specs.Inner.Equity.{worthPlaces}
 use Rattle.wanted.proofs.Worth.{worth-of-rows, shorter-same}
 
 pub equity-of-places : (price : ℕ → ℤ) (a : Account) → soundAccount a ≡ true → Full (columnsOf (a .positions))

@@ -20,8 +20,8 @@ use Rattle.account.specs.declared.account.Account.{Account}
 use Rattle.account.specs.Account.{soundAccount, heldIn}
 
 -- the places of a record buffer of four words and eight numbers a record
-abbrev pub places : ℕ → ℕ → ℕ
-places words ints = min (words / 4) (ints / 8)
+abbrev pub recordPlaces : ℕ → ℕ → ℕ
+recordPlaces words ints = min (words / 4) (ints / 8)
 
 -- "recording is on and the record buffer has under 64 places"; "For closing, 8 asks for one place."
 abbrev pub roomFor : Bool → ℕ → ℕ → Bool

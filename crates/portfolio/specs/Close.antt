@@ -23,8 +23,8 @@ unfoldable pub afterClose : Account → ℕ → ℤ → ℕ → ExecutionKind �
 afterClose a s price period kind = fill (termsOf a period kind) (closeOrder a s price) (stateOf a)
 
 -- the last-rebalance figures stay
-unfoldable pub closed : Account → ℕ → ℤ → ℕ → ExecutionKind → ℕ → Outcome
-closed a s price period kind room =
+unfoldable pub positionClosed : Account → ℕ → ℤ → ℕ → ExecutionKind → ℕ → Outcome
+positionClosed a s price period kind room =
     let answer = closeAnswer a s price room in
     let after = afterClose a s price period kind in
     pick (isDone answer)

@@ -5,4 +5,4 @@ pub mod Close
 pub mod Trades
 pub mod Returns
 pub mod Queries
-pub mod Planned
+pub mod Inner

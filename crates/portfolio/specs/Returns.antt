@@ -18,7 +18,6 @@ use Rattle.account.specs.declared.account.Series.{Series}
 use Rattle.account.specs.declared.change.Changed.{Changed}
 use Rattle.account.specs.Account.{heldIn, withSeries}
 use Rattle.wanted.specs.Equity.{equityOf}
-use Rattle.portfolio.specs.declared.returns.Noted.{Noted}
 use Rattle.portfolio.specs.Answers.{isDone, returnAnswer}
 
 -- "A return is the saturating equity change over previous equity when that is above 0"
@@ -60,7 +59,3 @@ recorded a ps vs equities returns =
       returns = pick (isDue (a .series)) (set returns (a .series .«return_count») (returnOf (a .series .«prev_equity») equity)) returns;
     })
     (record { answer = answer; account = a; equities = equities; returns = returns })
-
--- what a call on an account taken apart answers: its series alone changes
-abbrev pub notedBy : Noted → Account → List ℤ → List Float → Recorded
-notedBy r a equities returns = record { answer = r .answer; account = withSeries (r .series) a; equities = equities; returns = returns }

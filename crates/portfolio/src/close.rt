@@ -2,10 +2,11 @@
 ghost use mathlib.Core.Path.{_≡_};
 ghost use lib.ListN.{length};
 ghost use Rattle.table.specs.Rows.{cols};
-ghost use Rattle.account.specs.Account.{accountWith};
-ghost use Rattle.portfolio.specs.Answers.{places};
-ghost use Rattle.portfolio.specs.Close.{closed};
-ghost use Rattle.portfolio.specs.Trades.{filed, filedBy, tradedOn};
+ghost use Rattle.account.specs.Inner.Account.{accountWith};
+ghost use Rattle.portfolio.specs.Answers.{recordPlaces};
+ghost use Rattle.portfolio.specs.Close.{positionClosed};
+ghost use Rattle.portfolio.specs.Trades.{filed, filedBy};
+ghost use Rattle.portfolio.specs.Inner.Trades.{tradedOn};
 use crate::refusal::close_answer;
 use crate::refusal::holding_of;
 use crate::refusal::places;
@@ -38,7 +39,7 @@ pub fn close_on(
     ensures { λ r. ⌜ (let c = cols (now (symbol .entry)) (now (quantity .entry)) (now (average .entry)) (now (realized .entry)) (now (total .entry)) in
         let d = cols (now (symbol .exit)) (now (quantity .exit)) (now (average .exit)) (now (realized .exit)) (now (total .exit)) in
         filedBy (tradedOn r d) (now (words .exit)) (now (ints .exit))
-        ≡ filed (closed (accountWith h c) s price period kind (places (length (now (words .entry))) (length (now (ints .entry))))) (now (words .entry)) (now (ints .entry))) ⌝ }
+        ≡ filed (positionClosed (accountWith h c) s price period kind (recordPlaces (length (now (words .entry))) (length (now (ints .entry))))) (now (words .entry)) (now (ints .entry))) ⌝ }
 {
     whole_columns(*symbol, *quantity, *average, *realized, *total);
     let room = places(words.len(), ints.len());
@@ -102,7 +103,7 @@ pub fn close_position_at(
     ints: &mut [i64],
 ) -> Traded
     ensures { λ r. ⌜ filedBy r (now (words .exit)) (now (ints .exit))
-        ≡ filed (closed a symbol price period kind (places (length (now (words .entry))) (length (now (ints .entry))))) (now (words .entry)) (now (ints .entry)) ⌝ }
+        ≡ filed (positionClosed a symbol price period kind (recordPlaces (length (now (words .entry))) (length (now (ints .entry))))) (now (words .entry)) (now (ints .entry)) ⌝ }
 {
     let h = ledger_of(a);
     let t = a.positions;

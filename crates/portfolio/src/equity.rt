@@ -2,11 +2,12 @@
 ghost use mathlib.Core.Path.{_≡_};
 ghost use Rattle.answer.specs.declared.Answer.the-variants.{Done};
 ghost use Rattle.sums.specs.Sums.{satAdd};
-ghost use Rattle.table.specs.Places.{shorter};
+ghost use Rattle.table.specs.Inner.Places.{shorter};
 ghost use Rattle.call_lists.specs.Lists.{priceOf};
 ghost use Rattle.call_lists.specs.Checks.{pricesAnswer};
 ghost use Rattle.account.specs.Account.{heldIn};
-ghost use Rattle.wanted.specs.Equity.{worthPlaces, equityOf};
+ghost use Rattle.wanted.specs.Equity.{equityOf};
+ghost use Rattle.wanted.specs.Inner.Equity.{worthPlaces};
 ghost use Rattle.portfolio.specs.Answers.{queryAnswer};
 ghost use Rattle.portfolio.specs.Queries.{toldEquity};
 use crate::refusal::query_answer;

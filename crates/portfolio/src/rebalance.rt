@@ -3,12 +3,13 @@ ghost use mathlib.Core.Path.{_≡_};
 ghost use lib.ListN.{length};
 ghost use Rattle.call_lists.specs.Lists.{priceOf};
 ghost use Rattle.table.specs.Rows.{cols};
-ghost use Rattle.account.specs.Account.{accountWith};
-ghost use Rattle.admission.specs.Columns as admission;
-ghost use Rattle.portfolio.specs.Answers.{places};
-ghost use Rattle.portfolio.specs.Planned.{Plans, Ready};
+ghost use Rattle.account.specs.Inner.Account.{accountWith};
+ghost use Rattle.admission.specs.Inner.Columns.{planCols};
+ghost use Rattle.portfolio.specs.Answers.{recordPlaces};
+ghost use Rattle.portfolio.specs.Inner.Planned.{PlansFromCash, Ready};
 ghost use Rattle.portfolio.specs.Rebalance.{admittedPlan, afterRebalance, rebalanced};
-ghost use Rattle.portfolio.specs.Trades.{filed, filedBy, tradedOn};
+ghost use Rattle.portfolio.specs.Trades.{filed, filedBy};
+ghost use Rattle.portfolio.specs.Inner.Trades.{tradedOn};
 use crate::refusal::places;
 use crate::refusal::rebalance_answer;
 use crate::trade::Ran;
@@ -45,9 +46,9 @@ fn plan_on<'a>(
     price: &mut [i64; 64],
     drift: &mut [f64; 64],
 ) -> Planned
-    ensures { λ r. ⌜ Plans s cash (now (key .entry)) (now (held .entry)) n (now (targets .entry)) (now (weights .entry)) (now (symbols .entry)) (now (prices .entry))
-        (admission.cols (now (symbol .entry)) (now (quantity .entry)) (now (price .entry)) (now (drift .entry)))
-        (admission.cols (now (symbol .exit)) (now (quantity .exit)) (now (price .exit)) (now (drift .exit))) r ⌝ }
+    ensures { λ r. ⌜ PlansFromCash s cash (now (key .entry)) (now (held .entry)) n (now (targets .entry)) (now (weights .entry)) (now (symbols .entry)) (now (prices .entry))
+        (planCols (now (symbol .entry)) (now (quantity .entry)) (now (price .entry)) (now (drift .entry)))
+        (planCols (now (symbol .exit)) (now (quantity .exit)) (now (price .exit)) (now (drift .exit))) r ⌝ }
 {
     let equity = sums::saturating_add(cash, total_worth(key, held, n, symbols, prices));
     if equity <= 0 {
@@ -92,7 +93,7 @@ fn plan_and_fill(
 ) -> Ran
     ensures { λ r. ⌜ (let c = cols (now (symbol .entry)) (now (quantity .entry)) (now (average .entry)) (now (realized .entry)) (now (total .entry)) in
         let d = cols (now (symbol .exit)) (now (quantity .exit)) (now (average .exit)) (now (realized .exit)) (now (total .exit)) in
-        Ready (accountWith h c) (now (targets .entry)) (now (weights .entry)) (now (symbols .entry)) (places (length (now (words .entry))) (length (now (ints .entry))))
+        Ready (accountWith h c) (now (targets .entry)) (now (weights .entry)) (now (symbols .entry)) (recordPlaces (length (now (words .entry))) (length (now (ints .entry))))
         → filedBy (tradedOn r d) (now (words .exit)) (now (ints .exit))
         ≡ filed (afterRebalance (accountWith h c) (admittedPlan (accountWith h c) (now (targets .entry)) (now (weights .entry)) (priceOf (now (symbols .entry)) (now (prices .entry)))) period kind)
         (now (words .entry)) (now (ints .entry))) ⌝ }
@@ -159,7 +160,7 @@ pub fn rebalance_on(
         let d = cols (now (symbol .exit)) (now (quantity .exit)) (now (average .exit)) (now (realized .exit)) (now (total .exit)) in
         filedBy (tradedOn r d) (now (words .exit)) (now (ints .exit))
         ≡ filed (rebalanced (accountWith h c) (now (targets .entry)) (now (weights .entry)) (now (symbols .entry)) (now (prices .entry)) period kind
-        (places (length (now (words .entry))) (length (now (ints .entry))))) (now (words .entry)) (now (ints .entry))) ⌝ }
+        (recordPlaces (length (now (words .entry))) (length (now (ints .entry))))) (now (words .entry)) (now (ints .entry))) ⌝ }
 {
     whole_columns(*symbol, *quantity, *average, *realized, *total);
     let room = places(words.len(), ints.len());
@@ -236,7 +237,7 @@ pub fn rebalance_simple(
 ) -> Traded
     ensures { λ r. ⌜ filedBy r (now (words .exit)) (now (ints .exit))
         ≡ filed (rebalanced a (now (targets .entry)) (now (weights .entry)) (now (symbols .entry)) (now (prices .entry)) period kind
-        (places (length (now (words .entry))) (length (now (ints .entry))))) (now (words .entry)) (now (ints .entry)) ⌝ }
+        (recordPlaces (length (now (words .entry))) (length (now (ints .entry))))) (now (words .entry)) (now (ints .entry)) ⌝ }
 {
     let h = ledger_of(a);
     let t = a.positions;

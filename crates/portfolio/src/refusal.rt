@@ -4,11 +4,12 @@ ghost use mathlib.Core.Bool.{true};
 ghost use Prim.Native.Nat.{_+_, _≤_};
 ghost use lib.Dec.{leb};
 ghost use lib.ListN.{length, take};
-ghost use Rattle.portfolio.specs.Answers.{isDone, places, roomFor, queryAnswer, rebalanceAnswer, closeAnswer};
-ghost use Rattle.portfolio.specs.Planned.{lackedBy, lacking, Lacking};
-ghost use Rattle.table.specs.Keyed.{Rising};
-ghost use Rattle.table.specs.Rows.{cols, rows, holding, Full, Ordered};
-ghost use Rattle.account.specs.Account.{accountWith};
+ghost use Rattle.portfolio.specs.Answers.{isDone, recordPlaces, roomFor, queryAnswer, rebalanceAnswer, closeAnswer};
+ghost use Rattle.portfolio.specs.Inner.Planned.{lackedBy, lacking, Lacking};
+ghost use Rattle.table.specs.Inner.Keyed.{Rising};
+ghost use Rattle.table.specs.Rows.{cols, rows, holding, Full};
+ghost use Rattle.table.specs.Inner.Rows.{Ordered};
+ghost use Rattle.account.specs.Inner.Account.{accountWith};
 use account::Account;
 use account::Ledger;
 use account::sound_account;
@@ -34,7 +35,7 @@ pub fn query_answer(a: Account, symbols: &[u64], prices: &[i64]) -> Answer
 
 // The places of a record buffer of four words and eight numbers a record.
 pub(crate) fn places(words: usize, ints: usize) -> usize
-    ensures { λ r. ⌜ r ≡ places words ints ⌝ }
+    ensures { λ r. ⌜ r ≡ recordPlaces words ints ⌝ }
 {
     let w = words / 4;
     let i = ints / 8;

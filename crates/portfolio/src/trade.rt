@@ -3,10 +3,11 @@ ghost use mathlib.Core.Path.{_≡_};
 ghost use lib.ListN.{length};
 ghost use Rattle.table.specs.Rows.{cols, Full};
 ghost use Rattle.fills.specs.Inner.Runs.{orders};
-ghost use Rattle.account.specs.Account.{accountWith, ledgerOf};
-ghost use Rattle.portfolio.specs.Answers.{places};
+ghost use Rattle.account.specs.Inner.Account.{accountWith, ledgerOf};
+ghost use Rattle.portfolio.specs.Answers.{recordPlaces};
 ghost use Rattle.portfolio.specs.Rebalance.{termsBy};
-ghost use Rattle.portfolio.specs.Trades.{Fillable, afterOrders, bookOf, filed, filedBy, ledgerFrom, tradedOn};
+ghost use Rattle.portfolio.specs.Trades.{filed, filedBy};
+ghost use Rattle.portfolio.specs.Inner.Trades.{Fillable, afterOrders, bookOfLedger, ledgerFrom, tradedOn};
 use account::Account;
 use account::Counters;
 use account::Ledger;
@@ -118,7 +119,7 @@ fn terms_of(s: Settings, period_index: u64, kind: ExecutionKind) -> Terms
 
 // The scalars that fills change, as the ledger has them.
 fn book_of(h: Ledger) -> Book
-    ensures { λ r. ⌜ r ≡ bookOf h ⌝ }
+    ensures { λ r. ⌜ r ≡ bookOfLedger h ⌝ }
 {
     Book {
         cash: h.cash,
@@ -174,7 +175,7 @@ pub(crate) fn run(
 ) -> Ran
     ensures { λ r. ⌜ (let c = cols (now (symbol .entry)) (now (quantity .entry)) (now (average .entry)) (now (realized .entry)) (now (total .entry)) in
         let d = cols (now (symbol .exit)) (now (quantity .exit)) (now (average .exit)) (now (realized .exit)) (now (total .exit)) in
-        Fillable (accountWith h c) m (places (length (now (words .entry))) (length (now (ints .entry)))) (now (os .entry)) (now (oq .entry)) (now (op .entry))
+        Fillable (accountWith h c) m (recordPlaces (length (now (words .entry))) (length (now (ints .entry)))) (now (os .entry)) (now (oq .entry)) (now (op .entry))
         → filedBy (tradedOn r d) (now (words .exit)) (now (ints .exit))
         ≡ filed (afterOrders (accountWith h c) (orders m (now (os .entry)) (now (oq .entry)) (now (op .entry))) period kind «order_count» notional) (now (words .entry)) (now (ints .entry))) ⌝ }
 {

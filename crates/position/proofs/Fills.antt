@@ -57,19 +57,19 @@ unfolding applied isZero
 applied-fresh s q price n = rw n
 
 -- ---- the range of each number
-pub record InRange (p : Position) : Type 0 where
+pub record NumbersInRange (p : Position) : Type 0 where
   pub quantity : SFits w64 (held p)
   pub average : SFits w64 (avg p)
   pub profit : SFits w64 (realized p)
   pub cost : SFits w64 (total p)
 
-pub applied-in-range : (p : Position) (q price : ℤ) → InRange p → SFits w64 q → SFits w64 price → InRange (applied p q price)
+pub applied-in-range : (p : Position) (q price : ℤ) → NumbersInRange p → SFits w64 q → SFits w64 price → NumbersInRange (applied p q price)
 unfolding entered averaged grown closed partlyClosed realizedBy
 applied-in-range p q price f fq fp =
     let none : SFits w64 (pos 0) = record { sfits = omega arith } in
     let h' = satAdd-fits (held p) q in
     let r' : SFits w64 (realizedBy p q price) = satAdd-fits (realized p) _ in
-    by-branch InRange p q price
+    by-branch NumbersInRange p q price
     f
     (λ _ _. record { quantity = fq; average = fp; profit = f .profit; cost = value-fits q price })
     (λ _ _ _. record { quantity = h'; average = priceAt-fits _ _; profit = f .profit; cost = satAdd-fits (total p) _ })

@@ -9,7 +9,7 @@ use lib.Arith.{mod-mul}
 use lib.Pow.{pow-add}
 use lib.Dec.{ltb, eqb}
 use borrow.Author.Tests.{ltb-true, ltb-false, eqb-true, eqb-false, lt-ltb, le-ltb}
-use Rattle.position.specs.Symbols.{bytesFrom, bytesOf, leading, ofBytes, goodByte, zeros, padded, before}
+use Rattle.position.specs.Symbols.{bytesFrom, symbolBytes, leading, ofBytes, goodByte, zeros, padded, before}
 
 -- n is m with i bytes of zeros after it
 pub record Spaced (i n : ℕ) : Type 0 where
@@ -65,10 +65,10 @@ zeros-only (suc k) i n e s z =
     let rest = zeros-only k (suc i) (n % 2 ^ 56 * 256) (omega arith) (next-spaced k i n e s) (and-right (eqb (n / 2 ^ 56) 0) (zeros (bytesFrom k (n % 2 ^ 56 * 256))) z) in
     omega arith
 
-pub some-bytes : (n : ℕ) → n < 2 ^ 64 → (n ≡ 0 → ⊥) → zeros (bytesOf n) ≡ false
-some-bytes n h ne = go (zeros (bytesOf n)) refl
+pub some-bytes : (n : ℕ) → n < 2 ^ 64 → (n ≡ 0 → ⊥) → zeros (symbolBytes n) ≡ false
+some-bytes n h ne = go (zeros (symbolBytes n)) refl
   where
-    go : (t : Bool) → zeros (bytesOf n) ≡ t → t ≡ false
+    go : (t : Bool) → zeros (symbolBytes n) ≡ t → t ≡ false
     go true z = absurd (ne (zeros-only 8 0 n refl (all-spaced n h) z))
     go false z = refl
 
@@ -137,7 +137,7 @@ before-from (suc k) i a b e s t =
     (before-from k (suc i) (a % 2 ^ 56 * 256) (b % 2 ^ 56 * 256) (omega arith) (next-spaced k i a e s) (next-spaced k i b e t))
 
 -- "ordered by unsigned bytes": the order of two symbols is that of their numbers
-pub number-order-is-byte-order : (a b : ℕ) → a < 2 ^ 64 → b < 2 ^ 64 → before (bytesOf a) (bytesOf b) ≡ ltb a b
+pub number-order-is-byte-order : (a b : ℕ) → a < 2 ^ 64 → b < 2 ^ 64 → before (symbolBytes a) (symbolBytes b) ≡ ltb a b
 number-order-is-byte-order a b ha hb = before-from 8 0 a b refl (all-spaced a ha) (all-spaced b hb)
 
 -- ---- there and back
@@ -157,5 +157,5 @@ number-from (suc k) i n e s =
     let first : n / 2 ^ 56 * 256 ^ k * 256 ^ i ≡ n / 2 ^ 56 * 2 ^ 56 = mul-assoc (n / 2 ^ 56) (256 ^ k) (256 ^ i) ∙ ap (λ (x : ℕ). n / 2 ^ 56 * x) (sym (seven-bytes k i e)) in
     ap (λ (x : ℕ). x * 256 ^ i) (leading-first (n / 2 ^ 56) (bytesFrom k up) k) ∙ add-mul (n / 2 ^ 56 * 256 ^ k) low (256 ^ i) ∙ omega (arith, whole, first)
 
-pub bytes-give-the-number : (n : ℕ) → n < 2 ^ 64 → ofBytes (bytesOf n) ≡ n
-bytes-give-the-number n h = sym (mul-one (ofBytes (bytesOf n))) ∙ number-from 8 0 n refl (all-spaced n h)
+pub bytes-give-the-number : (n : ℕ) → n < 2 ^ 64 → ofBytes (symbolBytes n) ≡ n
+bytes-give-the-number n h = sym (mul-one (ofBytes (symbolBytes n))) ∙ number-from 8 0 n refl (all-spaced n h)

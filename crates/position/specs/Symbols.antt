@@ -10,8 +10,8 @@ unfoldable pub bytesFrom : ℕ → ℕ → List ℕ
 bytesFrom zero n = []
 bytesFrom (suc k) n = n / 2 ^ 56 ∷ bytesFrom k (n % 2 ^ 56 * 256)
 
-abbrev pub bytesOf : ℕ → List ℕ
-bytesOf n = bytesFrom 8 n
+abbrev pub symbolBytes : ℕ → List ℕ
+symbolBytes n = bytesFrom 8 n
 
 -- the number of the first k bytes, a missing one being zero
 unfoldable pub leading : List ℕ → ℕ → ℕ
@@ -36,7 +36,7 @@ padded (b ∷ bs) = cond (goodByte b) (padded bs) (zeros (b ∷ bs))
 
 -- "1 to 8 bytes": not all of them padding
 unfoldable pub goodSymbol : ℕ → Bool
-goodSymbol n = not (zeros (bytesOf n)) && padded (bytesOf n)
+goodSymbol n = not (zeros (symbolBytes n)) && padded (symbolBytes n)
 
 -- "ordered by unsigned bytes": the first byte in which two differ decides
 unfoldable pub before : List ℕ → List ℕ → Bool

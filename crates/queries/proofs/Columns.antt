@@ -14,34 +14,34 @@ use Rattle.position.specs.declared.position.Position.{Position}
 use Rattle.position.specs.Rows.{fresh, keyOf}
 use Rattle.table.specs.Keyed.{pick}
 use Rattle.table.specs.Rows.{isZero}
-use Rattle.account.specs.Account.{padded}
+use Rattle.account.specs.Account.{paddedColumn}
 use Rattle.queries.specs.declared.answered.Weighed.{Weighed}
 use Rattle.queries.specs.Queries.{Weight, openOnes, weightOf, weigh}
 use Rattle.queries.specs.Answers.{weighed}
-use Rattle.queries.specs.Places.{Priced, columns, addedTo}
+use Rattle.queries.specs.Inner.Places.{PositionPrices, weightColumns, addedWeight}
 
 -- ---- a column
 module _ {A : Type 0} (z x : A) (l : List A) (h : length l < 64) where
-  more : (k : ℕ) → 64 - length l ≡ suc k → set (padded z l) (length l) x ≡ padded z (l ++ (x ∷ []))
+  more : (k : ℕ) → 64 - length l ≡ suc k → set (paddedColumn z l) (length l) x ≡ paddedColumn z (l ++ (x ∷ []))
   more k e =
       let f : 64 - length (l ++ (x ∷ [])) ≡ k = omega (arith, length-append l (x ∷ [])) in
       rw (e, f) (set-append-seam l z (replicate k z) x ∙ sym (append-assoc l (x ∷ []) (replicate k z)))
 
-  pub next-place : set (padded z l) (length l) x ≡ padded z (l ++ (x ∷ []))
+  pub next-place : set (paddedColumn z l) (length l) x ≡ paddedColumn z (l ++ (x ∷ []))
   next-place = more (63 - length l) (omega arith)
 
 map-append : {A B : Type 0} (f : A → B) (l m : List A) → map f (l ++ m) ≡ map f l ++ map f m
 map-append f [] m = refl
 map-append f (x ∷ l) m = ap (λ k. f x ∷ k) (map-append f l m)
 
-column-more : {A : Type 0} (f : Weight → A) (z : A) (l : List Weight) (w : Weight) → length l < 64 → set (padded z (map f l)) (length l) (f w) ≡ padded z (map f (l ++ (w ∷ [])))
+column-more : {A : Type 0} (f : Weight → A) (z : A) (l : List Weight) (w : Weight) → length l < 64 → set (paddedColumn z (map f l)) (length l) (f w) ≡ paddedColumn z (map f (l ++ (w ∷ [])))
 column-more f z l w h =
     let n : length (map f l) ≡ length l = length-map l f in
-    ap (λ k. set (padded z (map f l)) k (f w)) (sym n) ∙ next-place z (f w) (map f l) (omega arith) ∙ ap (padded z) (sym (map-append f l (w ∷ [])))
+    ap (λ k. set (paddedColumn z (map f l)) k (f w)) (sym n) ∙ next-place z (f w) (map f l) (omega arith) ∙ ap (paddedColumn z) (sym (map-append f l (w ∷ [])))
 
 -- one weight more
 weighed-more : (l : List Weight) (w : Weight) → length l < 64
-    → columns (weighed l .count + 1) (set (weighed l .symbol) (weighed l .count) (w .symbol)) (set (weighed l .weight) (weighed l .count) (w .weight)) ≡ weighed (l ++ (w ∷ []))
+    → weightColumns (weighed l .count + 1) (set (weighed l .symbol) (weighed l .count) (w .symbol)) (set (weighed l .weight) (weighed l .count) (w .weight)) ≡ weighed (l ++ (w ∷ []))
 unfolding weighed
 weighed-more l w h =
     simp (column-more (λ v. v .symbol) 0 l w h, column-more (λ v. v .weight) (fin false 0 (pos 0)) l w h, length-append)
@@ -80,8 +80,8 @@ module _ (price : ℕ → ℤ) (equity : ℤ) where
   weights ps = weigh price equity (openOnes ps)
 
   added-last : (ps : List Position) (p : Position) → length ps < 64 → (z : Bool) → isZero (p .quantity .0) ≡ z
-      → addedTo p (price (keyOf p)) (ofI64 equity) (weighed (weights ps)) ≡ weighed (weights (ps ++ (p ∷ [])))
-  unfolding addedTo weightOf openOnes weigh weighed
+      → addedWeight p (price (keyOf p)) (ofI64 equity) (weighed (weights ps)) ≡ weighed (weights (ps ++ (p ∷ [])))
+  unfolding addedWeight weightOf openOnes weigh weighed
   added-last ps p h true e =
       let o : openOnes (ps ++ (p ∷ [])) ≡ openOnes ps ++ [] = open-append ps (p ∷ []) ∙ rw e in
       rw e (sym (ap (λ l. weighed (weigh price equity l)) (o ∙ append-nil (openOnes ps))))
@@ -92,24 +92,24 @@ module _ (price : ℕ → ℤ) (equity : ℤ) where
 
 -- the weight of the position at place i
 pub added-at : (price : ℕ → ℤ) (equity : ℤ) (ps : List Position) (i : ℕ) → i < length ps → i < 64 → let p = getD ps i (fresh 0) in
-    addedTo p (price (keyOf p)) (ofI64 equity) (weighed (weigh price equity (openOnes (take i ps)))) ≡ weighed (weigh price equity (openOnes (take (i + 1) ps)))
+    addedWeight p (price (keyOf p)) (ofI64 equity) (weighed (weigh price equity (openOnes (take i ps)))) ≡ weighed (weigh price equity (openOnes (take (i + 1) ps)))
 added-at price equity ps i h k =
     let l : length (take i ps) < 64 = omega (arith, length-take-le i ps (omega arith)) in
     added-last price equity (take i ps) (getD ps i (fresh 0)) l _ refl
     ∙ sym (ap (λ qs. weighed (weigh price equity (openOnes qs))) (rw (add-one, take-suc ps i (fresh 0))))
 
 -- the same, as the walk finds the position p and its price
-pub added-on : (price : ℕ → ℤ) (equity : ℤ) (ps : List Position) (ls : List ℤ) (i : ℕ) → i < length ps → i < 64 → (p : Position) → p ≡ getD ps i (fresh 0) → Priced price ps ls
-    → (c : Weighed) → c ≡ weighed (weigh price equity (openOnes (take i ps))) → addedTo p (getD ls i (pos 0)) (ofI64 equity) c ≡ weighed (weigh price equity (openOnes (take (i + 1) ps)))
+pub added-on : (price : ℕ → ℤ) (equity : ℤ) (ps : List Position) (ls : List ℤ) (i : ℕ) → i < length ps → i < 64 → (p : Position) → p ≡ getD ps i (fresh 0) → PositionPrices price ps ls
+    → (c : Weighed) → c ≡ weighed (weigh price equity (openOnes (take i ps))) → addedWeight p (getD ls i (pos 0)) (ofI64 equity) c ≡ weighed (weigh price equity (openOnes (take (i + 1) ps)))
 added-on price equity ps ls i h k p e listed c l = rw (l, e, listed i h) (added-at price equity ps i h k)
 
 -- no weights; and each position adds one at most
-pub none-weighed : weighed [] ≡ columns 0 (replicate 64 0) (replicate 64 (fin false 0 (pos 0)))
+pub none-weighed : weighed [] ≡ weightColumns 0 (replicate 64 0) (replicate 64 (fin false 0 (pos 0)))
 unfolding weighed
 none-weighed = refl
 
-pub added-most : (p : Position) (price : ℤ) (equity : Float) (c : Weighed) → addedTo p price equity c .count ≤ c .count + 1
-unfolding addedTo
+pub added-most : (p : Position) (price : ℤ) (equity : Float) (c : Weighed) → addedWeight p price equity c .count ≤ c .count + 1
+unfolding addedWeight
 added-most p price equity c = go (isZero (p .quantity .0)) _ refl
   where
     go : (z : Bool) (d : Weighed) → d .count ≡ c .count + 1 → pick z c d .count ≤ c .count + 1

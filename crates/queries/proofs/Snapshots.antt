@@ -17,7 +17,7 @@ use Rattle.queries.specs.declared.answered.Weighed.{Weighed}
 use Rattle.queries.specs.declared.answered.Snapshot.{Snapshot}
 use Rattle.queries.specs.declared.sum.Sums.{Sums}
 use Rattle.queries.specs.Answers.{weighed, snapshotOf, noSnapshot, toldSnapshot, answeredWeights, weightsNow, toldWeights}
-use Rattle.queries.specs.Places.{Priced, Adds, WeighsAt}
+use Rattle.queries.specs.Inner.Places.{PositionPrices, AddsUp, WeighsAt}
 
 abbrev pub snapshotBy : ℤ → Sums → ℤ → Weighed → Snapshot
 snapshotBy cash r equity w = record {
@@ -29,7 +29,7 @@ snapshotBy cash r equity w = record {
   weights = w;
 }
 
-module _ (price : ℕ → ℤ) (a : Account) (ls : List ℤ) (listed : Priced price (heldIn (a .positions)) ls) (r : Sums) (sums : Adds (heldIn (a .positions)) ls r) (equity : ℤ) (e : equity ≡ satAdd (a .cash) (r .worth)) (w : Weighed) (weights : WeighsAt (heldIn (a .positions)) ls equity w) where
+module _ (price : ℕ → ℤ) (a : Account) (ls : List ℤ) (listed : PositionPrices price (heldIn (a .positions)) ls) (r : Sums) (sums : AddsUp (heldIn (a .positions)) ls r) (equity : ℤ) (e : equity ≡ satAdd (a .cash) (r .worth)) (w : Weighed) (weights : WeighsAt (heldIn (a .positions)) ls equity w) where
   is-equity : equity ≡ equityOf price (a .cash) (heldIn (a .positions))
   unfolding equityOf
   is-equity = e ∙ ap (satAdd (a .cash)) (sums .worth price listed)

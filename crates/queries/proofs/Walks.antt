@@ -14,12 +14,13 @@ use Rattle.sums.specs.Sums.{satAdd, value}
 use Rattle.position.specs.declared.position.Position.{Position}
 use Rattle.position.specs.Rows.{fresh, keyOf}
 use Rattle.table.specs.Keyed.{pick}
-use Rattle.table.specs.Rows.{Cols, isZero, rows, Ordered}
+use Rattle.table.specs.Rows.{Cols, isZero, rows}
+use Rattle.table.specs.Inner.Rows.{Ordered}
 use Rattle.call_lists.proofs.Lists.{from-place, from-end}
 use Rattle.account.proofs.Columns.{rows-length, row-of}
 use Rattle.wanted.specs.Equity.{worth, worthFrom}
 use Rattle.queries.specs.Queries.{openOnes, unpriced, firstUnpriced, profitFrom}
-use Rattle.queries.specs.Places.{PricesOf, Priced}
+use Rattle.queries.specs.Inner.Places.{PricesOf, PositionPrices}
 
 -- ---- the position at place i, and those after it
 module _ (ps : List Position) (i : ℕ) (h : i < length ps) where
@@ -46,7 +47,7 @@ module _ (ps : List Position) (i : ℕ) (h : i < length ps) where
 
 -- ---- the same, as the walk finds the position p and its price
 module _ (ps : List Position) (ls : List ℤ) (i : ℕ) (h : i < length ps) (p : Position) (e : p ≡ getD ps i (fresh 0)) where
-  pub worth-on : (price : ℕ → ℤ) (sum : ℤ) → Priced price ps ls → worthFrom price (satAdd sum (value (p .quantity .0) (getD ls i (pos 0)))) (drop (i + 1) ps) ≡ worthFrom price sum (drop i ps)
+  pub worth-on : (price : ℕ → ℤ) (sum : ℤ) → PositionPrices price ps ls → worthFrom price (satAdd sum (value (p .quantity .0) (getD ls i (pos 0)))) (drop (i + 1) ps) ≡ worthFrom price sum (drop i ps)
   worth-on price sum listed = rw (e, listed i h) (sym (worth-at ps i h price sum))
 
   pub profit-on : (sum : ℤ) → profitFrom (satAdd sum (p .«realized_pnl»)) (drop (i + 1) ps) ≡ profitFrom sum (drop i ps)
@@ -55,13 +56,13 @@ module _ (ps : List Position) (ls : List ℤ) (i : ℕ) (h : i < length ps) (p :
   pub open-on : pick (isZero (p .quantity .0)) 0 1 + length (openOnes (drop (i + 1) ps)) ≡ length (openOnes (drop i ps))
   open-on = rw e (sym (open-at ps i h))
 
-  same-test : (price : ℕ → ℤ) → Priced price ps ls → let q = getD ps i (fresh 0) in unpriced (q .quantity .0) (price (keyOf q)) ≡ unpriced (p .quantity .0) (getD ls i (pos 0))
+  same-test : (price : ℕ → ℤ) → PositionPrices price ps ls → let q = getD ps i (fresh 0) in unpriced (q .quantity .0) (price (keyOf q)) ≡ unpriced (p .quantity .0) (getD ls i (pos 0))
   same-test price listed = ap (unpriced (getD ps i (fresh 0) .quantity .0)) (sym (listed i h)) ∙ ap (λ q. unpriced (q .quantity .0) (getD ls i (pos 0))) (sym e)
 
-  pub first-found : (price : ℕ → ℤ) → Priced price ps ls → unpriced (p .quantity .0) (getD ls i (pos 0)) ≡ true → firstUnpriced price (drop i ps) ≡ some (keyOf p)
+  pub first-found : (price : ℕ → ℤ) → PositionPrices price ps ls → unpriced (p .quantity .0) (getD ls i (pos 0)) ≡ true → firstUnpriced price (drop i ps) ≡ some (keyOf p)
   first-found price listed t = first-at ps i h price ∙ rw (same-test price listed ∙ t) (ap (λ q. some (keyOf q)) (sym e))
 
-  pub first-passed : (price : ℕ → ℤ) → Priced price ps ls → unpriced (p .quantity .0) (getD ls i (pos 0)) ≡ false → firstUnpriced price (drop (i + 1) ps) ≡ firstUnpriced price (drop i ps)
+  pub first-passed : (price : ℕ → ℤ) → PositionPrices price ps ls → unpriced (p .quantity .0) (getD ls i (pos 0)) ≡ false → firstUnpriced price (drop (i + 1) ps) ≡ firstUnpriced price (drop i ps)
   first-passed price listed t = sym (first-at ps i h price ∙ rw (same-test price listed ∙ t))
 
 pub one-most : (z : Bool) → pick z 0 1 ≤ 1
@@ -99,7 +100,7 @@ price-more price i ks ls v h before e j k = go (ltb j i) refl
         rw l (getD-set-same ls i v (pos 0) h ∙ e)
 
 -- ---- prices of the places are prices of the positions there
-pub places-priced : (price : ℕ → ℤ) (n : ℕ) (c : Cols) (ls : List ℤ) → Ordered n c → PricesOf price n (c .symbol) ls → Priced price (rows n c) ls
+pub places-priced : (price : ℕ → ℤ) (n : ℕ) (c : Cols) (ls : List ℤ) → Ordered n c → PricesOf price n (c .symbol) ls → PositionPrices price (rows n c) ls
 places-priced price n c ls o e i h =
     let k : i < n = omega (arith, rows-length c (o .full) n (o .small)) in
     e i k ∙ sym (ap (λ p. price (keyOf p)) (row-of c (o .full) n i k))

@@ -11,7 +11,7 @@ use Rattle.answer.specs.declared.Answer.the-variants.{Done}
 use Rattle.table.specs.Keyed.{pick}
 use Rattle.call_lists.specs.Lists.{priceOf}
 use Rattle.account.specs.declared.account.Account.{Account}
-use Rattle.account.specs.Account.{heldIn, padded}
+use Rattle.account.specs.Account.{heldIn, paddedColumn}
 use Rattle.wanted.specs.Equity.{equityOf}
 use Rattle.portfolio.specs.Answers.{isDone, queryAnswer}
 use Rattle.queries.specs.declared.answered.Weighed.{Weighed}
@@ -24,8 +24,8 @@ use Rattle.queries.specs.Queries.{Weight, openOnes, weightsOf, firstUnpr
 unfoldable pub weighed : List Weight → Weighed
 weighed l = record {
   count = length l;
-  symbol = padded 0 (map (λ (w : Weight). w .symbol) l);
-  weight = padded (fin false 0 (pos 0)) (map (λ (w : Weight). w .weight) l);
+  symbol = paddedColumn 0 (map (λ (w : Weight). w .symbol) l);
+  weight = paddedColumn (fin false 0 (pos 0)) (map (λ (w : Weight). w .weight) l);
 }
 
 -- ---- a snapshot

@@ -1,4 +1,4 @@
 -- What the queries with prices answer.
 pub mod Queries
 pub mod Answers
-pub mod Places
+pub mod Inner

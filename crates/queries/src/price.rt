@@ -4,7 +4,7 @@ ghost use Prim.Native.Nat.{_≤_};
 ghost use Rattle.answer.specs.declared.Answer.the-variants.{Done};
 ghost use Rattle.call_lists.specs.Lists.{priceOf};
 ghost use Rattle.call_lists.specs.Checks.{pricesAnswer};
-ghost use Rattle.queries.specs.Places.{Looks, PricesOf};
+ghost use Rattle.queries.specs.Inner.Places.{Looks, PricesOf};
 use call_lists::is_ascending;
 use call_lists::quote;
 use call_lists::sort_prices;

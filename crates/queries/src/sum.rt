@@ -1,8 +1,9 @@
 // What is summed over the positions of an account.
 ghost use mathlib.Core.Path.{_≡_};
 ghost use Rattle.table.specs.Keyed.{pick};
-ghost use Rattle.table.specs.Rows.{isZero, cols, rows, Ordered};
-ghost use Rattle.queries.specs.Places.{Adds};
+ghost use Rattle.table.specs.Rows.{isZero, cols, rows};
+ghost use Rattle.table.specs.Inner.Rows.{Ordered};
+ghost use Rattle.queries.specs.Inner.Places.{AddsUp};
 use position::Shares;
 use table::Found;
 use table::held;
@@ -34,7 +35,7 @@ pub(crate) fn summed<'a>(
     price: &'a [i64; 64],
 ) -> Sums
     requires { ⌜ Ordered n (cols (now symbol) (now quantity) (now average) (now realized) (now total)) ⌝ }
-    ensures { λ r. ⌜ Adds (rows n (cols (now (symbol .entry)) (now (quantity .entry)) (now (average .entry)) (now (realized .entry)) (now (total .entry)))) (now (price .entry)) r ⌝ }
+    ensures { λ r. ⌜ AddsUp (rows n (cols (now (symbol .entry)) (now (quantity .entry)) (now (average .entry)) (now (realized .entry)) (now (total .entry)))) (now (price .entry)) r ⌝ }
 {
     let mut worth = 0i64;
     let mut open_count = 0u64;

@@ -1,8 +1,9 @@
 // The first holding without a price.
 ghost use mathlib.Core.Path.{_≡_};
-ghost use Rattle.table.specs.Rows.{cols, rows, Ordered};
+ghost use Rattle.table.specs.Rows.{cols, rows};
+ghost use Rattle.table.specs.Inner.Rows.{Ordered};
 ghost use Rattle.queries.specs.Queries.{unpriced};
-ghost use Rattle.queries.specs.Places.{First};
+ghost use Rattle.queries.specs.Inner.Places.{First};
 ghost use Rattle.queries.specs.Answers.{toldUnpriced};
 use crate::answered::Unpriced;
 use crate::price::prices_of;

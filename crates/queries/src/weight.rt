@@ -2,8 +2,9 @@
 ghost use mathlib.Core.Path.{_≡_};
 ghost use mathlib.Core.List.{[]};
 ghost use Prim.Native.Nat.{_<_};
-ghost use Rattle.table.specs.Rows.{cols, rows, Ordered};
-ghost use Rattle.queries.specs.Places.{columns, addedTo, Weighs, WeighsAt};
+ghost use Rattle.table.specs.Rows.{cols, rows};
+ghost use Rattle.table.specs.Inner.Rows.{Ordered};
+ghost use Rattle.queries.specs.Inner.Places.{weightColumns, addedWeight, Weighs, WeighsAt};
 ghost use Rattle.queries.specs.Answers.{weighed};
 use crate::answered::Weighed;
 use position::Position;
@@ -20,7 +21,7 @@ fn add_weight(
     equity: f64,
 ) -> usize
     requires { ⌜ n < 64 ⌝ }
-    ensures { λ r. ⌜ columns r (now (symbol .exit)) (now (weight .exit)) ≡ addedTo p price equity (columns n (now (symbol .entry)) (now (weight .entry))) ⌝ }
+    ensures { λ r. ⌜ weightColumns r (now (symbol .exit)) (now (weight .exit)) ≡ addedWeight p price equity (weightColumns n (now (symbol .entry)) (now (weight .entry))) ⌝ }
 {
     if p.quantity.is_zero() {
         return n;

@@ -11,7 +11,7 @@ use Rattle.table.proofs.Keyed.{both-false}
 use Rattle.fills.specs.declared.record.ExecutionKind.{ExecutionKind}
 use Rattle.fills.specs.declared.record.ExecutionKind.the-variants.{Rebalance, StopExit}
 use Rattle.fills.specs.declared.record.ExecutionRecord.{ExecutionRecord}
-use Rattle.fills.specs.Records.{kindNumber, kindOf, wordsOf, intsOf, allWords, allInts, room, buffers, stored}
+use Rattle.fills.specs.Records.{kindNumber, kindOf, wordsOfRecord, intsOfRecord, allWords, allInts, room, buffers, stored}
 use Rattle.fills.proofs.Storing.{with-room}
 use Rattle.fills.proofs.Fronts.{words-long, ints-long}
 use Rattle.records.specs.Read.{recordIn, recordAt, blank}
@@ -70,7 +70,7 @@ moved xs ws ys is n i j lx ly e =
       v (i * 8 + 7) (j * 8 + 7) (omega arith),
     )
 
-first-record : (r : ExecutionRecord) (ws : List ℕ) (is : List ℤ) → recordIn (wordsOf r ++ ws) (intsOf r ++ is) 0 ≡ r
+first-record : (r : ExecutionRecord) (ws : List ℕ) (is : List ℤ) → recordIn (wordsOfRecord r ++ ws) (intsOfRecord r ++ is) 0 ≡ r
 unfolding recordIn
 first-record r ws is = simp (kind-back (r .kind))
 
@@ -78,7 +78,7 @@ read-front : (rs : List ExecutionRecord) (ws : List ℕ) (is : List ℤ) (i : �
 unfolding allWords allInts
 read-front [] ws is i d h = absurd (omega arith)
 read-front (r ∷ rs) ws is zero d h = first-record r (allWords rs ++ ws) (allInts rs ++ is)
-read-front (r ∷ rs) ws is (suc i) d h = moved (wordsOf r) (allWords rs ++ ws) (intsOf r) (allInts rs ++ is) 1 i (suc i) refl refl (omega arith) ∙ read-front rs ws is i d (omega arith)
+read-front (r ∷ rs) ws is (suc i) d h = moved (wordsOfRecord r) (allWords rs ++ ws) (intsOfRecord r) (allInts rs ++ is) 1 i (suc i) refl refl (omega arith) ∙ read-front rs ws is i d (omega arith)
 
 module _ (rs : List ExecutionRecord) (ws : List ℕ) (is : List ℤ) where
   place-there : (i : ℕ) → i < length rs → recordAt (allWords rs ++ ws) (allInts rs ++ is) i ≡ recordIn (allWords rs ++ ws) (allInts rs ++ is) i
@@ -107,14 +107,14 @@ sets-there vs l i h = sets-eq vs l i h ∙ append-assoc (take i l) vs (drop (i +
 pub stored-is-read : (r : ExecutionRecord) (ws : List ℕ) (is : List ℤ) (n : ℕ) → n < length ws / 4 → n < length is / 8
     → let b = stored r (buffers ws is n) in recordAt (b .words) (b .ints) n ≡ r
 stored-is-read r ws is n h g =
-    let ws′ = sets ws (n * 4) (wordsOf r) in
-    let is′ = sets is (n * 8) (intsOf r) in
-    let lw = length-sets ws (n * 4) (wordsOf r) in
-    let li = length-sets is (n * 8) (intsOf r) in
+    let ws′ = sets ws (n * 4) (wordsOfRecord r) in
+    let is′ = sets is (n * 8) (intsOfRecord r) in
+    let lw = length-sets ws (n * 4) (wordsOfRecord r) in
+    let li = length-sets is (n * 8) (intsOfRecord r) in
     ap (λ b. recordAt (b .words) (b .ints) n) (with-room r ws is n h g)
     ∙ has-place ws′ is′ n (omega (arith, lw, h)) (omega (arith, li, g))
-    ∙ ap (λ x. recordIn x is′ n) (sets-there (wordsOf r) ws (n * 4) (omega (arith, h)))
-    ∙ ap (λ x. recordIn (take (n * 4) ws ++ (wordsOf r ++ drop (n * 4 + 4) ws)) x n) (sets-there (intsOf r) is (n * 8) (omega (arith, g)))
-    ∙ moved (take (n * 4) ws) (wordsOf r ++ drop (n * 4 + 4) ws) (take (n * 8) is) (intsOf r ++ drop (n * 8 + 8) is) n 0 n
+    ∙ ap (λ x. recordIn x is′ n) (sets-there (wordsOfRecord r) ws (n * 4) (omega (arith, h)))
+    ∙ ap (λ x. recordIn (take (n * 4) ws ++ (wordsOfRecord r ++ drop (n * 4 + 4) ws)) x n) (sets-there (intsOfRecord r) is (n * 8) (omega (arith, g)))
+    ∙ moved (take (n * 4) ws) (wordsOfRecord r ++ drop (n * 4 + 4) ws) (take (n * 8) is) (intsOfRecord r ++ drop (n * 8 + 8) is) n 0 n
     (length-take-le (n * 4) ws (omega (arith, h))) (length-take-le (n * 8) is (omega (arith, g))) (omega arith)
     ∙ first-record r (drop (n * 4 + 4) ws) (drop (n * 8 + 8) is)

@@ -15,13 +15,14 @@ use Rattle.fills.specs.declared.record.ExecutionRecord.{ExecutionRecord}
 use Rattle.fills.specs.Records.{allWords, allInts, fronted}
 use Rattle.account.specs.declared.account.Account.{Account}
 use Rattle.portfolio.specs.declared.trade.Traded.{Traded}
-use Rattle.portfolio.specs.Answers.{places, hasRoom, rebalanceAnswer, closeAnswer}
+use Rattle.portfolio.specs.Answers.{recordPlaces, hasRoom, rebalanceAnswer, closeAnswer}
 use Rattle.portfolio.specs.Rebalance.{Outcome, rebalanced}
-use Rattle.portfolio.specs.Close.{closed}
+use Rattle.portfolio.specs.Close.{positionClosed}
 use Rattle.portfolio.specs.Trades.{filed, filedBy}
 use Rattle.records.specs.declared.into.Numbers.{Numbers}
 use Rattle.records.specs.Run.{recordsAt, collected}
-use Rattle.records.specs.Into.{numbersOf, Written, handed, handedBy}
+use Rattle.records.specs.Into.{handed, handedBy}
+use Rattle.records.specs.Inner.Into.{tradedNumbers, Written}
 use Rattle.fills.proofs.Fronts.{words-long}
 use Rattle.records.proofs.Reading.{read-back}
 
@@ -41,8 +42,8 @@ close-answer-within-64 : (a : Account) (s : ℕ) (price : ℤ) (room : ℕ) → 
 unfolding closeAnswer
 close-answer-within-64 a s price room = simp (room-within-64 a 1 room (omega arith))
 
-pub closed-within-64 : (a : Account) (s : ℕ) (price : ℤ) (period : ℕ) (kind : ExecutionKind) (room : ℕ) → closed a s price period kind (min room 64) ≡ closed a s price period kind room
-unfolding closed
+pub closed-within-64 : (a : Account) (s : ℕ) (price : ℤ) (period : ℕ) (kind : ExecutionKind) (room : ℕ) → positionClosed a s price period kind (min room 64) ≡ positionClosed a s price period kind room
+unfolding positionClosed
 closed-within-64 a s price period kind room = simp (close-answer-within-64 a s price room)
 
 rebalance-answer-within-64 : (a : Account) (ts : List ℕ) (ws : List Float) (ps : List ℕ) (vs : List ℤ) (room : ℕ) → rebalanceAnswer a ts ws ps vs (min room 64) ≡ rebalanceAnswer a ts ws ps vs room
@@ -73,7 +74,7 @@ module _ (t : Traded) (o : Outcome) (n room : ℕ) (ws : List ℕ) (is : List �
   ints-fit : length (allInts (o .records)) ≤ n * 8
   ints-fit = omega (arith, front-fits (allInts (o .records)) (take (n * 8) (replicate 512 (pos 0))) is (ap (λ x. x .ints) e), li)
 
-  pub filed-is-written : Written (numbersOf t (ws ++ drop (n * 4) (replicate 256 0)) (is ++ drop (n * 8) (replicate 512 (pos 0)))) o room
+  pub filed-is-written : Written (tradedNumbers t (ws ++ drop (n * 4) (replicate 256 0)) (is ++ drop (n * 8) (replicate 512 (pos 0)))) o room
   filed-is-written = record {
     answer = ap (λ x. x .answer) e;
     account = ap (λ x. x .account) e;
@@ -85,7 +86,7 @@ module _ (t : Traded) (o : Outcome) (n room : ℕ) (ws : List ℕ) (is : List �
   }
 
 -- the places of n records
-pub places-are : (n : ℕ) (zw : List ℕ) (zi : List ℤ) → n * 4 ≤ length zw → n * 8 ≤ length zi → places (length (take (n * 4) zw)) (length (take (n * 8) zi)) ≡ n
+pub places-are : (n : ℕ) (zw : List ℕ) (zi : List ℤ) → n * 4 ≤ length zw → n * 8 ≤ length zi → recordPlaces (length (take (n * 4) zw)) (length (take (n * 8) zi)) ≡ n
 places-are n zw zi gw gi =
     let u = length-take-le (n * 4) zw gw in
     let v = length-take-le (n * 8) zi gi in

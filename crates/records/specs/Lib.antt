@@ -2,3 +2,4 @@
 pub mod Read
 pub mod Run
 pub mod Into
+pub mod Inner

@@ -2,10 +2,11 @@
 ghost use mathlib.Core.Path.{_≡_};
 ghost use Prim.Native.Nat.{min};
 ghost use lib.ListN.{length};
-ghost use Rattle.portfolio.specs.Close.{closed};
+ghost use Rattle.portfolio.specs.Close.{positionClosed};
 ghost use Rattle.portfolio.specs.Rebalance.{rebalanced};
 ghost use Rattle.records.specs.Run.{collected};
-ghost use Rattle.records.specs.Into.{numbersOf, filedOf, Written, handed, handedBy};
+ghost use Rattle.records.specs.Into.{handed, handedBy};
+ghost use Rattle.records.specs.Inner.Into.{tradedNumbers, filedOf, Written};
 use crate::run::collect;
 use account::Account;
 use fills::ExecutionKind;
@@ -38,7 +39,7 @@ fn up_to_64(room: usize) -> usize
 
 // The answer of a call, and how many records its slices hold.
 fn in_numbers(traded: Traded, words: [u64; 256], ints: [i64; 512]) -> Numbers
-    ensures { λ r. ⌜ r ≡ numbersOf traded words ints ⌝ }
+    ensures { λ r. ⌜ r ≡ tradedNumbers traded words ints ⌝ }
 {
     let count = traded.records;
     Numbers {
@@ -58,7 +59,7 @@ fn close_within(
     kind: ExecutionKind,
     room: usize,
 ) -> Numbers
-    ensures { λ r. ⌜ Written r (closed a symbol price period kind room) room ⌝ }
+    ensures { λ r. ⌜ Written r (positionClosed a symbol price period kind room) room ⌝ }
 {
     let mut words = [0u64; 256];
     let mut ints = [0i64; 512];
@@ -152,7 +153,7 @@ pub fn close_position_into<'a>(
     kind: ExecutionKind,
     out: &'a mut [ExecutionRecord],
 ) -> Traded
-    ensures { λ r. ⌜ handedBy r (now (out .exit)) ≡ handed (closed a symbol price period kind (length (now (out .entry)))) (now (out .entry)) ⌝ }
+    ensures { λ r. ⌜ handedBy r (now (out .exit)) ≡ handed (positionClosed a symbol price period kind (length (now (out .entry)))) (now (out .entry)) ⌝ }
 {
     let n = close_within(a, symbol, price, period, kind, out.len());
     hand_over(n, out)

@@ -6,7 +6,8 @@ use native.Mathlib.Omega.{arith}
 use native.Mathlib.Numerals.{add-one}
 use lib.ListN.{length, take, drop, getD, set}
 use borrow.Author.Tests.{lt-ltb, le-ltb, le-leb, lt-leb}
-use Rattle.table.specs.Rows.{pushed, opened, openedAt, zip2}
+use Rattle.table.specs.Rows.{zip2}
+use Rattle.table.specs.Inner.Rows.{pushed, opened, openedAt}
 use Rattle.table.proofs.Keyed.{both-false}
 
 -- ---- opening a place, one step of the loop

@@ -9,7 +9,8 @@ use lib.Dec.{eqb, leb, ltb}
 use lib.ListN.{length, getD, drop}
 use lib.Seq.{drop-cons}
 use borrow.Author.Tests.{ltb-true, ltb-false, eqb-true, eqb-false, leb-true, leb-false, le-leb, lt-leb, lt-ltb, le-ltb, eq-eqb, ne-eqb}
-use Rattle.table.specs.Keyed.{pick, both, all, there, new, seek, put, put64, over, ascending, Over, Rising}
+use Rattle.table.specs.Keyed.{pick, both, all, there, new, seek, put, put64, over, ascending}
+use Rattle.table.specs.Inner.Keyed.{Over, Rising}
 
 data Three (a b : ℕ) : Type 0 where
   below : a < b → Three a b

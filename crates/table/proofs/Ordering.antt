@@ -16,7 +16,8 @@ use Rattle.position.specs.Rows.{row, fresh, keyOf}
 use Rattle.position.specs.Shares.{isZero as isZeroShares}
 use Rattle.position.specs.declared.position.Position.{Position}
 use Rattle.table.specs.Keyed.{both, all, ascending}
-use Rattle.table.specs.Rows.{Cols, zipped, rowAt, Full, Ordered, isZero, zeros, zerosZ, unused, ordered}
+use Rattle.table.specs.Rows.{Cols, zipped, rowAt, Full, isZero, zeros, zerosZ, unused, ordered}
+use Rattle.table.specs.Inner.Rows.{Ordered}
 use Rattle.table.proofs.Keyed.{both-true, ascending-rises, rising-ascends}
 use Rattle.table.proofs.Zipped.{zipped-length, zipped-at}
 

@@ -10,8 +10,9 @@ use lib.ListN.{length, take, getD, set, drop, drop-of-length-le}
 use lib.Seq.{drop-cons, take-all, getD-take, length-take-le}
 use native.Mathlib.Numerals.{add-one}
 use borrow.Author.Tests.{ltb-true, ltb-false, le-leb, lt-leb, eq-eqb, ne-eqb}
-use Rattle.table.specs.Keyed.{pick, seek, put, Rising}
-use Rattle.table.specs.Places.{shorter, foundFrom, found, Within, Finds}
+use Rattle.table.specs.Keyed.{pick, seek, put}
+use Rattle.table.specs.Inner.Keyed.{Rising}
+use Rattle.table.specs.Inner.Places.{shorter, foundFrom, found, Within, Finds}
 use Rattle.table.specs.declared.found.Found.{Found}
 use Rattle.table.specs.declared.found.Found.the-variants.{At, Absent}
 use Rattle.table.proofs.Keyed.{rising-strict}

@@ -13,9 +13,11 @@ use lib.Seq.{drop-cons, getD-take, length-take-le, take-set-lt, drop-set-lt}
 use borrow.Author.Tests.{le-leb, lt-ltb, le-ltb, ltb-true, ltb-false}
 use Rattle.position.specs.Rows.{row, fresh, keyOf}
 use Rattle.position.specs.declared.position.Position.{Position}
-use Rattle.table.specs.Keyed.{pick, both, there, orElse, seek, put, put64, Rising}
-use Rattle.table.specs.Places.{foundFrom, found}
-use Rattle.table.specs.Rows.{zip2, give, Cols, cols, zipped, rows, Full, Ordered, holding, Puts, Counted, counted, opened, setAll, openAll, rowAt, heldAt, posted}
+use Rattle.table.specs.Keyed.{pick, both, there, orElse, seek, put, put64}
+use Rattle.table.specs.Inner.Keyed.{Rising}
+use Rattle.table.specs.Inner.Places.{foundFrom, found}
+use Rattle.table.specs.Rows.{zip2, give, Cols, cols, zipped, rows, Full, holding, rowAt}
+use Rattle.table.specs.Inner.Rows.{Ordered, Puts, Counted, counted, opened, setAll, openAll, heldAt, posted}
 use Rattle.table.specs.declared.found.Found.{Found}
 use Rattle.table.specs.declared.found.Found.the-variants.{At, Absent}
 use Rattle.table.proofs.Keyed.{put64-rises}

@@ -7,7 +7,8 @@ use lib.ListN.{length, take, drop, getD, set, length-map, List·getD-map}
 use lib.Seq.{ext-getD}
 use Rattle.position.specs.Rows.{row, fresh, keyOf}
 use Rattle.position.specs.declared.position.Position.{Position}
-use Rattle.table.specs.Rows.{zip2, give, Cols, cols, zipped, rows, Full, opened, setAll, openAll, rowAt}
+use Rattle.table.specs.Rows.{zip2, give, Cols, cols, zipped, rows, Full, rowAt}
+use Rattle.table.specs.Inner.Rows.{opened, setAll, openAll}
 use Rattle.table.proofs.Columns.{zip-set, zip-opened, zip-length, zip-getD}
 
 -- ---- the five columns as one list

@@ -1,5 +1,5 @@
 -- Lists in ascending order of a key: the search, the insertion, and the order itself.
-use Prim.Native.Nat.{ℕ, _≤_, _<_}
+use Prim.Native.Nat.{ℕ}
 use mathlib.Core.List.{List, [], _∷_}
 use mathlib.Core.Bool.{Bool, true, false}
 use mathlib.Core.Option.{Option, none, some}
@@ -47,12 +47,3 @@ over k (x ∷ l) = ltb k x
 abbrev pub ascending : List ℕ → Bool
 ascending [] = true
 ascending (x ∷ l) = both (over x l) (ascending l)
-
--- the same as a fact
-abbrev pub Over : ℕ → List ℕ → Type 0
-Over k [] = 0 ≤ 0
-Over k (x ∷ l) = k < x
-
-abbrev pub Rising : List ℕ → Type 0
-Rising [] = 0 ≤ 0
-Rising (x ∷ l) = Over x l × Rising l

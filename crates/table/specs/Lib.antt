@@ -1,4 +1,4 @@
--- What a table of positions is, and what a search and a change in it do.
+-- What a table of positions is.
 pub mod Keyed
-pub mod Places
 pub mod Rows
+pub mod Inner

@@ -1,6 +1,6 @@
 // A place opened in one column of 64, whatever stands in it: a function for each type of element.
 ghost use mathlib.Core.Path.{_≡_};
-ghost use Rattle.table.specs.Rows.{openedAt};
+ghost use Rattle.table.specs.Inner.Rows.{openedAt};
 
 // Puts v at i of the first n, and moves what stood from i to n one up. A full column, or a place past the count, leaves the column as it is.
 pub fn open_symbol(symbols: &mut [u64; 64], i: usize, n: usize, v: u64)

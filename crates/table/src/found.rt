@@ -2,8 +2,8 @@
 ghost use mathlib.Core.Path.{_≡_};
 ghost use Prim.Native.Nat.{_≤_};
 ghost use lib.ListN.{length, take};
-ghost use Rattle.table.specs.Keyed.{Rising};
-ghost use Rattle.table.specs.Places.{Finds, found, shorter};
+ghost use Rattle.table.specs.Inner.Keyed.{Rising};
+ghost use Rattle.table.specs.Inner.Places.{Finds, found, shorter};
 
 // The place of a key, or the place at which it would be inserted.
 pub enum Found {

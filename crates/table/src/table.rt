@@ -1,7 +1,8 @@
 // Positions as a count and five columns of 64 places, and one position read or written in them.
 ghost use mathlib.Core.Path.{_≡_};
 ghost use Prim.Native.Nat.{_-_, _≤_, _<_};
-ghost use Rattle.table.specs.Rows.{counted, cols, emptyTable, heldAt, setAll, openAll, posted};
+ghost use Rattle.table.specs.Rows.{cols, emptyTable};
+ghost use Rattle.table.specs.Inner.Rows.{counted, heldAt, setAll, openAll, posted};
 use crate::column::open_number;
 use crate::column::open_symbol;
 use crate::found::Found;

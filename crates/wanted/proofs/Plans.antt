@@ -31,13 +31,13 @@ use Rattle.wanted.specs.Plan.{passedOver, withinBand, underMaximum, limi
 use Rattle.wanted.proofs.Drifts.{drift-clear}
 
 -- ---- an order: of this symbol, at this price, which is 0 only where the quantity is 0; what it holds fits
-pub record Order (k : ℕ) (p : ℤ) (o : PlannedOrder) : Type 0 where
+pub record OrderFor (k : ℕ) (p : ℤ) (o : PlannedOrder) : Type 0 where
   pub symbol : o .symbol .0 ≡ k
   pub priced : isZero (o .quantity .0) ≡ false → (o .price ≡ p) × (leZ (pos 1) p ≡ true)
   pub quantity-fits : SFits w64 (o .quantity .0)
   pub price-fits : SFits w64 p → SFits w64 (o .price)
 
-over-order : (k : ℕ) (p : ℤ) → Order k p (passedOver k)
+over-order : (k : ℕ) (p : ℤ) → OrderFor k p (passedOver k)
 over-order k p = record {
   symbol = refl;
   priced = λ e. let z : _≡_ {A = ℕ} 0 1 = cc in absurd (omega arith);
@@ -65,7 +65,7 @@ module _ (s : Settings) (q p : ℤ) (f : SFits w64 q) where
       go true = zero-fits
       go false = under-fits
 
-  ordered-order : (k : ℕ) (d : Float) → leZ (pos 1) p ≡ true → Order k p (ordered s k q p d)
+  ordered-order : (k : ℕ) (d : Float) → leZ (pos 1) p ≡ true → OrderFor k p (ordered s k q p d)
   unfolding ordered
   ordered-order k d h = record {
     symbol = refl;
@@ -84,12 +84,12 @@ module _ (s : Settings) (q p : ℤ) (f : SFits w64 q) where
 
 -- ---- closes and targets
 module _ (s : Settings) (equity : ℤ) (k : ℕ) (q p : ℤ) where
-  pub close-order : (wanted : Bool) → Order k p (plannedClose s equity k q p wanted)
+  pub close-order : (wanted : Bool) → OrderFor k p (plannedClose s equity k q p wanted)
   unfolding plannedClose
   close-order true = over-order k p
   close-order false = go (leZ (pos 1) p) refl
     where
-      go : (b : Bool) → leZ (pos 1) p ≡ b → Order k p (pick b (ordered s k (satNeg q) p (drift (value q p) equity)) (passedOver k))
+      go : (b : Bool) → leZ (pos 1) p ≡ b → OrderFor k p (pick b (ordered s k (satNeg q) p (drift (value q p) equity)) (passedOver k))
       go true h = ordered-order s (satNeg q) p (satNeg-fits q) k _ h
       go false h = over-order k p
 
@@ -97,11 +97,11 @@ module _ (s : Settings) (equity : ℤ) (k : ℕ) (q p : ℤ) where
   unfolding plannedClose
   close-wanted = refl
 
-  pub target-order : (w : Float) → Order k p (plannedTarget s equity k q p w)
+  pub target-order : (w : Float) → OrderFor k p (plannedTarget s equity k q p w)
   unfolding plannedTarget
   target-order w = go (leZ (pos 1) p) refl
     where
-      go : (b : Bool) → leZ (pos 1) p ≡ b → Order k p (pick b (ordered s k (sized (gapOf equity q p w) p (s .«quantity_step»)) p (drift (gapOf equity q p w) equity)) (passedOver k))
+      go : (b : Bool) → leZ (pos 1) p ≡ b → OrderFor k p (pick b (ordered s k (sized (gapOf equity q p w) p (s .«quantity_step»)) p (drift (gapOf equity q p w) equity)) (passedOver k))
       go true h = ordered-order s (sized (gapOf equity q p w) p (s .«quantity_step»)) p (sized-fits (gapOf equity q p w) p (s .«quantity_step»)) k _ h
       go false h = over-order k p
 
@@ -134,7 +134,7 @@ module _ (s : Settings) (equity : ℤ) (price : ℕ → ℤ) (targets : List ℕ
   unfolding closing
   closing-is p = refl
 
-  pub closing-order : (p : Position) → Order (keyOf p) (price (keyOf p)) (closing s equity price targets p)
+  pub closing-order : (p : Position) → OrderFor (keyOf p) (price (keyOf p)) (closing s equity price targets p)
   unfolding closing
   closing-order p = close-order s equity (keyOf p) (p .quantity .0) (price (keyOf p)) (among (keyOf p) targets)
 
@@ -159,7 +159,7 @@ module _ (s : Settings) (equity : ℤ) (price : ℕ → ℤ) (held : List Positi
   unfolding targeting
   targeting-is k w = refl
 
-  pub targeting-order : (k : ℕ) (w : Float) → Order k (price k) (targeting s equity price held k w)
+  pub targeting-order : (k : ℕ) (w : Float) → OrderFor k (price k) (targeting s equity price held k w)
   unfolding targeting
   targeting-order k w = target-order s equity k (holding k held .quantity .0) (price k) w
 

@@ -17,7 +17,8 @@ use Rattle.call_lists.specs.Lists.{among, distinct}
 use Rattle.call_lists.proofs.Lists.{among-own, among-other, among-more, distinct-first, distinct-rest}
 use Rattle.account.specs.declared.settings.Settings.{Settings}
 use Rattle.wanted.specs.declared.plan.PlannedOrder.{PlannedOrder}
-use Rattle.wanted.specs.Plan.{plannedClose, closing, closings, orderCount}
+use Rattle.wanted.specs.Plan.{plannedClose, closing, closings}
+use Rattle.wanted.specs.Inner.Plan.{orderCount}
 
 -- ---- the count of a list of orders
 pub count-append : (os rs : List PlannedOrder) → orderCount (os ++ rs) ≡ orderCount os + orderCount rs

@@ -13,13 +13,14 @@ use Rattle.sums.specs.Sums.{satAdd, value}
 use Rattle.sums.proofs.Ints.{satAdd-fits}
 use Rattle.position.specs.declared.position.Position.{Position}
 use Rattle.position.specs.Rows.{fresh}
-use Rattle.table.specs.Keyed.{Rising}
-use Rattle.table.specs.Places.{shorter}
+use Rattle.table.specs.Inner.Keyed.{Rising}
+use Rattle.table.specs.Inner.Places.{shorter}
 use Rattle.table.proofs.Places as places
 use Rattle.table.specs.Rows.{Cols, rows, zipped, Full}
 use Rattle.table.proofs.Zipped.{zipped-length, zipped-at}
 use Rattle.call_lists.specs.Lists.{priceOf}
-use Rattle.wanted.specs.Equity.{worth, worthFrom, worthPlaces, Worth, equityOf}
+use Rattle.wanted.specs.Equity.{worth, worthFrom, equityOf}
+use Rattle.wanted.specs.Inner.Equity.{worthPlaces, Worth}
 
 -- ---- by places
 pub worth-none : (price : ℕ → ℤ) (ks : List ℕ) (qs : List ℤ) → worthPlaces price 0 ks qs ≡ pos 0

@@ -1,5 +1,5 @@
 -- The orders that a rebalance wants, before any cap: "Priced open holdings absent from targets are closed, in symbol order [..] Then targets in list order".
-use Prim.Native.Nat.{ℕ, _+_}
+use Prim.Native.Nat.{ℕ}
 use mathlib.Core.Bool.{Bool, false, not}
 use mathlib.Core.List.{List, [], _∷_, _++_}
 use lib.IntN.{ℤ, pos}
@@ -10,7 +10,7 @@ use Rattle.doubles.specs.Doubles.{toI64, ofI64}
 use Rattle.position.specs.declared.position.Position.{Position}
 use Rattle.position.specs.Rows.{keyOf, shares, symbol}
 use Rattle.table.specs.Keyed.{pick, both}
-use Rattle.table.specs.Rows.{holding, isZero}
+use Rattle.table.specs.Rows.{holding}
 use Rattle.sizing.specs.Sizing.{sized, cutTo, drift}
 use Rattle.call_lists.specs.Lists.{among}
 use Rattle.account.specs.declared.settings.Settings.{Settings}
@@ -80,8 +80,3 @@ targetings s equity price held (k ∷ ks) (w ∷ ws) = targeting s equity price 
 unfoldable pub wanted : Settings → ℤ → (ℕ → ℤ) → List Position → List ℕ → List Float → List PlannedOrder
 wanted s equity price held targets weights =
     closings s equity price targets held ++ targetings s equity price held targets weights
-
--- how many of them are orders
-unfoldable pub orderCount : List PlannedOrder → ℕ
-orderCount [] = 0
-orderCount (o ∷ os) = pick (isZero (o .quantity .0)) (orderCount os) (orderCount os + 1)

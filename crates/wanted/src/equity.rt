@@ -1,6 +1,6 @@
 // What the positions are worth at the listed prices.
 ghost use mathlib.Core.Path.{_≡_};
-ghost use Rattle.wanted.specs.Equity.{Worth};
+ghost use Rattle.wanted.specs.Inner.Equity.{Worth};
 use call_lists::quote;
 use table::used;
 

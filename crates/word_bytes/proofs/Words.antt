@@ -8,7 +8,8 @@ use lib.Dec.{ltb}
 use lib.ListN.{length, getD, take, drop, set, length-drop, take-append-drop, List·getD-eq-default}
 use lib.Seq.{sets, length-sets, sets-eq, take-set-le, drop-set-add, drop-cons, getD-set-same, getD-set-other, set-out, take-all, drop-drop, length-take-le}
 use borrow.Author.Tests.{lt-ltb, le-ltb, ltb-true, ltb-false}
-use Rattle.word_bytes.specs.Words.{little, big, digits, wordsIn, wordsOf, bytesOf, wordAt, putWord, turned, symbolAt, putSymbol, eightAt}
+use Rattle.word_bytes.specs.Words.{little, big, digits, wordsIn, wordsOf, bytesOf, wordAt, putWord, turned, symbolAt, putSymbol}
+use Rattle.word_bytes.specs.Inner.Words.{eightAt}
 
 -- how many numbers n bytes hold
 abbrev pub whole : ℕ → ℕ

@@ -1,3 +1,4 @@
 -- What the contracts of this crate cite.
 pub mod Words
 pub mod Numbers
+pub mod Inner

@@ -52,8 +52,3 @@ symbolAt l i = turned (wordAt l i)
 
 abbrev pub putSymbol : List ℕ → ℕ → ℕ → List ℕ
 putSymbol l i s = putWord l i (turned s)
-
--- ---- what the code does
--- the eight bytes from a place on
-abbrev pub eightAt : List ℕ → ℕ → List ℕ
-eightAt l at = getD l at 0 ∷ getD l (at + 1) 0 ∷ getD l (at + 2) 0 ∷ getD l (at + 3) 0 ∷ getD l (at + 4) 0 ∷ getD l (at + 5) 0 ∷ getD l (at + 6) 0 ∷ getD l (at + 7) 0 ∷ []

@@ -4,7 +4,8 @@ ghost use mathlib.Core.List.{_∷_, []};
 ghost use Prim.Native.Nat.{_+_, _≤_, _<_, _%_};
 ghost use lib.ListN.{length, getD};
 ghost use lib.Seq.{sets};
-ghost use Rattle.word_bytes.specs.Words.{little, big, eightAt};
+ghost use Rattle.word_bytes.specs.Words.{little, big};
+ghost use Rattle.word_bytes.specs.Inner.Words.{eightAt};
 
 // A byte as a number.
 fn byte(bytes: &[u8], at: usize) -> u64

@@ -4,7 +4,8 @@ use mir.Syntax.{w64}
 use mir.Val.{SFits}
 use mir.Facts.{toZ-ofZ}
 use borrow.Author.Needs.{needs}
-use Rattle.table.specs.Rows.{Cols, cols, counted, Ordered}
+use Rattle.table.specs.Rows.{Cols, cols}
+use Rattle.table.specs.Inner.Rows.{counted, Ordered}
 use Rattle.fills.specs.Inner.Runs.{Fills}
 use Rattle.c_fill.specs.Single.{heldOf, termsOf, orderOf}
 use Rattle.c_fill.proofs.Alone.{Holds, entered-holds, withCount, filled-ordered, filled-seen}

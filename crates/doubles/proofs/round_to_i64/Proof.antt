@@ -7,7 +7,7 @@ use mir.ValLaws.{toZ-ofZ}
 use lib.Dec.{leb}
 use lib.Ieee.{binary64, toBits, toSigned}
 use Rattle.doubles.specs.Doubles.{roundAway}
-use Rattle.doubles.specs.Fields.{exponentOf, fractionOf, unitsOf, signedOf}
+use Rattle.doubles.specs.Fields.{exponentOf, fractionOf, unitsOf, signedSize}
 use Rattle.doubles.proofs.Fields.{yes, Sized, unlike-itself, like-itself, sign-of-bits, sized}
 use Rattle.doubles.proofs.Away.{away-above, cast-below}
 use Rattle.doubles.proofs.round_to_i64.Statement.{statement}
@@ -40,7 +40,7 @@ returns-2 c =
     let h = yes (s .good .0 .1) in
     let b = toBits binary64 x in
     toZ-ofZ w64 (c .signed .result) (record { sfits = c .signed .ok }) ∙ c .signed .ensures
-    ∙ (λ i. signedOf (sign-of-bits x h i) (c .before .nearest-whole .ensures i))
+    ∙ (λ i. signedSize (sign-of-bits x h i) (c .before .nearest-whole .ensures i))
     ∙ cast-below x h (leb (2 ^ 63) b) b (e .exponent .result) (size (e .before)) (e .exponent .ensures) (c .before .before .if2 .taken)
 
 to-i64-requires : tie.Need-to-i64-requires

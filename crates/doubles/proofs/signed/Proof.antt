@@ -8,7 +8,7 @@ use lib.IntN.{ℤ, pos, negℤ, _-ℤ_, +ℤ-idl}
 use mir.Syntax.{w64}
 use mir.Val.{SFits, toZ}
 use mir.ValLaws.{toZ-pos, toZ-ofZ}
-use Rattle.doubles.specs.Fields.{signedOf}
+use Rattle.doubles.specs.Fields.{signedSize}
 use Rattle.doubles.proofs.signed.Statement.{statement}
 use Rattle.doubles.proofs.signed.Tie as tie
 
@@ -38,12 +38,12 @@ returns : tie.Need-returns
 returns c =
     let n = c .before .before .args .size in
     toZ-ofZ w64 (pos 0 -ℤ toZ w64 n) (negated-fits n (c .if2 .taken)) ∙ turned n (c .if2 .taken)
-    ∙ ap (λ (x : ℕ). negℤ (pos x)) (kept n (2 ^ 63) (omega arith)) ∙ ap (λ (s : Bool). signedOf s n) (sym (c .before .if1 .taken))
+    ∙ ap (λ (x : ℕ). negℤ (pos x)) (kept n (2 ^ 63) (omega arith)) ∙ ap (λ (s : Bool). signedSize s n) (sym (c .before .if1 .taken))
 
 returns-2 : tie.Need-returns-2
 returns-2 c =
     let n = c .before .before .args .size in
-    ap (λ (x : ℕ). negℤ (pos x)) (held n (2 ^ 63) (c .if2 .left)) ∙ ap (λ (s : Bool). signedOf s n) (sym (c .before .if1 .taken))
+    ap (λ (x : ℕ). negℤ (pos x)) (held n (2 ^ 63) (c .if2 .left)) ∙ ap (λ (s : Bool). signedSize s n) (sym (c .before .if1 .taken))
 
 cast-result-2 : tie.Need-cast-result-2
 cast-result-2 c = search needs
@@ -51,12 +51,12 @@ cast-result-2 c = search needs
 returns-3 : tie.Need-returns-3
 returns-3 c =
     let n = c .before .before .args .size in
-    toZ-pos w64 n (c .if3 .taken) ∙ ap pos (kept n (2 ^ 63 - 1) (omega arith)) ∙ ap (λ (s : Bool). signedOf s n) (sym (c .before .if1 .left))
+    toZ-pos w64 n (c .if3 .taken) ∙ ap pos (kept n (2 ^ 63 - 1) (omega arith)) ∙ ap (λ (s : Bool). signedSize s n) (sym (c .before .if1 .left))
 
 returns-4 : tie.Need-returns-4
 returns-4 c =
     let n = c .before .before .args .size in
-    ap pos (held n (2 ^ 63 - 1) (omega arith)) ∙ ap (λ (s : Bool). signedOf s n) (sym (c .before .if1 .left))
+    ap pos (held n (2 ^ 63 - 1) (omega arith)) ∙ ap (λ (s : Bool). signedSize s n) (sym (c .before .if1 .left))
 
 pub signed-spec : {M : Type 1} → statement M
 signed-spec =

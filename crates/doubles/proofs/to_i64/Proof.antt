@@ -6,7 +6,7 @@ use mir.Syntax.{w64}
 use mir.ValLaws.{toZ-ofZ}
 use lib.Dec.{leb}
 use lib.Ieee.{binary64, toBits, toSigned}
-use Rattle.doubles.specs.Fields.{signedOf}
+use Rattle.doubles.specs.Fields.{signedSize}
 use Rattle.doubles.proofs.Fields.{yes, unlike-itself, like-itself, sign-of-bits, sized}
 use Rattle.doubles.proofs.Whole.{cast-whole}
 use Rattle.doubles.proofs.to_i64.Statement.{statement}
@@ -32,7 +32,7 @@ returns-2 c =
     let h = yes (s .good .0 .1) in
     let b = toBits binary64 x in
     toZ-ofZ w64 (c .signed .result) (record { sfits = c .signed .ok }) ∙ c .signed .ensures
-    ∙ (λ i. signedOf (sign-of-bits x h i) (c .before .whole-part .ensures i))
+    ∙ (λ i. signedSize (sign-of-bits x h i) (c .before .whole-part .ensures i))
     ∙ cast-whole x (leb (2 ^ 63) b) b (sized x h (like-itself x (c .before .before .if1 .left)))
 
 pub to-i64-spec : {M : Type 1} → statement M

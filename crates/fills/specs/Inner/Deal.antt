@@ -43,20 +43,20 @@ trimmedTo t q got p cash =
     (noDeal p cash true (satSub (notional q p) (notional got p)))
     (dealt t got p cash true (satSub (notional q p) (notional got p)))
 
-unfoldable pub bought : Terms → ℤ → ℤ → ℤ → Deal
-bought t q p cash =
+unfoldable pub buyDeal : Terms → ℤ → ℤ → ℤ → Deal
+buyDeal t q p cash =
     pick (leZ (need (t .costs) q p) cash)
     (dealt t q p cash false (pos 0))
     (trimmedTo t q (affordable (t .costs) (t .«quantity_step») cash q p) p cash)
 
-unfoldable pub sold : Terms → ℤ → ℤ → ℤ → Deal
-sold t q p cash = pick (leZ (pos 0) (satSub cash (cashTaken (t .costs) q p))) (dealt t q p cash false (pos 0)) (noDeal p cash false (pos 0))
+unfoldable pub saleDeal : Terms → ℤ → ℤ → ℤ → Deal
+saleDeal t q p cash = pick (leZ (pos 0) (satSub cash (cashTaken (t .costs) q p))) (dealt t q p cash false (pos 0)) (noDeal p cash false (pos 0))
 
 unfoldable pub dealOf : Terms → Order → ℤ → Deal
 dealOf t o cash =
     pick (isZero (o .quantity .0))
     (noDeal (paid t o) cash false (pos 0))
-    (pick (buys o) (bought t (o .quantity .0) (paid t o) cash) (sold t (o .quantity .0) (paid t o) cash))
+    (pick (buys o) (buyDeal t (o .quantity .0) (paid t o) cash) (saleDeal t (o .quantity .0) (paid t o) cash))
 
 -- ---- what is written then
 unfoldable pub recordBy : Terms → Order → Deal → ℕ → ℤ → ExecutionRecord

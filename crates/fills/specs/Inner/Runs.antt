@@ -9,7 +9,8 @@ use Rattle.sums.specs.Sums.{satAdd}
 use Rattle.position.specs.Rows.{shares, symbol}
 use Rattle.position.specs.Shares.{isZero}
 use Rattle.table.specs.Keyed.{pick}
-use Rattle.table.specs.Rows.{zip2, give, Cols, rows, Ordered}
+use Rattle.table.specs.Rows.{zip2, give, Cols, rows}
+use Rattle.table.specs.Inner.Rows.{Ordered}
 use Rattle.fills.specs.declared.deal.Deal.{Deal}
 use Rattle.fills.specs.declared.fill.Filled.{Filled}
 use Rattle.fills.specs.declared.order.Book.{Book}

@@ -6,7 +6,7 @@ use Prim.Native.Nat.{_<_}
 use lib.ListN.{length}
 use borrow.Author.Tests.{lt-ltb, le-ltb, not-true, not-false}
 use Rattle.metrics.specs.Answers.{metricsOf}
-use Rattle.metrics.specs.Gathered.{gathered}
+use Rattle.metrics.specs.Inner.Gathered.{gathered}
 use Rattle.metrics.proofs.OnePass.{figures-are}
 use Rattle.metrics.proofs.compute_metrics.Statement.{statement}
 use Rattle.metrics.proofs.compute_metrics.Tie as tie

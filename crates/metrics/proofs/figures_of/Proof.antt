@@ -1,7 +1,7 @@
 -- `metrics::figures_of` meets its contract, by what its six calls ensure.
 use borrow.Author.Needs.{needs}
 use lib.Ieee.{ofBits}
-use Rattle.metrics.specs.Gathered.{tallyPayoff, figuresFrom}
+use Rattle.metrics.specs.Inner.Gathered.{tallyPayoff, figuresFrom}
 use Rattle.metrics.proofs.figures_of.Statement.{statement}
 use Rattle.metrics.proofs.figures_of.Tie as tie
 

@@ -2,7 +2,8 @@
 use mathlib.Core.Path.{_∙_, sym, ap}
 use borrow.Author.Needs.{needs}
 use Rattle.table.specs.Rows.{columnsOf}
-use Rattle.account.specs.Calls.{present, foundIn}
+use Rattle.account.specs.Calls.{present}
+use Rattle.account.specs.Inner.Calls.{foundIn}
 use Rattle.account.proofs.holding.found_in.Statement.{statement}
 use Rattle.account.proofs.holding.found_in.Tie as tie
 

@@ -11,7 +11,7 @@ use borrow.Author.Tests.{not-true, not-false, lt-ltb, le-ltb}
 use Rattle.account.specs.declared.settings.Settings.{Settings}
 use Rattle.account.specs.Settings.{ofCosts, openingSettings}
 use Rattle.account.specs.Account.{soundScalars}
-use Rattle.account.specs.Calls.{openAccount, opened, opening}
+use Rattle.account.specs.Calls.{openAccount, openedWith, opening}
 use Rattle.account.proofs.opening.with_quantity_step.Statement.{statement}
 use Rattle.account.proofs.opening.with_quantity_step.Tie as tie
 
@@ -44,7 +44,7 @@ unfolding opening
 returns c =
     let s = c .before .before .before .before .before in
     let t = sym (same-test (c .before .before)) ∙ not-true _ (c .before .if1 .taken) in
-    rw t (ap (λ r. opened r (s .args .equity .now)) (c .refused .ensures))
+    rw t (ap (λ r. openedWith r (s .args .equity .now)) (c .refused .ensures))
 
 refused-requires-2 : tie.Need-refused-requires-2
 refused-requires-2 c κs = search needs
@@ -56,7 +56,7 @@ returns-2 c =
     let s = o .before .before .before .before in
     let t = sym (same-test (o .before)) ∙ not-false _ (o .if1 .left) in
     let l : length (s .args .equity .now) ≤ 0 = omega arith in
-    rw (t, le-ltb 0 (length (s .args .equity .now)) l) (ap (λ r. opened r (s .args .equity .now)) (c .refused2 .ensures))
+    rw (t, le-ltb 0 (length (s .args .equity .now)) l) (ap (λ r. openedWith r (s .args .equity .now)) (c .refused2 .ensures))
 
 slice-set-from-initial-cash : tie.Need-slice-set-from-initial-cash
 slice-set-from-initial-cash c = search needs

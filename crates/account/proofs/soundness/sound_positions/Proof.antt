@@ -6,7 +6,8 @@ use native.Mathlib.Omega.{arith}
 use borrow.Author.Needs.{needs}
 use borrow.Author.Tests.{not-true, not-false}
 use Rattle.position.specs.Fills.{sound}
-use Rattle.table.specs.Rows.{Cols, cols, heldAt}
+use Rattle.table.specs.Rows.{Cols, cols}
+use Rattle.table.specs.Inner.Rows.{heldAt}
 use Rattle.table.specs.declared.found.Found.the-variants.{At}
 use Rattle.account.specs.Account.{soundPlaces}
 use Rattle.account.proofs.Columns.{sound-on, sound-not}

@@ -7,7 +7,7 @@ use lib.Seq.{sets}
 use mir.Syntax.{w64}
 use mir.Val.{SFits}
 use Rattle.table.specs.Rows.{cols}
-use Rattle.account.specs.Account.{accountWith}
+use Rattle.account.specs.Inner.Account.{accountWith}
 use Rattle.word_bytes.specs.Words.{wordsOf}
 use Rattle.word_bytes.specs.Numbers.{unsignedOf}
 use Rattle.word_bytes.proofs.Words.{octets, length-words, words-put}

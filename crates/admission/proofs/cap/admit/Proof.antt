@@ -11,9 +11,9 @@ use mir.Val.{SFits, toZ, ofZ}
 use mir.Facts.{toZ-ofZ}
 use borrow.Author.Needs.{needs}
 use Rattle.table.proofs.Places.{shorter-within}
-use Rattle.admission.specs.Columns.{cols, orderAt, from, plans, counted}
+use Rattle.admission.specs.Inner.Columns.{planCols, orderAt, from, plans, countedPlan}
 use Rattle.admission.specs.Admission.{admittedFrom, admitted}
-use Rattle.admission.specs.Offers.{offered}
+use Rattle.admission.specs.Inner.Offers.{offered}
 use Rattle.admission.proofs.Admitting.{admit-start, admit-on, admit-ends, admit-part, admit-all, cut-whole, cut-part}
 use Rattle.admission.proofs.cap.admit.Statement.{statement}
 use Rattle.admission.proofs.cap.admit.Tie as tie
@@ -22,7 +22,7 @@ abbrev Inv-loop : tie.InvT-loop
 Inv-loop quantity₀ price n s m left₀ i₀ quantity left i =
     (i ≤ m) × (m ≤ 64) × (length quantity₀ ≡ 64) × (quantity ≡ quantity₀)
     × ((k : List ℕ) (d : List Float)
-    → from (orderAt (cols k quantity₀ price d)) 0 i ++ admittedFrom s i (toZ w64 left) (from (orderAt (cols k quantity₀ price d)) i (m - i)) ≡ admitted s (plans n (cols k quantity₀ price d)))
+    → from (orderAt (planCols k quantity₀ price d)) 0 i ++ admittedFrom s i (toZ w64 left) (from (orderAt (planCols k quantity₀ price d)) i (m - i)) ≡ admitted s (plans n (planCols k quantity₀ price d)))
 
 abbrev μ-loop : tie.MeasureT-loop
 μ-loop quantity₀ price n s m left₀ i₀ quantity left i = m - i
@@ -62,7 +62,7 @@ loop-holds c =
       omega (arith, u .ensures, shorter-within (a .n) 64),
       c .before .before .whole-numbers .ensures,
       refl,
-      λ k d. simp (toZ-ofZ (fit-most s)) (admit-start (a .s) (a .n) (u .result) (cols k (a .quantity .now) (a .price .now) d) (u .ensures)),
+      λ k d. simp (toZ-ofZ (fit-most s)) (admit-start (a .s) (a .n) (u .result) (planCols k (a .quantity .now) (a .price .now) d) (u .ensures)),
     )
 
 mul-q : tie.Need-mul-q Inv-loop μ-loop
@@ -114,10 +114,10 @@ returns c =
     let cut = o .given .0 .0 in
     let x : SFits w64 (w .result) = record { sfits = w .ok } in
     λ k e.
-    ap (λ q. counted (i + 1) (cols k (set q i (toZ w64 (ofZ w64 (w .result)))) (a .price .now) e)) (l .loop .inv .3)
-    ∙ ap (λ z. counted (i + 1) (cols k (set (a .quantity .now) i z) (a .price .now) e)) (toZ-ofZ x ∙ w .ensures)
+    ap (λ q. countedPlan (i + 1) (planCols k (set q i (toZ w64 (ofZ w64 (w .result)))) (a .price .now) e)) (l .loop .inv .3)
+    ∙ ap (λ z. countedPlan (i + 1) (planCols k (set (a .quantity .now) i z) (a .price .now) e)) (toZ-ofZ x ∙ w .ensures)
     ∙ cut-part (a .s) (a .n) k (a .quantity .now) (a .price .now) e i (l .loop .inv .2) (cut .0) (omega (arith, t))
-    (admit-part (a .s) (a .n) m i (toZ w64 (l .loop .left)) (orderAt (cols k (a .quantity .now) (a .price .now) e)) _ t (l .loop .inv .4 k e) cut (offer-is d ∙ o .given .1))
+    (admit-part (a .s) (a .n) m i (toZ w64 (l .loop .left)) (orderAt (planCols k (a .quantity .now) (a .price .now) e)) _ t (l .loop .inv .4 k e) cut (offer-is d ∙ o .given .1))
 
 enum-told : tie.Need-enum-told Inv-loop μ-loop
 enum-told c = search needs
@@ -131,9 +131,9 @@ returns-2 c =
     let i = l .loop .i in
     let t = d .before .before .before .before .loop-test .taken in
     λ k e.
-    ap (λ q. counted i (cols k q (a .price .now) e)) (l .loop .inv .3)
+    ap (λ q. countedPlan i (planCols k q (a .price .now) e)) (l .loop .inv .3)
     ∙ cut-whole (a .s) (a .n) k (a .quantity .now) (a .price .now) e i (l .loop .inv .2) (omega (arith, t))
-    (admit-ends (a .s) (a .n) m i (toZ w64 (l .loop .left)) (orderAt (cols k (a .quantity .now) (a .price .now) e)) _ t (l .loop .inv .4 k e) (offer-is d ∙ c .enum-told .given .1))
+    (admit-ends (a .s) (a .n) m i (toZ w64 (l .loop .left)) (orderAt (planCols k (a .quantity .now) (a .price .now) e)) _ t (l .loop .inv .4 k e) (offer-is d ∙ c .enum-told .given .1))
 
 add-i : tie.Need-add-i Inv-loop μ-loop
 add-i c = omega arith
@@ -157,7 +157,7 @@ loop-again c =
       l .loop .inv .3,
       λ k e.
           simp (toZ-ofZ x)
-          (admit-on (a .s) (a .n) m i (toZ w64 (l .loop .left)) (orderAt (cols k (a .quantity .now) (a .price .now) e)) _ t (l .loop .inv .4 k e) rest (offer-is d ∙ c .before .o .given .1)),
+          (admit-on (a .s) (a .n) m i (toZ w64 (l .loop .left)) (orderAt (planCols k (a .quantity .now) (a .price .now) e)) _ t (l .loop .inv .4 k e) rest (offer-is d ∙ c .before .o .given .1)),
     )
 
 returns-3 : tie.Need-returns-3 Inv-loop μ-loop
@@ -168,10 +168,10 @@ returns-3 c =
     let i = l .loop .i in
     let z : m ≡ i = omega arith in
     λ k e.
-    ap (λ q. counted m (cols k q (a .price .now) e)) (l .loop .inv .3)
+    ap (λ q. countedPlan m (planCols k q (a .price .now) e)) (l .loop .inv .3)
     ∙ cut-whole (a .s) (a .n) k (a .quantity .now) (a .price .now) e m (l .loop .inv .2) (l .loop .inv .1)
-    (ap (from (orderAt (cols k (a .quantity .now) (a .price .now) e)) 0) z
-    ∙ admit-all (a .s) m i (toZ w64 (l .loop .left)) (orderAt (cols k (a .quantity .now) (a .price .now) e)) _ (c .loop-test .left) (l .loop .inv .4 k e))
+    (ap (from (orderAt (planCols k (a .quantity .now) (a .price .now) e)) 0) z
+    ∙ admit-all (a .s) m i (toZ w64 (l .loop .left)) (orderAt (planCols k (a .quantity .now) (a .price .now) e)) _ (c .loop-test .left) (l .loop .inv .4 k e))
 
 pub admit-spec : {M : Type 1} → statement M
 admit-spec =

@@ -2,10 +2,10 @@
 use Prim.Native.Nat.{ℕ}
 use mathlib.Core.Path.{_≡_, sym, _∙_}
 use borrow.Author.Needs.{needs}
-use Rattle.table.specs.Places.{shorter}
+use Rattle.table.specs.Inner.Places.{shorter}
 use Rattle.account.specs.declared.settings.Settings.{Settings}
 use Rattle.account.specs.declared.settings.TradeCap.the-variants.{Absent, AtMost}
-use Rattle.admission.specs.Admission.{mostOf}
+use Rattle.admission.specs.Inner.Admission.{mostOf}
 use Rattle.admission.proofs.cap.most_of.Statement.{statement}
 use Rattle.admission.proofs.cap.most_of.Tie as tie
 

@@ -3,7 +3,7 @@ use Prim.Native.Nat.{ℕ}
 use mathlib.Core.Path.{ap, _∙_}
 use borrow.Author.Needs.{needs}
 use borrow.Author.Tests.{not-true, not-false}
-use Rattle.c_accounts.specs.Entries.{told}
+use Rattle.c_accounts.specs.Entries.{accountTold}
 use Rattle.c_accounts.proofs.Filing.{file-not-done, file-bad, file-done}
 use Rattle.c_accounts.proofs.filed.file.Statement.{statement}
 use Rattle.c_accounts.proofs.filed.file.Tie as tie
@@ -25,7 +25,7 @@ returns-2 c =
     let z = c .before .before in
     let n = z .before in
     let s = n .before .before .args in
-    ap (λ (k : ℕ). told k (s .bytes .now)) (c .number2 .ensures) ∙ file-bad (s .given) (n .number .result) (s .c) (s .bytes .now) (n .number .ensures) (z .if1 .left) (not-true _ (c .before .if2 .taken))
+    ap (λ (k : ℕ). accountTold k (s .bytes .now)) (c .number2 .ensures) ∙ file-bad (s .given) (n .number .result) (s .c) (s .bytes .now) (n .number .ensures) (z .if1 .left) (not-true _ (c .before .if2 .taken))
 
 write-account-requires : tie.Need-write-account-requires
 write-account-requires c κs = search needs

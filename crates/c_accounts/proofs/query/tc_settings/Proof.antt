@@ -2,7 +2,7 @@
 use Prim.Native.Nat.{ℕ}
 use mathlib.Core.Path.{_∙_, ap}
 use borrow.Author.Needs.{needs}
-use Rattle.c_accounts.specs.Entries.{told}
+use Rattle.c_accounts.specs.Entries.{accountTold}
 use Rattle.c_accounts.proofs.Telling.{settings-unsound, settings-short, settings-done}
 use Rattle.c_accounts.proofs.query.tc_settings.Statement.{statement}
 use Rattle.c_accounts.proofs.query.tc_settings.Tie as tie
@@ -30,7 +30,7 @@ returns-2 c =
     let u = o .before in
     let a = u .before in
     let s = a .before .before .before .args in
-    ap (λ (n : ℕ). told n (s .out .now)) (c .number .ensures) ∙ settings-short (s .account .now) (s .out .now) (a .account-in .result) (u .unless-unsound .result) (a .account-in .ensures) (u .unless-unsound .ensures) (o .if1 .left) (f .if2 .taken)
+    ap (λ (n : ℕ). accountTold n (s .out .now)) (c .number .ensures) ∙ settings-short (s .account .now) (s .out .now) (a .account-in .result) (u .unless-unsound .result) (a .account-in .ensures) (u .unless-unsound .ensures) (o .if1 .left) (f .if2 .taken)
 
 write-settings-requires : tie.Need-write-settings-requires
 write-settings-requires c κs = search needs

@@ -6,7 +6,7 @@ use lib.ListN.{length}
 use borrow.Author.Needs.{needs}
 use Rattle.word_bytes.proofs.Words.{octets}
 use Rattle.account_bytes.proofs.Writing.{bytes-are}
-use Rattle.c_accounts.specs.Entries.{told}
+use Rattle.c_accounts.specs.Entries.{accountTold}
 use Rattle.c_accounts.proofs.Telling.{tell-unsound, tell-short, tell-refused, tell-done}
 use Rattle.c_accounts.proofs.query.tell.Statement.{statement}
 use Rattle.c_accounts.proofs.query.tell.Tie as tie
@@ -25,7 +25,7 @@ returns-2 c =
     let t = c .before in
     let e = t .before in
     let s = e .before .before .before .args in
-    ap (λ (n : ℕ). told n (s .out .now)) (c .number .ensures) ∙ tell-short (s .number) (s .words .now) (s .out .now) (e .if1 .left) (t .if2 .taken)
+    ap (λ (n : ℕ). accountTold n (s .out .now)) (c .number .ensures) ∙ tell-short (s .number) (s .words .now) (s .out .now) (e .if1 .left) (t .if2 .taken)
 
 returns-3 : tie.Need-returns-3
 returns-3 c =

@@ -1,7 +1,7 @@
 -- By the two tests.
 use borrow.Author.Needs.{needs}
 use borrow.Author.Tests.{not-true, not-false}
-use Rattle.c_queries.specs.Asked.{early}
+use Rattle.c_queries.specs.Inner.Asked.{early}
 use Rattle.c_queries.proofs.asked.early.Statement.{statement}
 use Rattle.c_queries.proofs.asked.early.Tie as tie
 

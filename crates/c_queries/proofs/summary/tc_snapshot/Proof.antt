@@ -6,7 +6,7 @@ use borrow.Author.Needs.{needs}
 use borrow.Author.Tests.{eqb-true}
 use Rattle.table.specs.Keyed.{both}
 use Rattle.table.proofs.Keyed.{both-true}
-use Rattle.c_queries.specs.Asked.{early}
+use Rattle.c_queries.specs.Inner.Asked.{early}
 use Rattle.c_queries.specs.Reports.{snapshotIn}
 use Rattle.c_queries.proofs.Asking.{Read, read, few-prices, has-room, refused-query, made-query}
 use Rattle.c_queries.proofs.Telling.{few-in-snapshot, snapshot-query}

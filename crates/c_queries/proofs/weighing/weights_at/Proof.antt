@@ -1,10 +1,10 @@
 -- As many prices as were read are lent.
 use borrow.Author.Needs.{needs}
-use Rattle.c_queries.proofs.Asking.{Lent, lent}
+use Rattle.c_queries.proofs.Asking.{LentPrices, lent}
 use Rattle.c_queries.proofs.weighing.weights_at.Statement.{statement}
 use Rattle.c_queries.proofs.weighing.weights_at.Tie as tie
 
-lent-at : (s : tie.Start) → Lent (s .args .p)
+lent-at : (s : tie.Start) → LentPrices (s .args .p)
 lent-at s = lent (s .args .p) (search needs) (search needs) (s .pre)
 
 array-share-prefix-symbol : tie.Need-array-share-prefix-symbol

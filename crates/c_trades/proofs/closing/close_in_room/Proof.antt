@@ -7,9 +7,9 @@ use lib.IntN.{pos}
 use lib.ListN.{length}
 use mir.Facts.{toZ-ofZ}
 use Rattle.table.specs.Rows.{Cols, cols}
-use Rattle.account.specs.Account.{accountWith}
+use Rattle.account.specs.Inner.Account.{accountWith}
 use Rattle.portfolio.specs.Rebalance.{Outcome}
-use Rattle.portfolio.specs.Close.{closed}
+use Rattle.portfolio.specs.Close.{positionClosed}
 use Rattle.fills.specs.Records.{kindOf}
 use borrow.Author.Needs.{needs}
 use Rattle.c_trades.proofs.Asking.{close-room}
@@ -25,7 +25,7 @@ columns-at s = cols (s .args .symbol .now) (s .args .quantity .now) (s .args .av
 
 -- the call, by how many places there are
 abbrev closing : tie.Start → ℕ → Outcome
-closing s = let a = s .args in closed (accountWith (a .h) (columns-at s)) (a .s) (a .price) (a .period) (kindOf (a .kind))
+closing s = let a = s .args in positionClosed (accountWith (a .h) (columns-at s)) (a .s) (a .price) (a .period) (kindOf (a .kind))
 
 -- what is lent of the two local arrays
 room-at : (c : tie.After-places) → Roomed (length (begun c .args .records .now) / 96) 1 (c .places .result) (0 ∷ 0 ∷ 0 ∷ 0 ∷ []) (pos 0 ∷ pos 0 ∷ pos 0 ∷ pos 0 ∷ pos 0 ∷ pos 0 ∷ pos 0 ∷ pos 0 ∷ [])

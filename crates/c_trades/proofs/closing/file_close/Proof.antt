@@ -5,11 +5,11 @@ use borrow.Author.Needs.{needs}
 use lib.ListN.{length}
 use mir.Facts.{toZ-ofZ}
 use Rattle.table.specs.Rows.{Cols, cols}
-use Rattle.account.specs.Account.{accountWith}
+use Rattle.account.specs.Inner.Account.{accountWith}
 use Rattle.portfolio.specs.declared.trade.Traded.{Traded}
-use Rattle.portfolio.specs.Answers.{places}
-use Rattle.portfolio.specs.Close.{closed}
-use Rattle.portfolio.specs.Trades.{tradedOn}
+use Rattle.portfolio.specs.Answers.{recordPlaces}
+use Rattle.portfolio.specs.Close.{positionClosed}
+use Rattle.portfolio.specs.Inner.Trades.{tradedOn}
 use Rattle.fills.specs.Records.{kindOf}
 use Rattle.c_trades.proofs.Finishing.{Finished, finishing}
 use Rattle.c_trades.proofs.closing.file_close.Statement.{statement}
@@ -26,7 +26,7 @@ abbrev traded : tie.After-close-on → Traded
 traded c = let l = c .close-on .last in tradedOn (c .close-on .result) (cols (l .1 .0) (l .1 .1 .0) (l .1 .1 .1 .0) (l .1 .1 .1 .1 .0) (l .1 .1 .1 .1 .1 .0))
 
 left-by : (c : tie.After-close-on) → let s = begun c in
-    Finished (closed (accountWith (s .args .h) (columns-at s)) (s .args .s) (s .args .price) (s .args .period) (kindOf (s .args .kind)) (places (length (s .args .words .now)) (length (s .args .ints .now))))
+    Finished (positionClosed (accountWith (s .args .h) (columns-at s)) (s .args .s) (s .args .price) (s .args .period) (kindOf (s .args .kind)) (recordPlaces (length (s .args .words .now)) (length (s .args .ints .now))))
     (traded c) (c .close-on .last .1 .1 .1 .1 .1 .1 .1 .1 .1 .1 .0) (c .close-on .last .1 .1 .1 .1 .1 .1 .1 .1 .1 .1 .1 .0) (s .args .records .now)
 left-by c =
     let s = begun c in

@@ -5,13 +5,13 @@ use lib.ListN.{length}
 use mir.Facts.{toZ-ofZ}
 use Rattle.portfolio.specs.Rebalance.{Outcome}
 use Rattle.c_trades.specs.Asked.{wholeRun}
-use Rattle.c_trades.specs.Told.{Told}
+use Rattle.c_trades.specs.Told.{TradeTold}
 use Rattle.c_trades.specs.Calls.{closeIn}
-use Rattle.c_trades.proofs.Calling.{Ready, ready, Call, no-account, refused-call, made-call, close-call}
+use Rattle.c_trades.proofs.Calling.{ReadyCall, ready, CallOnBytes, no-account, refused-call, made-call, close-call}
 use Rattle.c_trades.proofs.closing.tc_close_position_at.Statement.{statement}
 use Rattle.c_trades.proofs.closing.tc_close_position_at.Tie as tie
 
-abbrev call : (s : tie.Start) → Call Outcome Told (s .args .account .now)
+abbrev call : (s : tie.Start) → CallOnBytes Outcome TradeTold (s .args .account .now)
 call s = let a = s .args in close-call (a .account .now) (a .records .now) (a .period) (a .kind) (a .symbol) (a .price)
 
 abbrev begun : tie.After-is-account → tie.Start
@@ -20,7 +20,7 @@ begun c = c .before .before .before .before
 abbrev found : tie.After-early → tie.Else1
 found c = c .before .before .before .before .before .before .before .before .before .before .before .before .before .before .before .before
 
-abbrev in-hand : tie.After-early → Ready
+abbrev in-hand : tie.After-early → ReadyCall
 in-hand c =
     let g = found c in
     let w = c .before .before .before .before .before .before in

@@ -2,7 +2,7 @@
 use mathlib.Core.Path.{sym, _∙_}
 use borrow.Author.Needs.{needs}
 use borrow.Author.Tests.{not-true, not-false}
-use Rattle.c_trades.specs.Told.{finished}
+use Rattle.c_trades.specs.Inner.Told.{finished}
 use Rattle.c_trades.proofs.filing.finish.Statement.{statement}
 use Rattle.c_trades.proofs.filing.finish.Tie as tie
 

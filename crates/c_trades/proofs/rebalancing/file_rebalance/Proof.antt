@@ -4,13 +4,14 @@ use native.Mathlib.Omega.{arith}
 use borrow.Author.Needs.{needs}
 use lib.ListN.{length}
 use Rattle.table.specs.Rows.{Cols, cols}
-use Rattle.account.specs.Account.{accountWith}
-use Rattle.list_bytes.specs.Lists.{symbolsIn, weightsIn, pricesIn, listed}
+use Rattle.account.specs.Inner.Account.{accountWith}
+use Rattle.list_bytes.specs.Lists.{symbolsIn, weightsIn, pricesIn}
+use Rattle.list_bytes.specs.Inner.Lists.{entryColumns}
 use Rattle.list_bytes.proofs.Lists.{Fronts, target-fronts, price-fronts}
 use Rattle.portfolio.specs.declared.trade.Traded.{Traded}
-use Rattle.portfolio.specs.Answers.{places}
+use Rattle.portfolio.specs.Answers.{recordPlaces}
 use Rattle.portfolio.specs.Rebalance.{rebalanced}
-use Rattle.portfolio.specs.Trades.{tradedOn}
+use Rattle.portfolio.specs.Inner.Trades.{tradedOn}
 use Rattle.fills.specs.Records.{kindOf}
 use Rattle.c_trades.proofs.Finishing.{Finished, finishing}
 use Rattle.c_trades.proofs.rebalancing.file_rebalance.Statement.{statement}
@@ -36,15 +37,15 @@ abbrev traded : tie.After-rebalance-on → Traded
 traded c = let l = c .rebalance-on .last in tradedOn (c .rebalance-on .result) (cols (l .1 .0) (l .1 .1 .0) (l .1 .1 .1 .0) (l .1 .1 .1 .1 .0) (l .1 .1 .1 .1 .1 .0))
 
 -- what is lent of each column of the lists
-targets-lent : (c : tie.After-targets-into) → let l = begun c .args .targets .now in Fronts 64 l (weightsIn l) (listed (c .targets-into .result) (c .targets-into .last .1 .0) (c .targets-into .last .1 .1 .0))
+targets-lent : (c : tie.After-targets-into) → let l = begun c .args .targets .now in Fronts 64 l (weightsIn l) (entryColumns (c .targets-into .result) (c .targets-into .last .1 .0) (c .targets-into .last .1 .1 .0))
 targets-lent c = target-fronts _ _ _ (c .targets-into .ensures)
 
-prices-lent : (c : tie.After-prices-into) → let l = begun (targets-read c) .args .prices .now in Fronts 128 l (pricesIn l) (listed (c .prices-into .result) (c .prices-into .last .1 .0) (c .prices-into .last .1 .1 .0))
+prices-lent : (c : tie.After-prices-into) → let l = begun (targets-read c) .args .prices .now in Fronts 128 l (pricesIn l) (entryColumns (c .prices-into .result) (c .prices-into .last .1 .0) (c .prices-into .last .1 .1 .0))
 prices-lent c = price-fronts _ _ _ (c .prices-into .ensures)
 
 left-by : (c : tie.After-rebalance-on) → let s = start-of c in
     Finished (rebalanced (accountWith (s .args .h) (columns-at s)) (symbolsIn (s .args .targets .now)) (weightsIn (s .args .targets .now)) (symbolsIn (s .args .prices .now)) (pricesIn (s .args .prices .now))
-    (s .args .period) (kindOf (s .args .kind)) (places (length (s .args .words .now)) (length (s .args .ints .now))))
+    (s .args .period) (kindOf (s .args .kind)) (recordPlaces (length (s .args .words .now)) (length (s .args .ints .now))))
     (traded c) (c .rebalance-on .last .1 .1 .1 .1 .1 .1 .1 .1 .1 .1 .1 .1 .0) (c .rebalance-on .last .1 .1 .1 .1 .1 .1 .1 .1 .1 .1 .1 .1 .1 .0) (s .args .records .now)
 left-by c =
     let p = prices-read c in

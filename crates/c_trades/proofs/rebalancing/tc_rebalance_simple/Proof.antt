@@ -8,13 +8,13 @@ use Rattle.table.proofs.Keyed.{both-true}
 use Rattle.list_bytes.specs.Entries.{wholeList}
 use Rattle.portfolio.specs.Rebalance.{Outcome}
 use Rattle.c_trades.specs.Asked.{wholeRun}
-use Rattle.c_trades.specs.Told.{Told}
+use Rattle.c_trades.specs.Told.{TradeTold}
 use Rattle.c_trades.specs.Calls.{rebalanceIn}
-use Rattle.c_trades.proofs.Calling.{Ready, ready, all-whole, Call, no-account, refused-call, made-call, rebalance-call}
+use Rattle.c_trades.proofs.Calling.{ReadyCall, ready, all-whole, CallOnBytes, no-account, refused-call, made-call, rebalance-call}
 use Rattle.c_trades.proofs.rebalancing.tc_rebalance_simple.Statement.{statement}
 use Rattle.c_trades.proofs.rebalancing.tc_rebalance_simple.Tie as tie
 
-abbrev call : (s : tie.Start) → Call Outcome Told (s .args .account .now)
+abbrev call : (s : tie.Start) → CallOnBytes Outcome TradeTold (s .args .account .now)
 call s = let a = s .args in rebalance-call (a .account .now) (a .records .now) (a .period) (a .kind) (a .targets .now) (a .prices .now)
 
 -- whether all that is lent is whole
@@ -36,7 +36,7 @@ whole-is c =
     let l = w .before in
     simp (l .before .before .is-whole .ensures, l .before .is-whole2 .ensures, l .both .ensures, w .whole-run .ensures) at (c .both2 .ensures)
 
-abbrev in-hand : tie.After-early → Ready
+abbrev in-hand : tie.After-early → ReadyCall
 in-hand c =
     let w = tested c in
     let g = found w in

@@ -3,12 +3,14 @@ use mathlib.Core.Path.{_≡_, sym, ap, _∙_}
 use borrow.Author.Needs.{needs}
 use Rattle.table.specs.Rows.{Cols, cols}
 use Rattle.account.specs.declared.account.Account.{Account}
-use Rattle.account.specs.Account.{accountWith}
-use Rattle.list_bytes.specs.Lists.{symbolsIn, pricesIn, listed}
+use Rattle.account.specs.Inner.Account.{accountWith}
+use Rattle.list_bytes.specs.Lists.{symbolsIn, pricesIn}
+use Rattle.list_bytes.specs.Inner.Lists.{entryColumns}
 use Rattle.list_bytes.proofs.Lists.{Fronts, price-fronts}
-use Rattle.portfolio.specs.Returns.{recorded, notedBy}
+use Rattle.portfolio.specs.Returns.{recorded}
+use Rattle.portfolio.specs.Inner.Returns.{notedBy}
 use Rattle.c_trades.specs.Asked.{accountIn}
-use Rattle.c_trades.specs.Returns.{noted}
+use Rattle.c_trades.specs.Returns.{returnTold}
 use Rattle.c_trades.proofs.Holding.{series-kept}
 use Rattle.c_trades.proofs.recording.file_return.Statement.{statement}
 use Rattle.c_trades.proofs.recording.file_return.Tie as tie
@@ -23,7 +25,7 @@ abbrev columns-at : tie.Start → Cols
 columns-at s = cols (s .args .symbol .now) (s .args .quantity .now) (s .args .average .now) (s .args .realized .now) (s .args .total .now)
 
 -- what is lent of each column of the prices
-fronts : (c : tie.After-prices-into) → let l = begun c .args .prices .now in Fronts 128 l (pricesIn l) (listed (c .prices-into .result) (c .prices-into .last .1 .0) (c .prices-into .last .1 .1 .0))
+fronts : (c : tie.After-prices-into) → let l = begun c .args .prices .now in Fronts 128 l (pricesIn l) (entryColumns (c .prices-into .result) (c .prices-into .last .1 .0) (c .prices-into .last .1 .1 .0))
 fronts c = price-fronts _ _ _ (c .prices-into .ensures)
 
 made : (c : tie.After-return-on) → let s = begun (prices-read c) in
@@ -73,7 +75,7 @@ returns c =
     let t = k .before .before .before .before .before in
     let s = begun (prices-read t) in
     let b = s .args .account .now in
-    simp (k .keep .ensures .0, k .keep .ensures .1) (series-kept b (s .args .h) (columns-at s) (s .pre .1) (t .return-on .result) _ _ ∙ ap (λ o. noted o b) (made t))
+    simp (k .keep .ensures .0, k .keep .ensures .1) (series-kept b (s .args .h) (columns-at s) (s .pre .1) (t .return-on .result) _ _ ∙ ap (λ o. returnTold o b) (made t))
 
 pub file-return-spec : {M : Type 1} → statement M
 file-return-spec =

@@ -3,12 +3,12 @@ use mathlib.Core.Path.{_∙_}
 use borrow.Author.Needs.{needs}
 use Rattle.list_bytes.specs.Entries.{wholeList}
 use Rattle.portfolio.specs.Returns.{Recorded}
-use Rattle.c_trades.specs.Returns.{Noted, returnIn}
-use Rattle.c_trades.proofs.Calling.{Ready, ready, all-whole, Call, no-account, refused-call, made-in, return-call}
+use Rattle.c_trades.specs.Returns.{ReturnTold, returnIn}
+use Rattle.c_trades.proofs.Calling.{ReadyCall, ready, all-whole, CallOnBytes, no-account, refused-call, made-in, return-call}
 use Rattle.c_trades.proofs.recording.tc_record_return.Statement.{statement}
 use Rattle.c_trades.proofs.recording.tc_record_return.Tie as tie
 
-abbrev call : (s : tie.Start) → Call Recorded Noted (s .args .account .now)
+abbrev call : (s : tie.Start) → CallOnBytes Recorded ReturnTold (s .args .account .now)
 call s = let a = s .args in return-call (a .account .now) (a .prices .now) (a .equities .now) (a .returns .now)
 
 abbrev begun : tie.After-is-account → tie.Start
@@ -17,7 +17,7 @@ begun c = c .before .before .before .before .before
 abbrev found : tie.After-early → tie.Else1
 found c = c .before .before .before .before .before .before .before .before .before .before .before .before .before .before .before .before
 
-abbrev in-hand : tie.After-early → Ready
+abbrev in-hand : tie.After-early → ReadyCall
 in-hand c =
     let g = found c in
     let w = c .before .before .before .before .before .before in

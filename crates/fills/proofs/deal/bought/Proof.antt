@@ -3,7 +3,7 @@ use mathlib.Core.Path.{_∙_}
 use mir.Syntax.{w64}
 use mir.Val.{SFits}
 use mir.Facts.{toZ-ofZ}
-use Rattle.fills.specs.Inner.Deal.{bought}
+use Rattle.fills.specs.Inner.Deal.{buyDeal}
 use borrow.Author.Needs.{needs}
 use Rattle.fills.proofs.deal.bought.Statement.{statement}
 use Rattle.fills.proofs.deal.bought.Tie as tie
@@ -18,7 +18,7 @@ dealt-requires : tie.Need-dealt-requires
 dealt-requires c κs = search needs
 
 returns : tie.Need-returns
-unfolding bought
+unfolding buyDeal
 returns c =
     let y = c .before in
     let n = y .before in
@@ -36,7 +36,7 @@ trimmed-to-requires : tie.Need-trimmed-to-requires
 trimmed-to-requires c κs = search needs
 
 returns-2 : tie.Need-returns-2
-unfolding bought
+unfolding buyDeal
 returns-2 c =
     let a = c .before in
     let y = a .before .before in

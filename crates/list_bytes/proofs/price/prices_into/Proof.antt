@@ -9,15 +9,17 @@ use mir.Val.{SFits}
 use mir.Facts.{toZ-ofZ}
 use Rattle.word_bytes.specs.Numbers.{signedOf}
 use Rattle.fills.specs.Records.{fronted}
-use Rattle.list_bytes.specs.Entries.{countOf, places}
-use Rattle.list_bytes.specs.Lists.{symbolOf, priceOf, pricesInto}
+use Rattle.list_bytes.specs.Entries.{atPlaces}
+use Rattle.list_bytes.specs.Inner.Entries.{countOf}
+use Rattle.list_bytes.specs.Lists.{entrySymbol, entryPrice}
+use Rattle.list_bytes.specs.Inner.Lists.{pricesInto}
 use Rattle.list_bytes.proofs.Columns.{count-small, put-on, read-all}
 use Rattle.list_bytes.proofs.price.prices_into.Statement.{statement}
 use Rattle.list_bytes.proofs.price.prices_into.Tie as tie
 
 abbrev Inv-loop : tie.InvT-loop
 Inv-loop bytes symbol₀ price₀ count i₀ symbol price i =
-    (i ≤ count) × (count ≤ 128) × (symbol ≡ fronted (places i (symbolOf bytes)) symbol₀) × (price ≡ fronted (places i (priceOf bytes)) price₀)
+    (i ≤ count) × (count ≤ 128) × (symbol ≡ fronted (atPlaces i (entrySymbol bytes)) symbol₀) × (price ≡ fronted (atPlaces i (entryPrice bytes)) price₀)
 
 abbrev μ-loop : tie.MeasureT-loop
 μ-loop bytes symbol₀ price₀ count i₀ symbol price i = count - i
@@ -32,7 +34,7 @@ count-of-requires : tie.Need-count-of-requires Inv-loop μ-loop
 count-of-requires c κs = search needs
 
 loop-holds : tie.Need-loop-holds Inv-loop μ-loop
-unfolding places
+unfolding atPlaces
 loop-holds c =
     let n = length (c .before .before .before .before .before .before .args .bytes .now) in
     let h : c .count-of .result ≤ 128 = omega (arith, c .count-of .ensures, count-small 128 n) in
@@ -89,8 +91,8 @@ loop-again c =
     let h : i < length (s .price .now) = omega (arith, v .whole-prices .ensures) in (
       omega arith,
       l .loop .inv .1,
-      put-on i (symbolOf b) (s .symbol .now) (l .loop .inv .2) (y .symbol-at .ensures) g,
-      simp (toZ-ofZ f) (put-on i (priceOf b) (s .price .now) (l .loop .inv .3) (c .signed .ensures ∙ ap signedOf (w .word-at .ensures)) h),
+      put-on i (entrySymbol b) (s .symbol .now) (l .loop .inv .2) (y .symbol-at .ensures) g,
+      simp (toZ-ofZ f) (put-on i (entryPrice b) (s .price .now) (l .loop .inv .3) (c .signed .ensures ∙ ap signedOf (w .word-at .ensures)) h),
     )
 
 returns : tie.Need-returns Inv-loop μ-loop
@@ -101,7 +103,7 @@ returns c =
     let s = n .before .before .before .before .before .before .args in
     let b = s .bytes .now in
     let e : l .loop .i ≡ countOf 128 (length b) = omega (arith, n .count-of .ensures) in
-    simp (n .count-of .ensures, read-all 128 (length b) (l .loop .i) (symbolOf b) (s .symbol .now) (l .loop .inv .2) e, read-all 128 (length b) (l .loop .i) (priceOf b) (s .price .now) (l .loop .inv .3) e)
+    simp (n .count-of .ensures, read-all 128 (length b) (l .loop .i) (entrySymbol b) (s .symbol .now) (l .loop .inv .2) e, read-all 128 (length b) (l .loop .i) (entryPrice b) (s .price .now) (l .loop .inv .3) e)
 
 pub prices-into-spec : {M : Type 1} → statement M
 prices-into-spec =

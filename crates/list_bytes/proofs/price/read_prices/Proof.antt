@@ -5,7 +5,8 @@ use mathlib.Core.List.{[]}
 use borrow.Author.Needs.{needs}
 use Rattle.table.specs.Keyed.{pick}
 use Rattle.list_bytes.specs.Entries.{wholeList}
-use Rattle.list_bytes.specs.Lists.{symbolsIn, pricesIn, Listed, pricesInto, pricesOf}
+use Rattle.list_bytes.specs.Lists.{symbolsIn, pricesIn}
+use Rattle.list_bytes.specs.Inner.Lists.{EntryColumns, pricesInto, pricesOf}
 use Rattle.list_bytes.proofs.Columns.{padded-is}
 use Rattle.list_bytes.proofs.price.read_prices.Statement.{statement}
 use Rattle.list_bytes.proofs.price.read_prices.Tie as tie
@@ -21,9 +22,9 @@ unfolding pricesInto pricesOf
 returns c =
     let e = c .before .prices-into .ensures in
     let b = c .before .before .before .before .before .args .bytes .now in
-    let s = ap (λ (t : Listed ℤ). t .symbol) e ∙ padded-is 128 0 (pick (wholeList 128 b) (symbolsIn b) []) in
-    let v = ap (λ (t : Listed ℤ). t .value) e ∙ padded-is 128 (pos 0) (pick (wholeList 128 b) (pricesIn b) []) in
-    simp (c .is-whole .ensures, ap (λ (t : Listed ℤ). t .count) e, s, v)
+    let s = ap (λ (t : EntryColumns ℤ). t .symbol) e ∙ padded-is 128 0 (pick (wholeList 128 b) (symbolsIn b) []) in
+    let v = ap (λ (t : EntryColumns ℤ). t .value) e ∙ padded-is 128 (pos 0) (pick (wholeList 128 b) (pricesIn b) []) in
+    simp (c .is-whole .ensures, ap (λ (t : EntryColumns ℤ). t .count) e, s, v)
 
 pub read-prices-spec : {M : Type 1} → statement M
 read-prices-spec = tie.close (tie.spec prices-into-requires is-whole-requires returns)

@@ -8,20 +8,20 @@ use mir.Syntax.{w64}
 use mir.Val.{SFits}
 use mir.Facts.{toZ-ofZ}
 use borrow.Author.Needs.{needs}
-use Rattle.list_bytes.specs.Entries.{places}
-use Rattle.list_bytes.specs.Records.{putAll, intAt}
+use Rattle.list_bytes.specs.Entries.{atPlaces}
+use Rattle.list_bytes.specs.Inner.Records.{intAt, putAll}
 use Rattle.list_bytes.proofs.Puts.{put-place}
 use Rattle.list_bytes.proofs.record.put_ints.Statement.{statement}
 use Rattle.list_bytes.proofs.record.put_ints.Tie as tie
 
 abbrev Inv-loop : tie.InvT-loop
-Inv-loop ints i out₀ j₀ out j = (j ≤ 8) × (length out ≡ length out₀) × (out ≡ putAll out₀ (12 * i + 4) (places j (intAt ints i)))
+Inv-loop ints i out₀ j₀ out j = (j ≤ 8) × (length out ≡ length out₀) × (out ≡ putAll out₀ (12 * i + 4) (atPlaces j (intAt ints i)))
 
 abbrev μ-loop : tie.MeasureT-loop
 μ-loop ints i out₀ j₀ out j = 8 - j
 
 loop-holds : tie.Need-loop-holds Inv-loop μ-loop
-unfolding putAll places
+unfolding putAll atPlaces
 loop-holds c = (omega arith, refl, refl)
 
 mul-n : tie.Need-mul-n Inv-loop μ-loop
@@ -79,7 +79,7 @@ returns c =
     let l = c .before in
     let a = l .before .before .args in
     let e : l .loop .j ≡ 8 = omega arith in
-    l .loop .inv .2 ∙ ap (λ k. putAll (a .out .now) (12 * a .i + 4) (places k (intAt (a .ints .now) (a .i)))) e
+    l .loop .inv .2 ∙ ap (λ k. putAll (a .out .now) (12 * a .i + 4) (atPlaces k (intAt (a .ints .now) (a .i)))) e
 
 pub put-ints-spec : {M : Type 1} → statement M
 put-ints-spec =

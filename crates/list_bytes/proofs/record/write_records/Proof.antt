@@ -6,7 +6,7 @@ use lib.ListN.{length}
 use borrow.Author.Needs.{needs}
 use Rattle.word_bytes.specs.Words.{bytesOf}
 use Rattle.fills.specs.Records.{fronted}
-use Rattle.list_bytes.specs.Records.{putAll, rowsIn, fitting, writtenRecords}
+use Rattle.list_bytes.specs.Inner.Records.{rowsIn, fitting, writtenRecords, putAll}
 use Rattle.list_bytes.proofs.Puts.{put-all-fronts}
 use Rattle.list_bytes.proofs.Records.{rows-long, rows-on}
 use Rattle.list_bytes.proofs.record.write_records.Statement.{statement}

@@ -6,15 +6,17 @@ use lib.ListN.{length}
 use borrow.Author.Needs.{needs}
 use Rattle.word_bytes.specs.Numbers.{floatOf}
 use Rattle.fills.specs.Records.{fronted}
-use Rattle.list_bytes.specs.Entries.{countOf, places}
-use Rattle.list_bytes.specs.Lists.{symbolOf, weightOf, targetsInto}
+use Rattle.list_bytes.specs.Entries.{atPlaces}
+use Rattle.list_bytes.specs.Inner.Entries.{countOf}
+use Rattle.list_bytes.specs.Lists.{entrySymbol, entryWeight}
+use Rattle.list_bytes.specs.Inner.Lists.{targetsInto}
 use Rattle.list_bytes.proofs.Columns.{count-small, put-on, read-all}
 use Rattle.list_bytes.proofs.target.targets_into.Statement.{statement}
 use Rattle.list_bytes.proofs.target.targets_into.Tie as tie
 
 abbrev Inv-loop : tie.InvT-loop
 Inv-loop bytes symbol₀ weight₀ count i₀ symbol weight i =
-    (i ≤ count) × (count ≤ 64) × (symbol ≡ fronted (places i (symbolOf bytes)) symbol₀) × (weight ≡ fronted (places i (weightOf bytes)) weight₀)
+    (i ≤ count) × (count ≤ 64) × (symbol ≡ fronted (atPlaces i (entrySymbol bytes)) symbol₀) × (weight ≡ fronted (atPlaces i (entryWeight bytes)) weight₀)
 
 abbrev μ-loop : tie.MeasureT-loop
 μ-loop bytes symbol₀ weight₀ count i₀ symbol weight i = count - i
@@ -29,7 +31,7 @@ count-of-requires : tie.Need-count-of-requires Inv-loop μ-loop
 count-of-requires c κs = search needs
 
 loop-holds : tie.Need-loop-holds Inv-loop μ-loop
-unfolding places
+unfolding atPlaces
 loop-holds c =
     let n = length (c .before .before .before .before .before .before .args .bytes .now) in
     let h : c .count-of .result ≤ 64 = omega (arith, c .count-of .ensures, count-small 64 n) in
@@ -85,8 +87,8 @@ loop-again c =
     let h : i < length (s .weight .now) = omega (arith, v .whole-weights .ensures) in (
       omega arith,
       l .loop .inv .1,
-      put-on i (symbolOf b) (s .symbol .now) (l .loop .inv .2) (y .symbol-at .ensures) g,
-      put-on i (weightOf b) (s .weight .now) (l .loop .inv .3) (c .float .ensures ∙ ap floatOf (w .word-at .ensures)) h,
+      put-on i (entrySymbol b) (s .symbol .now) (l .loop .inv .2) (y .symbol-at .ensures) g,
+      put-on i (entryWeight b) (s .weight .now) (l .loop .inv .3) (c .float .ensures ∙ ap floatOf (w .word-at .ensures)) h,
     )
 
 returns : tie.Need-returns Inv-loop μ-loop
@@ -97,7 +99,7 @@ returns c =
     let s = n .before .before .before .before .before .before .args in
     let b = s .bytes .now in
     let e : l .loop .i ≡ countOf 64 (length b) = omega (arith, n .count-of .ensures) in
-    simp (n .count-of .ensures, read-all 64 (length b) (l .loop .i) (symbolOf b) (s .symbol .now) (l .loop .inv .2) e, read-all 64 (length b) (l .loop .i) (weightOf b) (s .weight .now) (l .loop .inv .3) e)
+    simp (n .count-of .ensures, read-all 64 (length b) (l .loop .i) (entrySymbol b) (s .symbol .now) (l .loop .inv .2) e, read-all 64 (length b) (l .loop .i) (entryWeight b) (s .weight .now) (l .loop .inv .3) e)
 
 pub targets-into-spec : {M : Type 1} → statement M
 targets-into-spec =

@@ -5,7 +5,7 @@ use native.Mathlib.Omega.{arith}
 use lib.ListN.{length, take}
 use borrow.Author.Needs.{needs}
 use Rattle.fills.specs.Records.{fronted}
-use Rattle.list_bytes.specs.Records.{putAll}
+use Rattle.list_bytes.specs.Inner.Records.{putAll}
 use Rattle.list_bytes.specs.Weights.{pairWords, weightBytes, weightsFitting, writtenWeights}
 use Rattle.list_bytes.proofs.Puts.{put-all-fronts}
 use Rattle.list_bytes.proofs.Weights.{pairs-long, pairs-on}

@@ -11,14 +11,14 @@ use lib.ListN.{getD}
 use mir.Syntax.{w64}
 use mir.Val.{SFits, toZ, ofZ}
 use mir.Facts.{toZ-ofZ}
-use Rattle.table.specs.Keyed.{Rising}
-use Rattle.table.specs.Places.{shorter}
+use Rattle.table.specs.Inner.Keyed.{Rising}
+use Rattle.table.specs.Inner.Places.{shorter}
 use Rattle.table.proofs.Places.{shorter-within}
 use Rattle.call_lists.specs.Lists.{among, priceOf}
 use Rattle.admission.specs.Admission.{capped}
-use Rattle.admission.specs.Columns.{cols, counted, from, addedTo}
+use Rattle.admission.specs.Inner.Columns.{planCols, countedPlan, from, addedTo}
 use Rattle.admission.proofs.Inserting.{added-none}
-use Rattle.plan.specs.Adding.{addedAllTo, closeAt, closesAt, Closes}
+use Rattle.plan.specs.Inner.Adding.{addedAllTo, closeAt, closesAt, PlansCloses}
 use Rattle.plan.proofs.Adding.{closes-start, counted-same, wanted-none, kept-with, adding-on, adding-end}
 use Rattle.plan.proofs.close.plan_closes.Statement.{statement}
 use Rattle.plan.proofs.close.plan_closes.Tie as tie
@@ -26,8 +26,8 @@ use Rattle.plan.proofs.close.plan_closes.Tie as tie
 abbrev Inv-loop : tie.InvT-loop
 Inv-loop key held n targets symbols prices s equity symbol₀ quantity₀ price₀ drift₀ m places sorted most count₀ hint₀ i₀ symbol quantity price drift count hint i =
     (i ≤ places) × (places ≤ 64)
-    × (Rising symbols → addedAllTo s (from (closeAt s (toZ w64 equity) (priceOf symbols prices) targets key held) i (places - i)) (counted count (cols symbol quantity price drift))
-    ≡ addedAllTo s (closesAt s (toZ w64 equity) (priceOf symbols prices) targets n key held) (counted m (cols symbol₀ quantity₀ price₀ drift₀)))
+    × (Rising symbols → addedAllTo s (from (closeAt s (toZ w64 equity) (priceOf symbols prices) targets key held) i (places - i)) (countedPlan count (planCols symbol quantity price drift))
+    ≡ addedAllTo s (closesAt s (toZ w64 equity) (priceOf symbols prices) targets n key held) (countedPlan m (planCols symbol₀ quantity₀ price₀ drift₀)))
 
 abbrev μ-loop : tie.MeasureT-loop
 μ-loop key held n targets symbols prices s equity symbol₀ quantity₀ price₀ drift₀ m places sorted most count₀ hint₀ i₀ symbol quantity price drift count hint i = places - i
@@ -94,15 +94,15 @@ stepped : (c : tie.Joined1 Inv-loop μ-loop)
     → let l = c .before .before .before .before .before in
     let a = l .before .before .before .before .before .before .args in
     Rising (a .symbols .now)
-    → counted (c .if1 .count) (cols (c .if1 .symbol) (c .if1 .quantity) (c .if1 .price) (c .if1 .drift))
+    → countedPlan (c .if1 .count) (planCols (c .if1 .symbol) (c .if1 .quantity) (c .if1 .price) (c .if1 .drift))
     ≡ addedTo (capped (a .s)) (closeAt (a .s) (toZ w64 (ofZ w64 (a .equity))) (priceOf (a .symbols .now) (a .prices .now)) (a .targets .now) (a .key .now) (a .held .now) (l .loop .i))
-    (counted (l .loop .count) (cols (l .loop .symbol) (l .loop .quantity) (l .loop .price) (l .loop .drift)))
+    (countedPlan (l .loop .count) (planCols (l .loop .symbol) (l .loop .quantity) (l .loop .price) (l .loop .drift)))
 stepped c r =
     let h = c .before .before in
     let l = h .before .before .before in
     let a = l .before .before .before .before .before .before .args in
     let k = getD (a .key .now) (l .loop .i) 0 in
-    let x = counted (l .loop .count) (cols (l .loop .symbol) (l .loop .quantity) (l .loop .price) (l .loop .drift)) in
+    let x = countedPlan (l .loop .count) (planCols (l .loop .symbol) (l .loop .quantity) (l .loop .price) (l .loop .drift)) in
     ⊎-elim
     (λ w.
     let fp = fit-price (record { before = record { before = c .before; if1 = w .0 }; quote = w .1 }) in
@@ -124,7 +124,7 @@ loop-again c =
     let a = l .before .before .before .before .before .before .args in
     let t = w .loop-test .taken in
     let f = closeAt (a .s) (toZ w64 (ofZ w64 (a .equity))) (priceOf (a .symbols .now) (a .prices .now)) (a .targets .now) (a .key .now) (a .held .now) in
-    let x = counted (l .loop .count) (cols (l .loop .symbol) (l .loop .quantity) (l .loop .price) (l .loop .drift)) in (
+    let x = countedPlan (l .loop .count) (planCols (l .loop .symbol) (l .loop .quantity) (l .loop .price) (l .loop .drift)) in (
       omega (arith, t),
       l .loop .inv .1,
       λ r.

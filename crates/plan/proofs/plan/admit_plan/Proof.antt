@@ -2,8 +2,8 @@
 use mathlib.Core.Path.{_≡_, sym, ap, _∙_}
 use borrow.Author.Needs.{needs}
 use mir.Facts.{toZ-ofZ}
-use Rattle.admission.specs.Offers.{cutPlan}
-use Rattle.plan.specs.Adding.{addedAllTo, wantedAt, Makes}
+use Rattle.admission.specs.Inner.Offers.{cutPlan}
+use Rattle.plan.specs.Inner.Adding.{addedAllTo, wantedAt, Makes}
 use Rattle.plan.proofs.Adding.{added-append}
 use Rattle.plan.proofs.plan.admit_plan.Statement.{statement}
 use Rattle.plan.proofs.plan.admit_plan.Tie as tie

@@ -4,8 +4,8 @@ use borrow.Author.Needs.{needs}
 use mir.Syntax.{w64}
 use mir.Val.{SFits}
 use mir.Facts.{toZ-ofZ}
-use Rattle.admission.specs.Columns.{counted}
-use Rattle.plan.specs.Planning.{summed, planMade, Plans}
+use Rattle.admission.specs.Inner.Columns.{countedPlan}
+use Rattle.plan.specs.Inner.Planning.{summed, planMade, Plans}
 use Rattle.plan.proofs.Made.{as-planned, by-cash}
 use Rattle.plan.proofs.plan.make_plan.Statement.{statement}
 use Rattle.plan.proofs.plan.make_plan.Tie as tie

@@ -8,13 +8,13 @@ use lib.ListN.{length, take, getD}
 use mir.Syntax.{w64}
 use mir.Val.{SFits, toZ, ofZ}
 use mir.Facts.{toZ-ofZ}
-use Rattle.table.specs.Keyed.{Rising}
-use Rattle.table.specs.Places.{shorter}
+use Rattle.table.specs.Inner.Keyed.{Rising}
+use Rattle.table.specs.Inner.Places.{shorter}
 use Rattle.table.proofs.Places.{shorter-within, shorter-below}
 use Rattle.call_lists.specs.Lists.{priceOf}
 use Rattle.admission.specs.Admission.{capped}
-use Rattle.admission.specs.Columns.{cols, counted, from, addedTo}
-use Rattle.plan.specs.Adding.{addedAllTo, targetAt, targetsAt, Targets}
+use Rattle.admission.specs.Inner.Columns.{planCols, countedPlan, from, addedTo}
+use Rattle.plan.specs.Inner.Adding.{addedAllTo, targetAt, targetsAt, PlansTargets}
 use Rattle.plan.proofs.Adding.{targets-start, kept-with, adding-on, adding-end}
 use Rattle.plan.proofs.target.plan_targets.Statement.{statement}
 use Rattle.plan.proofs.target.plan_targets.Tie as tie
@@ -22,8 +22,8 @@ use Rattle.plan.proofs.target.plan_targets.Tie as tie
 abbrev Inv-loop : tie.InvT-loop
 Inv-loop key held n targets weights symbols prices s equity symbol₀ quantity₀ price₀ drift₀ m places sorted most count₀ hint₀ i₀ symbol quantity price drift count hint i =
     (i ≤ places) × (places ≤ length targets) × (places ≤ length weights)
-    × (Rising symbols → Rising (take n key) → addedAllTo s (from (targetAt s (toZ w64 equity) (priceOf symbols prices) (take n key) held targets weights) i (places - i)) (counted count (cols symbol quantity price drift))
-    ≡ addedAllTo s (targetsAt s (toZ w64 equity) (priceOf symbols prices) (take n key) held targets weights) (counted m (cols symbol₀ quantity₀ price₀ drift₀)))
+    × (Rising symbols → Rising (take n key) → addedAllTo s (from (targetAt s (toZ w64 equity) (priceOf symbols prices) (take n key) held targets weights) i (places - i)) (countedPlan count (planCols symbol quantity price drift))
+    ≡ addedAllTo s (targetsAt s (toZ w64 equity) (priceOf symbols prices) (take n key) held targets weights) (countedPlan m (planCols symbol₀ quantity₀ price₀ drift₀)))
 
 abbrev μ-loop : tie.MeasureT-loop
 μ-loop key held n targets weights symbols prices s equity symbol₀ quantity₀ price₀ drift₀ m places sorted most count₀ hint₀ i₀ symbol quantity price drift count hint i = places - i
@@ -104,7 +104,7 @@ loop-again c =
     let f = targetAt (a .s) (toZ w64 (ofZ w64 (a .equity))) (priceOf (a .symbols .now) (a .prices .now)) (take (a .n) (a .key .now)) (a .held .now) (a .targets .now) (a .weights .now) in
     let fh : SFits w64 (h .result) = record { sfits = h .ok } in
     let fp = fit-price q in
-    let x = counted (l .loop .count) (cols (l .loop .symbol) (l .loop .quantity) (l .loop .price) (l .loop .drift)) in (
+    let x = countedPlan (l .loop .count) (planCols (l .loop .symbol) (l .loop .quantity) (l .loop .price) (l .loop .drift)) in (
       omega (arith, t),
       l .loop .inv .1,
       l .loop .inv .2,

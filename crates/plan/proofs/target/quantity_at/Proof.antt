@@ -11,7 +11,7 @@ use borrow.Author.Tests.{lt-ltb, le-ltb}
 use borrow.Author.Needs.{needs}
 use Rattle.table.specs.declared.found.Found.{Found}
 use Rattle.table.specs.declared.found.Found.the-variants.{At, Absent}
-use Rattle.plan.specs.Adding.{quantityAt}
+use Rattle.plan.specs.Inner.Adding.{quantityAt}
 use Rattle.plan.proofs.target.quantity_at.Statement.{statement}
 use Rattle.plan.proofs.target.quantity_at.Tie as tie
 

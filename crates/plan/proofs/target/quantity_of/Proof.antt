@@ -4,7 +4,7 @@ use borrow.Author.Needs.{needs}
 use mir.Syntax.{w64}
 use mir.Val.{SFits}
 use mir.Facts.{toZ-ofZ}
-use Rattle.plan.specs.Adding.{quantityAt, Holds}
+use Rattle.plan.specs.Inner.Adding.{quantityAt, HoldsQuantity}
 use Rattle.plan.proofs.target.quantity_of.Statement.{statement}
 use Rattle.plan.proofs.target.quantity_of.Tie as tie
 

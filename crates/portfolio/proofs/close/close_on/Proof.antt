@@ -13,11 +13,12 @@ use Rattle.sums.specs.Sums.{satNeg}
 use Rattle.table.specs.Rows.{Cols, cols, holding, Full}
 use Rattle.fills.specs.Records.{allWords, allInts}
 use Rattle.account.specs.declared.account.Account.{Account}
-use Rattle.account.specs.Account.{accountWith, heldIn}
+use Rattle.account.specs.Account.{heldIn}
+use Rattle.account.specs.Inner.Account.{accountWith}
 use Rattle.account.proofs.SoundAccounts.{account-ordered}
-use Rattle.portfolio.specs.Answers.{isDone, places, closeAnswer}
+use Rattle.portfolio.specs.Answers.{isDone, recordPlaces, closeAnswer}
 use Rattle.portfolio.specs.Rebalance.{refused}
-use Rattle.portfolio.specs.Close.{closed}
+use Rattle.portfolio.specs.Close.{positionClosed}
 use Rattle.portfolio.specs.Trades.{filed}
 use Rattle.portfolio.proofs.Refusals.{Closing, close-done}
 use Rattle.portfolio.proofs.Trading.{closed-by-run}
@@ -31,7 +32,7 @@ abbrev account-at : tie.Start → Account
 account-at s = accountWith (s .args .h) (columns-at s)
 
 abbrev room-at : tie.Start → ℕ
-room-at s = places (length (s .args .words .now)) (length (s .args .ints .now))
+room-at s = recordPlaces (length (s .args .words .now)) (length (s .args .ints .now))
 
 abbrev answer-at : tie.Start → Answer
 answer-at s = closeAnswer (account-at s) (s .args .s) (s .args .price) (room-at s)
@@ -76,7 +77,7 @@ is-done-requires : tie.Need-is-done-requires
 is-done-requires c κs = search needs
 
 returns : tie.Need-returns
-unfolding closed allWords allInts
+unfolding positionClosed allWords allInts
 returns c =
     let q = c .before .before in
     let s = began q in

@@ -4,9 +4,9 @@ use lib.ListN.{length}
 use mir.Facts.{toZ-ofZ}
 use borrow.Author.Needs.{needs}
 use Rattle.table.specs.Rows.{columnsOf}
-use Rattle.account.specs.Account.{accountWith}
-use Rattle.portfolio.specs.Answers.{places}
-use Rattle.portfolio.specs.Close.{closed}
+use Rattle.account.specs.Inner.Account.{accountWith}
+use Rattle.portfolio.specs.Answers.{recordPlaces}
+use Rattle.portfolio.specs.Close.{positionClosed}
 use Rattle.portfolio.specs.Trades.{filed, filedBy}
 use Rattle.portfolio.proofs.close.close_position_at.Statement.{statement}
 use Rattle.portfolio.proofs.close.close_position_at.Tie as tie
@@ -35,7 +35,7 @@ returns c =
     let e = q .close-on .last .1 .1 .1 .1 .1 .1 .1 .1 .1 .1 in
     ap (λ r. filedBy r (e .0) (e .1 .0)) (c .traded-on .ensures)
     ∙ (simp (toZ-ofZ (s .fits .price)) at (q .close-on .ensures))
-    ∙ ap (λ h. filed (closed (accountWith h (columnsOf (x .a .positions))) (x .symbol) (x .price) (x .period) (x .kind) (places (length (x .words .now)) (length (x .ints .now)))) (x .words .now) (x .ints .now)) (l .ledger-of .ensures)
+    ∙ ap (λ h. filed (positionClosed (accountWith h (columnsOf (x .a .positions))) (x .symbol) (x .price) (x .period) (x .kind) (recordPlaces (length (x .words .now)) (length (x .ints .now)))) (x .words .now) (x .ints .now)) (l .ledger-of .ensures)
 
 pub close-position-at-spec : {M : Type 1} → statement M
 close-position-at-spec = tie.close (tie.spec ledger-of-requires close-on-requires traded-on-requires same-length same-length-2 returns)

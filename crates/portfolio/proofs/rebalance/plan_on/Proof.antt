@@ -7,9 +7,9 @@ use mir.Val.{SFits}
 use mir.Facts.{toZ-ofZ}
 use borrow.Author.Needs.{needs}
 use Rattle.sums.specs.Sums.{satAdd}
-use Rattle.table.specs.Keyed.{Rising}
+use Rattle.table.specs.Inner.Keyed.{Rising}
 use Rattle.call_lists.specs.Lists.{priceOf}
-use Rattle.portfolio.specs.Planned.{equityAt, planAt}
+use Rattle.portfolio.specs.Inner.Planned.{equityAt, planAt}
 use Rattle.portfolio.proofs.rebalance.plan_on.Statement.{statement}
 use Rattle.portfolio.proofs.rebalance.plan_on.Tie as tie
 

@@ -15,8 +15,8 @@ use Rattle.table.proofs.Keyed.{ascending-rises}
 use Rattle.call_lists.proofs.Sorted.{Serves, sorted-serves}
 use Rattle.fills.specs.Records.{allWords, allInts}
 use Rattle.account.specs.declared.account.Account.{Account}
-use Rattle.account.specs.Account.{accountWith}
-use Rattle.portfolio.specs.Answers.{isDone, places, rebalanceAnswer}
+use Rattle.account.specs.Inner.Account.{accountWith}
+use Rattle.portfolio.specs.Answers.{isDone, recordPlaces, rebalanceAnswer}
 use Rattle.portfolio.specs.Rebalance.{refused, admittedPlan, afterRebalance, rebalanced}
 use Rattle.portfolio.specs.Trades.{filed}
 use Rattle.portfolio.proofs.Plans.{sorted-fits}
@@ -31,7 +31,7 @@ abbrev account-at : tie.Start → Account
 account-at s = accountWith (s .args .h) (columns-at s)
 
 abbrev room-at : tie.Start → ℕ
-room-at s = places (length (s .args .words .now)) (length (s .args .ints .now))
+room-at s = recordPlaces (length (s .args .words .now)) (length (s .args .ints .now))
 
 abbrev answer-at : tie.Start → Answer
 answer-at s = rebalanceAnswer (account-at s) (s .args .targets .now) (s .args .weights .now) (s .args .symbols .now) (s .args .prices .now) (room-at s)

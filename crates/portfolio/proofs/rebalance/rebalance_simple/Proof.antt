@@ -3,8 +3,8 @@ use mathlib.Core.Path.{_∙_, ap}
 use lib.ListN.{length}
 use borrow.Author.Needs.{needs}
 use Rattle.table.specs.Rows.{columnsOf}
-use Rattle.account.specs.Account.{accountWith}
-use Rattle.portfolio.specs.Answers.{places}
+use Rattle.account.specs.Inner.Account.{accountWith}
+use Rattle.portfolio.specs.Answers.{recordPlaces}
 use Rattle.portfolio.specs.Rebalance.{rebalanced}
 use Rattle.portfolio.specs.Trades.{filed, filedBy}
 use Rattle.portfolio.proofs.rebalance.rebalance_simple.Statement.{statement}
@@ -34,7 +34,7 @@ returns c =
     let e = q .rebalance-on .last .1 .1 .1 .1 .1 .1 .1 .1 .1 .1 .1 .1 in
     ap (λ r. filedBy r (e .0) (e .1 .0)) (c .traded-on .ensures)
     ∙ q .rebalance-on .ensures
-    ∙ ap (λ h. filed (rebalanced (accountWith h (columnsOf (x .a .positions))) (x .targets .now) (x .weights .now) (x .symbols .now) (x .prices .now) (x .period) (x .kind) (places (length (x .words .now)) (length (x .ints .now)))) (x .words .now) (x .ints .now)) (l .ledger-of .ensures)
+    ∙ ap (λ h. filed (rebalanced (accountWith h (columnsOf (x .a .positions))) (x .targets .now) (x .weights .now) (x .symbols .now) (x .prices .now) (x .period) (x .kind) (recordPlaces (length (x .words .now)) (length (x .ints .now)))) (x .words .now) (x .ints .now)) (l .ledger-of .ensures)
 
 pub rebalance-simple-spec : {M : Type 1} → statement M
 rebalance-simple-spec = tie.close (tie.spec ledger-of-requires rebalance-on-requires traded-on-requires same-length same-length-2 returns)

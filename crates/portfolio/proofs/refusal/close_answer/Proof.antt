@@ -11,7 +11,8 @@ use Rattle.position.proofs.Counts.{lt-not-ge, not-lt-ge}
 use Rattle.table.specs.Rows.{Cols, cols, holding, isZero, Full}
 use Rattle.table.proofs.Ordering.{zero-same}
 use Rattle.account.specs.declared.account.Account.{Account}
-use Rattle.account.specs.Account.{accountWith, soundAccount, heldIn}
+use Rattle.account.specs.Account.{soundAccount, heldIn}
+use Rattle.account.specs.Inner.Account.{accountWith}
 use Rattle.account.proofs.SoundAccounts.{account-ordered}
 use Rattle.portfolio.specs.Answers.{hasRoom, closeAnswer}
 use Rattle.portfolio.proofs.refusal.close_answer.Statement.{statement}

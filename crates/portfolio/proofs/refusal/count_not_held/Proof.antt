@@ -4,8 +4,8 @@ use mathlib.Core.Path.{_≡_, ap, _∙_}
 use native.Mathlib.Omega.{arith}
 use borrow.Author.Needs.{needs}
 use lib.ListN.{length, take, drop}
-use Rattle.table.specs.Keyed.{Rising}
-use Rattle.portfolio.specs.Planned.{lackedBy, lacking}
+use Rattle.table.specs.Inner.Keyed.{Rising}
+use Rattle.portfolio.specs.Inner.Planned.{lackedBy, lacking}
 use Rattle.portfolio.proofs.Lacking.{lacked-most, lacking-on, lacking-end}
 use Rattle.portfolio.proofs.refusal.count_not_held.Statement.{statement}
 use Rattle.portfolio.proofs.refusal.count_not_held.Tie as tie

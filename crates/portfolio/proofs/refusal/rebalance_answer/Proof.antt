@@ -11,7 +11,8 @@ use Rattle.table.specs.Rows.{Cols, cols, Full}
 use Rattle.call_lists.specs.Checks.{listsAnswer}
 use Rattle.call_lists.proofs.Checks.{done-accepted}
 use Rattle.account.specs.declared.account.Account.{Account}
-use Rattle.account.specs.Account.{accountWith, soundAccount, heldIn}
+use Rattle.account.specs.Account.{soundAccount, heldIn}
+use Rattle.account.specs.Inner.Account.{accountWith}
 use Rattle.account.proofs.Columns.{rows-length}
 use Rattle.account.proofs.SoundAccounts.{account-ordered, account-small}
 use Rattle.portfolio.specs.Answers.{isDone, hasRoom, notHeld, rebalanceAnswer}

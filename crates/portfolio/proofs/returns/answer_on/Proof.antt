@@ -5,7 +5,8 @@ use borrow.Author.Needs.{needs}
 use borrow.Author.Tests.{not-true, not-false}
 use Rattle.table.specs.Rows.{cols}
 use Rattle.account.specs.declared.account.Account.{Account}
-use Rattle.account.specs.Account.{accountWith, soundAccount}
+use Rattle.account.specs.Account.{soundAccount}
+use Rattle.account.specs.Inner.Account.{accountWith}
 use Rattle.portfolio.specs.Answers.{isDone, queryAnswer, returnAnswer}
 use Rattle.portfolio.proofs.Refusals.{return-no-equity, return-no-return, return-roomy}
 use Rattle.portfolio.proofs.returns.answer_on.Statement.{statement}

@@ -16,7 +16,8 @@ use Rattle.answer.specs.declared.Answer.{Answer}
 use Rattle.answer.specs.declared.Answer.the-variants.{Done}
 use Rattle.account.specs.declared.account.Account.{Account}
 use Rattle.account.specs.declared.account.Series.{Series}
-use Rattle.account.specs.Account.{withSeries, accountWith}
+use Rattle.account.specs.Account.{withSeries}
+use Rattle.account.specs.Inner.Account.{accountWith}
 use Rattle.call_lists.specs.Lists.{priceOf}
 use Rattle.table.specs.Keyed.{pick}
 use Rattle.table.specs.Rows.{Cols, cols}

@@ -3,16 +3,17 @@ use mathlib.Core.Path.{sym, ap, subst, _∙_}
 use mathlib.Core.List.{List}
 use mir.Facts.{toZ-ofZ}
 use borrow.Author.Needs.{needs}
-use Rattle.table.specs.Rows.{Cols, cols, Ordered}
+use Rattle.table.specs.Rows.{Cols, cols}
+use Rattle.table.specs.Inner.Rows.{Ordered}
 use Rattle.fills.specs.declared.order.Order.{Order}
 use Rattle.fills.specs.Records.{Buffers, buffers}
 use Rattle.fills.specs.Inner.Runs.{orders, Runs, Given}
 use Rattle.account.specs.declared.account.Account.{Account}
-use Rattle.account.specs.Account.{accountWith}
+use Rattle.account.specs.Inner.Account.{accountWith}
 use Rattle.account.proofs.SoundAccounts.{account-ordered}
-use Rattle.portfolio.specs.Answers.{places}
+use Rattle.portfolio.specs.Answers.{recordPlaces}
 use Rattle.portfolio.specs.Rebalance.{termsBy}
-use Rattle.portfolio.specs.Trades.{Fillable, bookOf}
+use Rattle.portfolio.specs.Inner.Trades.{Fillable, bookOfLedger}
 use Rattle.portfolio.proofs.Trading.{orders-most, filing, run-filed}
 use Rattle.portfolio.proofs.trade.run.Statement.{statement}
 use Rattle.portfolio.proofs.trade.run.Tie as tie
@@ -34,7 +35,7 @@ abbrev orders-at : tie.Start → List Order
 orders-at s = let x = s .args in orders (x .m) (x .os .now) (x .oq .now) (x .op .now)
 
 abbrev Can : tie.Start → Type 0
-Can s = let x = s .args in Fillable (account-at s) (x .m) (places (length (x .words .now)) (length (x .ints .now))) (x .os .now) (x .oq .now) (x .op .now)
+Can s = let x = s .args in Fillable (account-at s) (x .m) (recordPlaces (length (x .words .now)) (length (x .ints .now))) (x .os .now) (x .oq .now) (x .op .now)
 
 abbrev columns-after : tie.After-fill-all → Cols
 columns-after q = let l = q .fill-all .last in cols (l .0) (l .1 .0) (l .1 .1 .0) (l .1 .1 .1 .0) (l .1 .1 .1 .1 .0)
@@ -53,12 +54,12 @@ given q f =
     }
 
 runs : (q : tie.After-fill-all) → let s = began q in let x = s .args in Can s →
-    Runs (termsBy (x .h .settings) (x .period) (x .kind)) (orders-at s) (bookOf (x .h)) (columns-at s) (buffers (x .words .now) (x .ints .now) 0) (q .fill-all .result) (columns-after q) (buffers-after q)
+    Runs (termsBy (x .h .settings) (x .period) (x .kind)) (orders-at s) (bookOfLedger (x .h)) (columns-at s) (buffers (x .words .now) (x .ints .now) 0) (q .fill-all .result) (columns-after q) (buffers-after q)
 runs q f =
     let s = began q in
     let x = s .args in
     let r = q .fill-all .result in
-    subst (λ t. Runs t (orders-at s) (bookOf (x .h)) (columns-at s) (buffers (x .words .now) (x .ints .now) 0) r (columns-after q) (buffers-after q)) (booked q .before .terms-of .ensures)
+    subst (λ t. Runs t (orders-at s) (bookOfLedger (x .h)) (columns-at s) (buffers (x .words .now) (x .ints .now) 0) r (columns-after q) (buffers-after q)) (booked q .before .terms-of .ensures)
     (subst (λ b. Runs (booked q .before .terms-of .result) (orders-at s) b (columns-at s) (buffers (x .words .now) (x .ints .now) (b .written)) r (columns-after q) (buffers-after q)) (booked q .book-of .ensures) (q .fill-all .ensures (given q f)))
 
 terms-of-requires : tie.Need-terms-of-requires

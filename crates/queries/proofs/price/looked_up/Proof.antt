@@ -7,9 +7,9 @@ use lib.ListN.{length, length-set}
 use mir.Syntax.{w64}
 use mir.Val.{SFits}
 use mir.Facts.{toZ-ofZ}
-use Rattle.table.specs.Keyed.{Rising}
+use Rattle.table.specs.Inner.Keyed.{Rising}
 use Rattle.call_lists.specs.Lists.{priceOf}
-use Rattle.queries.specs.Places.{PricesOf}
+use Rattle.queries.specs.Inner.Places.{PricesOf}
 use Rattle.queries.proofs.Walks.{price-more}
 use Rattle.queries.proofs.price.looked_up.Statement.{statement}
 use Rattle.queries.proofs.price.looked_up.Tie as tie

@@ -4,14 +4,15 @@ use mir.Syntax.{w64}
 use mir.Val.{SFits}
 use mir.Facts.{toZ-ofZ}
 use borrow.Author.Needs.{needs}
-use Rattle.table.specs.Rows.{columnsOf, Full, Ordered}
+use Rattle.table.specs.Rows.{columnsOf, Full}
+use Rattle.table.specs.Inner.Rows.{Ordered}
 use Rattle.call_lists.specs.Lists.{priceOf}
 use Rattle.account.specs.Account.{heldIn}
 use Rattle.account.proofs.Full.{account-full}
 use Rattle.account.proofs.SoundAccounts.{account-ordered}
 use Rattle.portfolio.specs.Answers.{isDone}
 use Rattle.portfolio.proofs.Refusals.{Queried, query-done}
-use Rattle.queries.specs.Places.{Priced, Adds, WeighsAt}
+use Rattle.queries.specs.Inner.Places.{PositionPrices, AddsUp, WeighsAt}
 use Rattle.queries.proofs.Walks.{places-priced}
 use Rattle.queries.proofs.Snapshots.{snapshot-made}
 use Rattle.queries.proofs.query.snapshot_at.Statement.{statement}
@@ -42,10 +43,10 @@ sums c = c .before .before .before
 abbrev equity : tie.After-weights-at → tie.After-saturating-add
 equity c = c .before .before .before .before .before .before .before .before .before
 
-listed : (c : tie.After-prices-of) → let s = start c in Priced (priceOf (s .args .symbols .now) (s .args .prices .now)) (heldIn (s .args .a .positions)) (c .prices-of .result .price)
+listed : (c : tie.After-prices-of) → let s = start c in PositionPrices (priceOf (s .args .symbols .now) (s .args .prices .now)) (heldIn (s .args .a .positions)) (c .prices-of .result .price)
 listed c = let s = start c in places-priced (priceOf (s .args .symbols .now) (s .args .prices .now)) (s .args .a .positions .count) (columnsOf (s .args .a .positions)) (c .prices-of .result .price) (ordered s) (c .prices-of .ensures)
 
-added : (c : tie.After-summed) → let s = start (prices c) in Adds (heldIn (s .args .a .positions)) (prices c .prices-of .result .price) (c .summed .result)
+added : (c : tie.After-summed) → let s = start (prices c) in AddsUp (heldIn (s .args .a .positions)) (prices c .prices-of .result .price) (c .summed .result)
 added c = c .summed .ensures
 
 worth-fits : (d : tie.After-struct-told2) → SFits w64 (d .before .before .summed .result .worth)

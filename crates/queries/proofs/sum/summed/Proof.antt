@@ -16,7 +16,7 @@ use Rattle.account.proofs.Holdings.{place-holds}
 use Rattle.account.proofs.Columns.{rows-length}
 use Rattle.wanted.specs.Equity.{worthFrom}
 use Rattle.queries.specs.Queries.{openOnes, profitFrom}
-use Rattle.queries.specs.Places.{Priced}
+use Rattle.queries.specs.Inner.Places.{PositionPrices}
 use Rattle.queries.proofs.Walks.{worth-on, worth-end, profit-on, profit-end, open-on, open-end, one-most}
 use Rattle.queries.proofs.sum.summed.Statement.{statement}
 use Rattle.queries.proofs.sum.summed.Tie as tie
@@ -25,7 +25,7 @@ abbrev Inv-loop : tie.InvT-loop
 Inv-loop symbol quantity average realized total n price worth₀ open-count₀ profit₀ i₀ worth open-count profit i =
     let ps = rows n (cols symbol quantity average realized total) in
     (i ≤ n) × (open-count ≤ i)
-    × ((listed : ℕ → ℤ) → Priced listed ps price → worthFrom listed (toZ w64 worth) (drop i ps) ≡ worthFrom listed (pos 0) ps)
+    × ((listed : ℕ → ℤ) → PositionPrices listed ps price → worthFrom listed (toZ w64 worth) (drop i ps) ≡ worthFrom listed (pos 0) ps)
     × (open-count + length (openOnes (drop i ps)) ≡ length (openOnes ps))
     × (profitFrom (toZ w64 profit) (drop i ps) ≡ profitFrom (pos 0) ps)
 

@@ -16,7 +16,7 @@ use Rattle.account.proofs.Holdings.{place-holds}
 use Rattle.account.proofs.Columns.{rows-length}
 use Rattle.queries.specs.Queries.{firstUnpriced}
 use Rattle.queries.specs.Answers.{answeredUnpriced}
-use Rattle.queries.specs.Places.{Priced}
+use Rattle.queries.specs.Inner.Places.{PositionPrices}
 use Rattle.queries.proofs.Walks.{first-found, first-passed, first-end}
 use Rattle.queries.proofs.unpriced.first_unpriced.Statement.{statement}
 use Rattle.queries.proofs.unpriced.first_unpriced.Tie as tie
@@ -24,7 +24,7 @@ use Rattle.queries.proofs.unpriced.first_unpriced.Tie as tie
 abbrev Inv-loop : tie.InvT-loop
 Inv-loop symbol quantity average realized total n price i₀ i =
     let ps = rows n (cols symbol quantity average realized total) in
-    (i ≤ n) × ((listed : ℕ → ℤ) → Priced listed ps price → firstUnpriced listed (drop i ps) ≡ firstUnpriced listed ps)
+    (i ≤ n) × ((listed : ℕ → ℤ) → PositionPrices listed ps price → firstUnpriced listed (drop i ps) ≡ firstUnpriced listed ps)
 
 abbrev μ-loop : tie.MeasureT-loop
 μ-loop symbol quantity average realized total n price i₀ i = n - i

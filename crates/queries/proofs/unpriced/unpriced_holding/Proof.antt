@@ -4,7 +4,8 @@ use mathlib.Core.Bool.{true}
 use mathlib.Core.Option.{none}
 use borrow.Author.Needs.{needs}
 use borrow.Author.Tests.{not-true, not-false}
-use Rattle.table.specs.Rows.{columnsOf, Full, Ordered}
+use Rattle.table.specs.Rows.{columnsOf, Full}
+use Rattle.table.specs.Inner.Rows.{Ordered}
 use Rattle.call_lists.specs.Lists.{priceOf}
 use Rattle.account.proofs.Full.{account-full}
 use Rattle.account.proofs.SoundAccounts.{account-ordered}

@@ -5,7 +5,7 @@ use mir.Val.{SFits}
 use mir.Facts.{toZ-ofZ}
 use borrow.Author.Needs.{needs}
 use Rattle.doubles.specs.Doubles.{ofI64}
-use Rattle.queries.specs.Places.{addedTo}
+use Rattle.queries.specs.Inner.Places.{addedWeight}
 use Rattle.table.proofs.Ordering.{zero-same}
 use Rattle.queries.proofs.weight.add_weight.Statement.{statement}
 use Rattle.queries.proofs.weight.add_weight.Tie as tie
@@ -14,7 +14,7 @@ is-zero-requires : tie.Need-is-zero-requires
 is-zero-requires c κs = search needs
 
 returns : tie.Need-returns
-unfolding addedTo
+unfolding addedWeight
 returns c = let e = sym (c .before .is-zero .ensures ∙ zero-same _) ∙ c .if1 .taken in rw e
 
 raw-requires : tie.Need-raw-requires
@@ -42,7 +42,7 @@ add-result : tie.Need-add-result
 add-result c = search needs
 
 returns-2 : tie.Need-returns-2
-unfolding addedTo
+unfolding addedWeight
 returns-2 c =
     let f = c .before in
     let v = f .value in

@@ -18,7 +18,7 @@ use Rattle.account.proofs.Columns.{rows-length}
 use Rattle.queries.specs.declared.answered.Weighed.{Weighed}
 use Rattle.queries.specs.Queries.{openOnes, weigh}
 use Rattle.queries.specs.Answers.{weighed}
-use Rattle.queries.specs.Places.{Priced, columns}
+use Rattle.queries.specs.Inner.Places.{PositionPrices, weightColumns}
 use Rattle.queries.proofs.Columns.{none-weighed, added-on, added-most}
 use Rattle.queries.proofs.weight.weigh.Statement.{statement}
 use Rattle.queries.proofs.weight.weigh.Tie as tie
@@ -27,7 +27,7 @@ abbrev Inv-loop : tie.InvT-loop
 Inv-loop symbol quantity average realized total n price equity whole keys₀ weights₀ count₀ i₀ keys weights count i =
     let ps = rows n (cols symbol quantity average realized total) in
     (i ≤ n) × (count ≤ i)
-    × ((listed : ℕ → ℤ) → Priced listed ps price → columns count keys weights ≡ weighed (weigh listed (toZ w64 equity) (openOnes (take i ps))))
+    × ((listed : ℕ → ℤ) → PositionPrices listed ps price → weightColumns count keys weights ≡ weighed (weigh listed (toZ w64 equity) (openOnes (take i ps))))
 
 abbrev μ-loop : tie.MeasureT-loop
 μ-loop symbol quantity average realized total n price equity whole keys₀ weights₀ count₀ i₀ keys weights count i = n - i
@@ -80,7 +80,7 @@ loop-again c =
     let k : i < length (positions s) = omega (arith, size s) in
     let m : i < 64 = omega (arith, s .pre .small) in
     let p = h .held .ensures ∙ place-holds (s .args .n) i (table s) (s .pre) (omega arith) in
-    let old = columns (l .loop .count) (l .loop .keys) (l .loop .weights) in
+    let old = weightColumns (l .loop .count) (l .loop .keys) (l .loop .weights) in
     let e = simp (toZ-ofZ (price-fits (c .before)), x .i64-to-f64 .ensures) at (a .ensures) in
     let few : a .result ≤ l .loop .count + 1 = rw (ap (λ (d : Weighed). d .count) e) (added-most (h .held .result) (getD (s .args .price .now) i (pos 0)) _ old) in (
       omega arith,

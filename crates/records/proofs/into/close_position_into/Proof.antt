@@ -49,12 +49,13 @@ use Rattle.fills.proofs.record.ExecutionKind.Laws as K′
 use Rattle.fills.proofs.record.ExecutionRecord as R
 use Rattle.portfolio.specs.declared.trade.Traded.{Traded}
 use Rattle.portfolio.specs.Rebalance.{Outcome}
-use Rattle.portfolio.specs.Close.{closed}
+use Rattle.portfolio.specs.Close.{positionClosed}
 use Rattle.portfolio.proofs.trade.Traded as T
 use Rattle.portfolio.proofs.trade.Traded.Laws as T′
 use Rattle.records.specs.declared.into.Numbers.{Numbers}
 use Rattle.records.specs.Run.{collected}
-use Rattle.records.specs.Into.{Written, handed, handedBy}
+use Rattle.records.specs.Into.{handed, handedBy}
+use Rattle.records.specs.Inner.Into.{Written}
 use Rattle.records.proofs.into.Numbers as S
 use Rattle.records.proofs.into.Numbers.Laws as S′
 use Rattle.records.proofs.Writing.{all-is-handed}
@@ -82,8 +83,8 @@ module _ {M : Type 1} (𝓤 : URA M) (H : Heap 𝓤) (A : Atoms 𝓤) (mem : Mem
   Over = tripleOf 𝓤 H A over.signature (over.spec 𝓤 H A mem run)
 
   within-of : (p : Account) (c : ℕ) (z : ℤ) (d : ℕ) (k : ExecutionKind) (room : ℕ) (r : Numbers)
-      → ent 𝓤 (ensured 𝓤 H A within.ended (within.clauses 𝓤 H A mem run) tt (p, (c, (z, (d, (k, (room, tt)))))) tt r) (fact 𝓤 (Written r (closed p c z d k room) room))
-  within-of p c z d k room r = exE 𝓤 _ (λ ws. snd∗ 𝓤 (sem 𝓤 H A (lasts within.ended tt (p, (c, (z, (d, (k, (room, tt)))))) ws)) (fact 𝓤 (Written r (closed p c z d k room) room)))
+      → ent 𝓤 (ensured 𝓤 H A within.ended (within.clauses 𝓤 H A mem run) tt (p, (c, (z, (d, (k, (room, tt)))))) tt r) (fact 𝓤 (Written r (positionClosed p c z d k room) room))
+  within-of p c z d k room r = exE 𝓤 _ (λ ws. snd∗ 𝓤 (sem 𝓤 H A (lasts within.ended tt (p, (c, (z, (d, (k, (room, tt)))))) ws)) (fact 𝓤 (Written r (positionClosed p c z d k room) room)))
 
 module _ {M : Type 1} (𝓤 : URA M) (H : Heap 𝓤) (A : Atoms 𝓤) (W : Given 𝓤 H A) (mem : Memory → SProp 𝓤) (run : Routine → Fun 𝓤) (κ : Lft) (q : Share) (p : Account) (pv : Val) (c : ℕ) (z : ℤ) (d : ℕ) (k : ExecutionKind) (b o : ℕ) (γ : GName) (ys : List ExecutionRecord) where
   abbrev x : RefT (List ExecutionRecord)
@@ -100,7 +101,7 @@ module _ {M : Type 1} (𝓤 : URA M) (H : Heap 𝓤) (A : Atoms 𝓤) (W : Given
   s = sliceVal (b, o) (length ys)
 
   abbrev outcome : Outcome
-  outcome = closed p c z d k (length ys)
+  outcome = positionClosed p c z d k (length ys)
 
   abbrev Arg : Type 0
   Arg = Account × (ℕ × (ℤ × (ℕ × (ExecutionKind × (RefT (List ExecutionRecord) × Unit {0})))))

@@ -8,9 +8,9 @@ use lib.Seq.{length-take-le}
 use native.Mathlib.Omega.{arith}
 use mir.Facts.{toZ-ofZ}
 use borrow.Author.Needs.{needs}
-use Rattle.portfolio.specs.Close.{closed}
+use Rattle.portfolio.specs.Close.{positionClosed}
 use Rattle.portfolio.specs.Trades.{filed}
-use Rattle.records.specs.Into.{Written}
+use Rattle.records.specs.Inner.Into.{Written}
 use Rattle.records.proofs.Writing.{closed-within-64, places-are, filed-is-written}
 use Rattle.records.proofs.into.close_within.Statement.{statement}
 use Rattle.records.proofs.into.close_within.Tie as tie
@@ -56,9 +56,9 @@ returns c =
     let gw : n * 4 ≤ length zw = omega (arith, small) in
     let gi : n * 8 ≤ length zi = omega (arith, small) in
     let e = simp (toZ-ofZ (s .fits .price)) at (k .close-position-at .ensures) in
-    let room = ap (closed (x .a) (x .symbol) (x .price) (x .period) (x .kind)) (places-are n zw zi gw gi ∙ u .up-to-64 .ensures) ∙ closed-within-64 (x .a) (x .symbol) (x .price) (x .period) (x .kind) (x .room) in
-    subst (λ m. Written m (closed (x .a) (x .symbol) (x .price) (x .period) (x .kind) (x .room)) (x .room)) (sym (c .in-numbers .ensures))
-    (filed-is-written (k .close-position-at .result) (closed (x .a) (x .symbol) (x .price) (x .period) (x .kind) (x .room)) n (x .room) _ _ small few
+    let room = ap (positionClosed (x .a) (x .symbol) (x .price) (x .period) (x .kind)) (places-are n zw zi gw gi ∙ u .up-to-64 .ensures) ∙ closed-within-64 (x .a) (x .symbol) (x .price) (x .period) (x .kind) (x .room) in
+    subst (λ m. Written m (positionClosed (x .a) (x .symbol) (x .price) (x .period) (x .kind) (x .room)) (x .room)) (sym (c .in-numbers .ensures))
+    (filed-is-written (k .close-position-at .result) (positionClosed (x .a) (x .symbol) (x .price) (x .period) (x .kind) (x .room)) n (x .room) _ _ small few
     (k .close-position-at .kept .1 .1 .1 .1 .1 .0 ∙ length-take-le _ _ gw)
     (k .close-position-at .kept .1 .1 .1 .1 .1 .1 .0 ∙ length-take-le _ _ gi)
     (e ∙ ap (λ o. filed o (take (n * 4) zw) (take (n * 8) zi)) room))

@@ -45,7 +45,7 @@ use Rattle.portfolio.proofs.trade.Traded.Laws as T′
 use Rattle.records.specs.declared.into.Filed.{Filed}
 use Rattle.records.specs.declared.into.Numbers.{Numbers}
 use Rattle.records.specs.Run.{collected}
-use Rattle.records.specs.Into.{filedOf}
+use Rattle.records.specs.Inner.Into.{filedOf}
 use Rattle.records.proofs.into.Filed as F
 use Rattle.records.proofs.into.Filed.Laws as F′
 use Rattle.records.proofs.into.Numbers as S

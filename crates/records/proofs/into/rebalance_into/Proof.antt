@@ -53,7 +53,8 @@ use Rattle.portfolio.proofs.trade.Traded as T
 use Rattle.portfolio.proofs.trade.Traded.Laws as T′
 use Rattle.records.specs.declared.into.Numbers.{Numbers}
 use Rattle.records.specs.Run.{collected}
-use Rattle.records.specs.Into.{Written, handed, handedBy}
+use Rattle.records.specs.Into.{handed, handedBy}
+use Rattle.records.specs.Inner.Into.{Written}
 use Rattle.records.proofs.into.Numbers as S
 use Rattle.records.proofs.into.Numbers.Laws as S′
 use Rattle.records.proofs.Writing.{all-is-handed}

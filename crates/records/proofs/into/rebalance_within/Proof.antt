@@ -9,7 +9,7 @@ use native.Mathlib.Omega.{arith}
 use borrow.Author.Needs.{needs}
 use Rattle.portfolio.specs.Rebalance.{rebalanced}
 use Rattle.portfolio.specs.Trades.{filed}
-use Rattle.records.specs.Into.{Written}
+use Rattle.records.specs.Inner.Into.{Written}
 use Rattle.records.proofs.Writing.{rebalanced-within-64, places-are, filed-is-written}
 use Rattle.records.proofs.into.rebalance_within.Statement.{statement}
 use Rattle.records.proofs.into.rebalance_within.Tie as tie

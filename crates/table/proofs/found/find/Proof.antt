@@ -4,7 +4,7 @@ use mathlib.Core.Path.{_≡_, ap, _∙_}
 use native.Mathlib.Omega.{arith}
 use borrow.Author.Needs.{needs}
 use lib.ListN.{length, take}
-use Rattle.table.specs.Places.{shorter, Finds}
+use Rattle.table.specs.Inner.Places.{shorter, Finds}
 use Rattle.table.proofs.Places.{shorter-within, take-shorter, finds-there}
 use Rattle.table.proofs.found.find.Statement.{statement}
 use Rattle.table.proofs.found.find.Tie as tie

@@ -8,7 +8,7 @@ use native.Mathlib.Omega.{arith}
 use lib.Dec.{ltb}
 use borrow.Author.Tests.{ltb-true, ltb-false}
 use lib.ListN.{length, take, getD}
-use Rattle.table.specs.Keyed.{Rising}
+use Rattle.table.specs.Inner.Keyed.{Rising}
 use Rattle.table.proofs.Places.{earlier-smaller, finds-at, finds-gap, finds-end}
 use Rattle.table.proofs.found.search.Statement.{statement}
 use Rattle.table.proofs.found.search.Tie as tie

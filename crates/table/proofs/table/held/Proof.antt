@@ -9,7 +9,8 @@ use mir.Val.{SFits}
 use mir.Facts.{toZ-ofZ}
 use borrow.Author.Tests.{lt-ltb, le-ltb}
 use Rattle.position.specs.Rows.{fresh}
-use Rattle.table.specs.Rows.{Cols, cols, rowAt, heldAt}
+use Rattle.table.specs.Rows.{Cols, cols, rowAt}
+use Rattle.table.specs.Inner.Rows.{heldAt}
 use Rattle.table.specs.declared.found.Found.{Found}
 use Rattle.table.specs.declared.found.Found.the-variants.{At, Absent}
 use borrow.Author.Needs.{needs}

@@ -4,7 +4,8 @@ use mathlib.Core.Path.{_≡_, sym, ap, _∙_}
 use mathlib.Core.Logic.{⊎-elim}
 use borrow.Author.Tests.{lt-ltb, le-ltb, le-leb, lt-leb, leb-true, leb-false}
 use Rattle.position.specs.declared.position.Position.{Position}
-use Rattle.table.specs.Rows.{Cols, cols, counted, setAll, openAll, posted}
+use Rattle.table.specs.Rows.{Cols, cols}
+use Rattle.table.specs.Inner.Rows.{counted, setAll, openAll, posted}
 use Rattle.table.specs.declared.found.Found.{Found}
 use Rattle.table.specs.declared.found.Found.the-variants.{At, Absent}
 use Rattle.table.proofs.Keyed.{both-false}

@@ -8,11 +8,11 @@ use lib.ListN.{getD}
 use mir.Syntax.{w64}
 use mir.Val.{toZ, SFits}
 use mir.Facts.{toZ-ofZ}
-use Rattle.table.specs.Keyed.{Rising}
-use Rattle.table.specs.Places.{shorter}
+use Rattle.table.specs.Inner.Keyed.{Rising}
+use Rattle.table.specs.Inner.Places.{shorter}
 use Rattle.table.proofs.Places.{shorter-within}
 use Rattle.call_lists.specs.Lists.{priceOf}
-use Rattle.wanted.specs.Equity.{worthPlaces}
+use Rattle.wanted.specs.Inner.Equity.{worthPlaces}
 use Rattle.wanted.proofs.Worth.{worth-none, worth-on}
 use Rattle.wanted.proofs.equity.total_worth.Statement.{statement}
 use Rattle.wanted.proofs.equity.total_worth.Tie as tie

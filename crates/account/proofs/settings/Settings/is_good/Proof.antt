@@ -8,7 +8,7 @@ use mir.Facts.{toZ-ofZ}
 use borrow.Author.Needs.{needs}
 use borrow.Author.Tests.{not-true, not-false}
 use Rattle.position.proofs.Counts.{lt-not-ge, not-lt-ge}
-use Rattle.account.specs.Settings.{atLeast, goodRules, goodSettings}
+use Rattle.account.specs.Settings.{isAtLeast, goodRules, goodSettings}
 use Rattle.account.proofs.settings.Settings.is_good.Statement.{statement}
 use Rattle.account.proofs.settings.Settings.is_good.Tie as tie
 
@@ -40,13 +40,13 @@ at-max c = c .before .before .before
 abbrev from : tie.Else1 → tie.Start
 from c = c .before .before
 
-good-step : (c : tie.Else2) → atLeast 1 (from (at-step c) .args .self .«quantity_step») ≡ true
+good-step : (c : tie.Else2) → isAtLeast 1 (from (at-step c) .args .self .«quantity_step») ≡ true
 good-step c = let s = from (at-step c) in not-lt-ge (s .args .self .«quantity_step») (pos 1) (simp (toZ-ofZ (step-fits s)) at (c .if2 .left))
 
-good-min : (c : tie.Else3) → atLeast 0 (from (at-step (at-min c)) .args .self .«min_order_value») ≡ true
+good-min : (c : tie.Else3) → isAtLeast 0 (from (at-step (at-min c)) .args .self .«min_order_value») ≡ true
 good-min c = let s = from (at-step (at-min c)) in not-lt-ge (s .args .self .«min_order_value») (pos 0) (simp (toZ-ofZ (min-fits s)) at (c .if3 .left))
 
-good-max : (c : tie.Else4) → atLeast 0 (from (at-step (at-min (at-max c))) .args .self .«max_order_value») ≡ true
+good-max : (c : tie.Else4) → isAtLeast 0 (from (at-step (at-min (at-max c))) .args .self .«max_order_value») ≡ true
 good-max c = let s = from (at-step (at-min (at-max c))) in not-lt-ge (s .args .self .«max_order_value») (pos 0) (simp (toZ-ofZ (max-fits s)) at (c .if4 .left))
 
 is-good-requires : tie.Need-is-good-requires

@@ -1,7 +1,7 @@
 -- `metrics::tally::Tally::after` meets its contract, by what its four calls ensure.
 use borrow.Author.Needs.{needs}
 use lib.Ieee.{ofBits}
-use Rattle.metrics.specs.Tally.{tallyAfter}
+use Rattle.metrics.specs.Inner.Tally.{tallyAfter}
 use Rattle.metrics.proofs.tally.Tally.after.Statement.{statement}
 use Rattle.metrics.proofs.tally.Tally.after.Tie as tie
 

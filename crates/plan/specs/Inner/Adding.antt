@@ -6,23 +6,25 @@ use lib.IntN.{ℤ, pos}
 use lib.ListN.{length, take, getD}
 use lib.Dec.{ltb}
 use lib.Ieee.{Float, nan}
-use Rattle.table.specs.Keyed.{pick, Rising}
-use Rattle.table.specs.Places.{shorter, found}
+use Rattle.table.specs.Keyed.{pick}
+use Rattle.table.specs.Inner.Keyed.{Rising}
+use Rattle.table.specs.Inner.Places.{shorter, found}
 use Rattle.table.specs.declared.found.Found.{Found}
 use Rattle.table.specs.declared.found.Found.the-variants.{At, Absent}
 use Rattle.call_lists.specs.Lists.{among, priceOf}
 use Rattle.account.specs.declared.settings.Settings.{Settings}
 use Rattle.wanted.specs.declared.plan.PlannedOrder.{PlannedOrder}
 use Rattle.wanted.specs.Plan.{plannedClose, plannedTarget}
-use Rattle.admission.specs.Admission.{capped, mostOf}
-use Rattle.admission.specs.Columns.{from, Counted, counted, addedTo}
-use Rattle.admission.specs.Offers.{cutPlan}
+use Rattle.admission.specs.Admission.{capped}
+use Rattle.admission.specs.Inner.Admission.{mostOf}
+use Rattle.admission.specs.Inner.Columns.{from, CountedPlan, countedPlan, addedTo}
+use Rattle.admission.specs.Inner.Offers.{cutPlan}
 
 -- one order more, in a plan that is kept to the most that its trade cap admits
-abbrev pub keptWith : Settings → PlannedOrder → Counted → Counted
-keptWith s o t = let u = addedTo (capped s) o t in counted (shorter (u .count) (mostOf s)) (u .columns)
+abbrev pub keptWith : Settings → PlannedOrder → CountedPlan → CountedPlan
+keptWith s o t = let u = addedTo (capped s) o t in countedPlan (shorter (u .count) (mostOf s)) (u .columns)
 
-unfoldable pub addedAllTo : Settings → List PlannedOrder → Counted → Counted
+unfoldable pub addedAllTo : Settings → List PlannedOrder → CountedPlan → CountedPlan
 addedAllTo s [] t = t
 addedAllTo s (o ∷ os) t = addedAllTo s os (keptWith s o t)
 
@@ -36,7 +38,7 @@ unfoldable pub closesAt : Settings → ℤ → (ℕ → ℤ) → List ℕ → �
 closesAt s equity price targets n ks qs = from (closeAt s equity price targets ks qs) 0 (shorter n 64)
 
 -- the plan t to u: the closes are added, where the symbols of the prices ascend
-pub record Closes (s : Settings) (equity : ℤ) (ks : List ℕ) (qs : List ℤ) (n : ℕ) (targets symbols : List ℕ) (prices : List ℤ) (t u : Counted) : Type 0 where
+pub record PlansCloses (s : Settings) (equity : ℤ) (ks : List ℕ) (qs : List ℤ) (n : ℕ) (targets symbols : List ℕ) (prices : List ℤ) (t u : CountedPlan) : Type 0 where
   pub settled : Rising symbols → u ≡ addedAllTo s (closesAt s equity (priceOf symbols prices) targets n ks qs) t
 
 -- the quantity at a place that was found, 0 where none was
@@ -45,7 +47,7 @@ quantityAt (At i) qs = pick (ltb i 64) (getD qs i (pos 0)) (pos 0)
 quantityAt (Absent i) qs = pos 0
 
 -- r is the quantity of the symbol among the first n places, where their symbols ascend
-pub record Holds (ks : List ℕ) (qs : List ℤ) (n s : ℕ) (r : ℤ) : Type 0 where
+pub record HoldsQuantity (ks : List ℕ) (qs : List ℤ) (n s : ℕ) (r : ℤ) : Type 0 where
   pub settled : Rising (take n ks) → r ≡ quantityAt (found s (take n ks)) qs
 
 -- the order for the target at a place of the list
@@ -58,7 +60,7 @@ unfoldable pub targetsAt : Settings → ℤ → (ℕ → ℤ) → List ℕ → L
 targetsAt s equity price ks qs targets weights = from (targetAt s equity price ks qs targets weights) 0 (shorter (length targets) (length weights))
 
 -- the plan t to u: the orders for the targets are added, where the symbols of the prices and those of the holdings ascend
-pub record Targets (s : Settings) (equity : ℤ) (ks : List ℕ) (qs : List ℤ) (n : ℕ) (targets : List ℕ) (weights : List Float) (symbols : List ℕ) (prices : List ℤ) (t u : Counted) : Type 0 where
+pub record PlansTargets (s : Settings) (equity : ℤ) (ks : List ℕ) (qs : List ℤ) (n : ℕ) (targets : List ℕ) (weights : List Float) (symbols : List ℕ) (prices : List ℤ) (t u : CountedPlan) : Type 0 where
   pub settled : Rising symbols → Rising (take n ks) → u ≡ addedAllTo s (targetsAt s equity (priceOf symbols prices) (take n ks) qs targets weights) t
 
 -- all of them, in order
@@ -66,5 +68,5 @@ unfoldable pub wantedAt : Settings → ℤ → (ℕ → ℤ) → ℕ → List �
 wantedAt s equity price n ks qs targets weights = closesAt s equity price targets n ks qs ++ targetsAt s equity price (take n ks) qs targets weights
 
 -- the plan t to u: these orders are added and cut to what the caps admit, where the symbols of the prices and those of the holdings ascend
-pub record Makes (s : Settings) (equity : ℤ) (ks : List ℕ) (qs : List ℤ) (n : ℕ) (targets : List ℕ) (weights : List Float) (symbols : List ℕ) (prices : List ℤ) (t u : Counted) : Type 0 where
+pub record Makes (s : Settings) (equity : ℤ) (ks : List ℕ) (qs : List ℤ) (n : ℕ) (targets : List ℕ) (weights : List Float) (symbols : List ℕ) (prices : List ℤ) (t u : CountedPlan) : Type 0 where
   pub settled : Rising symbols → Rising (take n ks) → u ≡ cutPlan s (addedAllTo s (wantedAt s equity (priceOf symbols prices) n ks qs targets weights) t)

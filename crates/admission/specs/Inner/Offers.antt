@@ -13,7 +13,7 @@ use Rattle.account.specs.declared.settings.Settings.{Settings}
 use Rattle.admission.specs.declared.cap.Offered.{Offered}
 use Rattle.admission.specs.declared.cap.Offered.the-variants.{Whole, Part, Ends}
 use Rattle.admission.specs.Admission.{reached, admitted}
-use Rattle.admission.specs.Columns.{cols, plans, Counted, counted}
+use Rattle.admission.specs.Inner.Columns.{planCols, plans, CountedPlan, countedPlan}
 
 -- "truncated to it by the same formula, kept if not zero and not under the minimum, and ends admission"
 unfoldable pub partOffered : Settings → ℤ → ℤ → ℤ → Offered
@@ -31,8 +31,8 @@ offered s n left quantity price =
     (Whole (left -ℤ notional quantity price)))))
 
 -- the plan cut to its admitted orders: their count, and their quantities in the first places; the other columns stay
-unfoldable pub cutPlan : Settings → Counted → Counted
+unfoldable pub cutPlan : Settings → CountedPlan → CountedPlan
 cutPlan s t =
     let c = t .columns in
     let l = admitted s (plans (t .count) c) in
-    counted (length l) (cols (c .symbol) (map (λ o. o .quantity .0) l ++ drop (length l) (c .quantity)) (c .price) (c .drift))
+    countedPlan (length l) (planCols (c .symbol) (map (λ o. o .quantity .0) l ++ drop (length l) (c .quantity)) (c .price) (c .drift))

@@ -8,20 +8,20 @@ use lib.IntN.{ℤ, pos}
 use lib.Signed.{leZ}
 use lib.Ieee.{Float}
 use Rattle.sums.specs.Sums.{satAdd}
-use Rattle.table.specs.Keyed.{pick, Rising}
-use Rattle.table.specs.Places.{shorter, found}
+use Rattle.table.specs.Keyed.{pick}
+use Rattle.table.specs.Inner.Keyed.{Rising}
+use Rattle.table.specs.Inner.Places.{shorter, found}
 use Rattle.table.specs.declared.found.Found.{Found}
 use Rattle.table.specs.declared.found.Found.the-variants.{At, Absent}
-use Rattle.table.specs.Rows.{columnsOf}
-use Rattle.table.specs.Rows as table
+use Rattle.table.specs.Rows.{columnsOf, Full}
 use Rattle.call_lists.specs.Lists.{distinct, priceOf}
 use Rattle.account.specs.declared.account.Account.{Account}
 use Rattle.account.specs.declared.settings.Settings.{Settings}
 use Rattle.account.specs.Account.{soundAccount, heldIn}
-use Rattle.wanted.specs.Equity.{worthPlaces}
-use Rattle.admission.specs.Columns.{Cols}
+use Rattle.wanted.specs.Inner.Equity.{worthPlaces}
+use Rattle.admission.specs.Inner.Columns.{PlanCols}
 use Rattle.plan.specs.declared.plan.Planned.{Planned}
-use Rattle.plan.specs.Planning.{Standing, standing, planMade}
+use Rattle.plan.specs.Inner.Planning.{Standing, standing, planMade}
 use Rattle.portfolio.specs.Answers.{hasRoom, notHeld}
 
 -- ---- targets that are not held
@@ -44,19 +44,19 @@ abbrev pub equityAt : (ℕ → ℤ) → ℤ → ℕ → List ℕ → List ℤ �
 equityAt price cash n ks qs = satAdd cash (worthPlaces price (shorter n 64) ks qs)
 
 -- "At equity 0 or below the call is done with no orders and both last-rebalance figures 0"
-unfoldable pub planAt : Settings → ℤ → (ℕ → ℤ) → ℕ → List ℕ → List ℤ → List ℕ → List Float → Cols → Standing
+unfoldable pub planAt : Settings → ℤ → (ℕ → ℤ) → ℕ → List ℕ → List ℤ → List ℕ → List Float → PlanCols → Standing
 planAt s cash price n ks qs targets weights c =
     let equity = equityAt price cash n ks qs in
     pick (leZ equity (pos 0)) (standing c (record { count = 0; notional = pos 0 })) (planMade s equity price n ks qs targets weights c)
 
 -- the columns c to d, where the symbols of the prices and those of the holdings ascend
-pub record Plans (s : Settings) (cash : ℤ) (ks : List ℕ) (qs : List ℤ) (n : ℕ) (targets : List ℕ) (weights : List Float) (symbols : List ℕ) (prices : List ℤ) (c d : Cols) (r : Planned) : Type 0 where
+pub record PlansFromCash (s : Settings) (cash : ℤ) (ks : List ℕ) (qs : List ℤ) (n : ℕ) (targets : List ℕ) (weights : List Float) (symbols : List ℕ) (prices : List ℤ) (c d : PlanCols) (r : Planned) : Type 0 where
   pub settled : Rising symbols → Rising (take n ks) → standing d r ≡ planAt s cash (priceOf symbols prices) n ks qs targets weights c
 
 -- ---- a rebalance that is not refused, at prices whose symbols ascend
 pub record Ready (a : Account) (targets : List ℕ) (weights : List Float) (symbols : List ℕ) (room : ℕ) : Type 0 where
   pub sound : soundAccount a ≡ true
-  pub full : table.Full (columnsOf (a .positions))
+  pub full : Full (columnsOf (a .positions))
   pub paired : length targets ≡ length weights
   pub apart : distinct targets ≡ true
   pub priced : Rising symbols

@@ -4,7 +4,7 @@ use Prim.Native.Nat.{ℕ}
 use lib.Ieee.{Float, binary64, sub}
 use Rattle.metrics.specs.Double.{one, allFinite}
 use Rattle.metrics.specs.Curve.{flat, curveAfter}
-use Rattle.metrics.specs.Tally.{noReturns, tallyAfter}
+use Rattle.metrics.specs.Inner.Tally.{noReturns, tallyAfter}
 use Rattle.metrics.specs.Ratio.{winRate, mean, gainOverLoss, kellyOf}
 use Rattle.metrics.specs.declared.Figures.{Figures}
 use Rattle.metrics.specs.declared.curve.Curve.{Curve}
