@@ -19,7 +19,7 @@ use Rattle.fills.specs.declared.order.Order.{Order}
 use Rattle.fills.specs.declared.order.Terms.{Terms}
 use Rattle.fills.specs.Orders.{State}
 use Rattle.fills.specs.Fill.{fillAll}
-use Rattle.order.specs.Running.{Perm, sumOver, Room, NotBelow0, InRange}
+use Rattle.order.specs.Running.{Perm, total, Room, NotBelow0, InRange}
 use Rattle.order.specs.Statement.{cashRaised, placesAsked, Batch, AllWhole, OrderIsFree}
 use Rattle.order.specs.OnAccount.{Begins, OrdersOn, SameAccount}
 use Rattle.order.proofs.OrderTheorem.{condition-3}
@@ -32,10 +32,10 @@ module _ (a : Account) (t : Terms) (os : List Order) (s : State) (g : OrdersOn a
           costs = subst (λ (m : CostModel). goodCosts m ≡ true) (sym (b .costs)) (account-costs a (g .sound));
           orders = g .orders;
           cash-low = subst NotBelow0 (sym (b .cash)) (account-cash a (g .sound));
-          cash-top = subst (λ (z : ℤ). InRange (z +ℤ pos (sumOver (cashRaised t) os))) (sym (b .cash)) (g .cash-top);
+          cash-top = subst (λ (z : ℤ). InRange (z +ℤ pos (total (cashRaised t) os))) (sym (b .cash)) (g .cash-top);
         };
         different = g .different;
-        room = subst (λ (ps : List Position). Room (length ps) (sumOver (placesAsked ps) os)) (sym (b .held)) (g .room);
+        room = subst (λ (ps : List Position). Room (length ps) (total (placesAsked ps) os)) (sym (b .held)) (g .room);
       }
 
   -- both halves

@@ -31,11 +31,11 @@ use Rattle.admission.specs.Admission.{capped, insertBy, added, addedAll, admitt
 use Rattle.admission.specs.Running.{planOf}
 use Rattle.portfolio.specs.Answers.{hasRoom, notHeld, rebalanceAnswer}
 use Rattle.portfolio.specs.Rebalance.{admittedPlan}
-use Rattle.order.specs.Running.{swap, sumOver}
+use Rattle.order.specs.Running.{swap, total}
 use Rattle.order.specs.Statement.{cashRaised, allWhole}
 use Rattle.fills.specs.declared.order.Order.{Order}
 use Rattle.order.specs.Examples.{sell}
-use Rattle.order.specs.CashFirst.{Call, InCashFirst, FillsAll, accountLeft, begins, terms}
+use Rattle.order.specs.CashFirst.{Call, InCashFirst, FillsAll, left, begins, terms}
 use Rattle.order.proofs.CashFirst.{carries-demand-3}
 
 abbrev A : ℕ
@@ -63,7 +63,7 @@ case = record {
 }
 
 pub asked : InCashFirst case
-unfolding sumOver cashRaised above admittedPlan rebalanceAnswer hasRoom notHeld soundAccount soundScalars soundColumns soundPlaces tableOf goodRules goodSettings goodCeiling goodCosts goodRate zipped unused ordered goodSymbol bytesFrom leading zeros padded soundNumbers sound shortEnough listsAnswer among allGood distinct allFinite allPriced priceOf worthFrom equityOf planOf wanted closings closing plannedClose Plan.ordered withinBand underMaximum limited targetings drift capped insertBy added addedAll admittedFrom admitted cashChange cashTaken cost commission atLeast uncapped atMost effective slipped slippageFactor value notional clamp64 satAdd satSub satNeg satAbs roundAway add mul div lt le ofInt toSigned isZero
+unfolding total cashRaised above admittedPlan rebalanceAnswer hasRoom notHeld soundAccount soundScalars soundColumns soundPlaces tableOf goodRules goodSettings goodCeiling goodCosts goodRate zipped unused ordered goodSymbol bytesFrom leading zeros padded soundNumbers sound shortEnough listsAnswer among allGood distinct allFinite allPriced priceOf worthFrom equityOf planOf wanted closings closing plannedClose Plan.ordered withinBand underMaximum limited targetings drift capped insertBy added addedAll admittedFrom admitted cashChange cashTaken cost commission atLeast uncapped atMost effective slipped slippageFactor value notional clamp64 satAdd satSub satNeg satAbs roundAway add mul div lt le ofInt toSigned isZero
 asked = record {
   columns = record { symbol = refl; quantity = refl; average = refl; realized = refl; total = refl };
   mode = refl;
@@ -75,6 +75,6 @@ pub b-then-a : FillsAll case (sell B (pos 25) ∷ sell A (pos 10) ∷ [])
 unfolding allWhole admittedPlan tableOf zipped listsAnswer among priceOf worthFrom equityOf planOf wanted closings closing plannedClose Plan.ordered withinBand underMaximum limited targetings drift capped insertBy added addedAll admittedFrom admitted cashTaken fill fillsWhole settled made recordOf paid applied sameSide closedBy gain realizedBy closed reduced isZero cost commission atLeast uncapped atMost effective slipped slippageFactor value notional clamp64 satAdd satSub satNeg satAbs roundAway add mul div lt le ofInt toSigned
 b-then-a = record { runs = swap; whole = refl }
 
-pub ends-at-5 : accountLeft case .cash ≡ pos 5
+pub ends-at-5 : left case .cash ≡ pos 5
 unfolding fillAll tableOf zipped fill fillsWhole settled made recordOf paid applied sameSide closedBy gain realizedBy closed reduced isZero cashTaken cost commission atLeast uncapped atMost effective slipped slippageFactor value notional clamp64 satAdd satSub satNeg satAbs roundAway add mul div lt le ofInt toSigned
 ends-at-5 = carries-demand-3 case asked .leaves _ b-then-a .cash

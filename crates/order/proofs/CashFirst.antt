@@ -15,7 +15,7 @@ use Rattle.portfolio.proofs.Refusals.{rebalance-done}
 use Rattle.order.specs.Running.{Perm, then}
 use Rattle.order.specs.Statement.{lowers, LowersLast, OrderIsFree}
 use Rattle.order.specs.OnAccount.{Begins, OrdersOn}
-use Rattle.order.specs.CashFirst.{Call, admittedOrders, runOrders, terms, begins, accountLeft, InCashFirst, FillsAll, Leaves, CarriesDemand3}
+use Rattle.order.specs.CashFirst.{Call, admittedOrders, runOrders, terms, begins, left, InCashFirst, FillsAll, Leaves, CarriesDemand3}
 use Rattle.order.proofs.Perms.{perm-map, perm-parted, perm-sorted, parted-last}
 use Rattle.order.proofs.Accounts.{order-is-free, same-account}
 use Rattle.order.proofs.OwnOrders.{own-orders}
@@ -80,11 +80,11 @@ module _ (c : Call) (h : InCashFirst c) where
   mode-fills w f = record { runs = runs-all; whole = free .fills w (f .runs) (f .whole) (runOrders c) runs-all lowers-last }
 
   -- the account of a done call is what its run leaves
-  call-leaves : Leaves (accountLeft c) (fillAll (terms c) (runOrders c) (begins c))
+  call-leaves : Leaves (left c) (fillAll (terms c) (runOrders c) (begins c))
   unfolding rebalanced afterRebalance accountAfter afterPlan
   call-leaves =
       let answer = rebalanceAnswer (c .account) (c .targets) (c .weights) (c .symbols) (c .prices) (c .room) in
-      let e : accountLeft c ≡ afterRebalance (c .account) plan (c .period) (c .kind) .account = ap (λ b. pick b (afterRebalance (c .account) plan (c .period) (c .kind)) (refused answer (c .account)) .account) (h .done) in
+      let e : left c ≡ afterRebalance (c .account) plan (c .period) (c .kind) .account = ap (λ b. pick b (afterRebalance (c .account) plan (c .period) (c .kind)) (refused answer (c .account)) .account) (h .done) in
       record { cash = ap (λ (a : Account). a .cash) e; table = ap (λ (a : Account). a .positions) e }
 
   pub carries-demand-3 : CarriesDemand3 c

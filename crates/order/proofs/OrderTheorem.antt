@@ -13,7 +13,7 @@ use Rattle.fills.specs.Fill.{fillsWhole, fill, fillAll}
 use Rattle.admission.specs.Running.{parted}
 use Rattle.order.specs.Running.{Perm, InRange}
 use Rattle.order.specs.Statement.{lowers, cashRaised, Funded, Batch, allWhole, AllWhole, LowersLast, OrderIsFree}
-use Rattle.order.proofs.Perms.{sumOver-same, perm-parted, parted-last}
+use Rattle.order.proofs.Perms.{total-same, perm-parted, parted-last}
 use Rattle.order.proofs.Rule as Rule
 use Rattle.order.proofs.Fills.{fills}
 
@@ -29,12 +29,12 @@ whole t g [] s = refl
 whole t g (o ∷ os) s = ap (λ (b : Bool). fillsWhole t o (s .cash) && b) (whole t g os (fill t o s))
 
 module _ (t : Terms) (os : List Order) (s : State) where
-  funded : (f : Funded t os s) → Rule.FundedUnder (fills t (f .costs)) os s
+  funded : (f : Funded t os s) → Rule.Funded (fills t (f .costs)) os s
   unfolding fills cashChange cashRaised paid
   funded f = record {
     orders = f .orders;
     cash-low = f .cash-low;
-    cash-top = subst (λ (n : ℕ). InRange (s .cash +ℤ pos n)) (sumOver-same _ _ (λ o. above-is-P (cashChange (t .costs) (o .quantity .0) (o .price))) os) (f .cash-top);
+    cash-top = subst (λ (n : ℕ). InRange (s .cash +ℤ pos n)) (total-same _ _ (λ o. above-is-P (cashChange (t .costs) (o .quantity .0) (o .price))) os) (f .cash-top);
   }
 
   apart : (b : Batch t os s) → Rule.Apart (fills t (b .funded .costs)) os s

@@ -39,14 +39,14 @@ use Rattle.fills.specs.declared.order.Order.{Order}
 use Rattle.portfolio.specs.Answers.{isDone, notHeld, rebalanceAnswer}
 use Rattle.portfolio.specs.Rebalance.{orderOf, admittedPlan}
 use Rattle.portfolio.proofs.Refusals.{rebalance-done}
-use Rattle.order.specs.Running.{sumOver, All, nothing, and, Pairs, Different, Room}
+use Rattle.order.specs.Running.{total, All, nothing, and, Pairs, Different, Room}
 use Rattle.order.specs.Statement.{Tradable, symbolOf, placesAsked}
 
 -- "non-zero orders for different symbols .. with table room for all"
 pub record OwnOrders (held : List Position) (os : List Order) : Type 0 where
   pub orders : All Order Tradable os
   pub different : Pairs Order (Different symbolOf) os
-  pub room : Room (length held) (sumOver (placesAsked held) os)
+  pub room : Room (length held) (total (placesAsked held) os)
 
 -- what holds of the first, and of the second where that is picked
 picked : {A : Type 0} (Q : A → Type 0) (b : Bool) (x y : A) → Q x → (b ≡ false → Q y) → Q (pick b x y)
@@ -54,18 +54,18 @@ picked Q true x y p q = p
 picked Q false x y p q = q refl
 
 -- ---- sums over lists of symbols
-sumOver-none : (f : ℕ → ℕ) (l : List ℕ) → ((k : ℕ) → among k l ≡ true → f k ≡ 0) → sumOver f l ≡ 0
-unfolding sumOver
-sumOver-none f [] h = refl
-sumOver-none f (k ∷ l) h = omega (arith, h k (among-own k l), sumOver-none f l (λ j e. h j (among-more j k l e)))
+total-none : (f : ℕ → ℕ) (l : List ℕ) → ((k : ℕ) → among k l ≡ true → f k ≡ 0) → total f l ≡ 0
+unfolding total
+total-none f [] h = refl
+total-none f (k ∷ l) h = omega (arith, h k (among-own k l), total-none f l (λ j e. h j (among-more j k l e)))
 
 -- of a figure that is 0 but for one symbol, where no symbol stands twice
-sumOver-once : (f : ℕ → ℕ) (j : ℕ) → ((k : ℕ) → (k ≡ j → ⊥) → f k ≡ 0) → (l : List ℕ) → distinct l ≡ true → sumOver f l ≤ pick (among j l) (f j) 0
-unfolding sumOver among
-sumOver-once f j z [] e = omega arith
-sumOver-once f j z (k ∷ l) e = go (eqb k j) refl (sumOver-once f j z l (distinct-rest k l e))
+total-once : (f : ℕ → ℕ) (j : ℕ) → ((k : ℕ) → (k ≡ j → ⊥) → f k ≡ 0) → (l : List ℕ) → distinct l ≡ true → total f l ≤ pick (among j l) (f j) 0
+unfolding total among
+total-once f j z [] e = omega arith
+total-once f j z (k ∷ l) e = go (eqb k j) refl (total-once f j z l (distinct-rest k l e))
   where
-    go : (b : Bool) → eqb k j ≡ b → sumOver f l ≤ pick (among j l) (f j) 0 → f k + sumOver f l ≤ pick (pick b true (among j l)) (f j) 0
+    go : (b : Bool) → eqb k j ≡ b → total f l ≤ pick (among j l) (f j) 0 → f k + total f l ≤ pick (pick b true (among j l)) (f j) 0
     go true q h =
         let n : among j l ≡ false = rw (eqb-true k j q) at (distinct-first k l e) in
         omega (arith, rw n at h, ap f (eqb-true k j q))
@@ -90,25 +90,25 @@ module _ (j : ℕ) where
   is-other k n = rw (ne-eqb k j n)
 
   -- no symbol is twice among symbols that are no targets, and targets
-  counted-once : (ks ts : List ℕ) → distinct ks ≡ true → distinct ts ≡ true → sumOver (besides ts (is j)) ks + sumOver (is j) ts ≤ 1
+  counted-once : (ks ts : List ℕ) → distinct ks ≡ true → distinct ts ≡ true → total (besides ts (is j)) ks + total (is j) ts ≤ 1
   counted-once ks ts d e =
       go (among j ks) (among j ts) (is j j) (is-own j refl)
-      (sumOver-once (besides ts (is j)) j (λ k n. besides-none ts (is j) k (is-other k n)) ks d) (sumOver-once (is j) j is-other ts e)
+      (total-once (besides ts (is j)) j (λ k n. besides-none ts (is j) k (is-other k n)) ks d) (total-once (is j) j is-other ts e)
     where
-      go : (a b : Bool) (n : ℕ) → n ≡ 1 → sumOver (besides ts (is j)) ks ≤ pick a (pick b 0 n) 0 → sumOver (is j) ts ≤ pick b n 0 → sumOver (besides ts (is j)) ks + sumOver (is j) ts ≤ 1
+      go : (a b : Bool) (n : ℕ) → n ≡ 1 → total (besides ts (is j)) ks ≤ pick a (pick b 0 n) 0 → total (is j) ts ≤ pick b n 0 → total (besides ts (is j)) ks + total (is j) ts ≤ 1
       go true true n q g h = omega arith
       go true false n q g h = omega arith
       go false true n q g h = omega arith
       go false false n q g h = omega arith
 
-  none-counted : (os : List Order) → sumOver (λ o. is j (symbolOf o)) os ≤ 0 → All Order (λ o. j ≡ symbolOf o → ⊥) os
-  unfolding sumOver
+  none-counted : (os : List Order) → total (λ o. is j (symbolOf o)) os ≤ 0 → All Order (λ o. j ≡ symbolOf o → ⊥) os
+  unfolding total
   none-counted [] h = nothing
   none-counted (o ∷ os) h = and {a = o} (λ e. omega (arith, is-own (symbolOf o) (sym e))) (none-counted os (omega arith))
 
 -- orders among which each symbol counts at most once are for different symbols
-once-differ : (os : List Order) → ((j : ℕ) → sumOver (λ o. is j (symbolOf o)) os ≤ 1) → Pairs Order (Different symbolOf) os
-unfolding sumOver
+once-differ : (os : List Order) → ((j : ℕ) → total (λ o. is j (symbolOf o)) os ≤ 1) → Pairs Order (Different symbolOf) os
+unfolding total
 once-differ [] h = nothing
 once-differ (o ∷ os) h = and (none-counted (symbolOf o) os (omega (arith, h (symbolOf o), is-own (symbolOf o) (symbolOf o) refl))) (once-differ os (λ j. omega (arith, h j)))
 
@@ -130,19 +130,19 @@ found-among k (p ∷ ps) r e = go (eqb (keyOf p) k) (leb k (keyOf p)) refl refl 
         absurd (omega arith)
     go false false x y m h = h m
 
-asked-of-targets : (held : List Position) (ts : List ℕ) → sumOver (λ k. new (seek keyOf k held)) ts ≡ notHeld ts held
-unfolding sumOver notHeld
+asked-of-targets : (held : List Position) (ts : List ℕ) → total (λ k. new (seek keyOf k held)) ts ≡ notHeld ts held
+unfolding total notHeld
 asked-of-targets held [] = refl
 asked-of-targets held (t ∷ ts) = go (seek keyOf t held) (asked-of-targets held ts)
   where
-    go : (o : Option Position) → sumOver (λ k. new (seek keyOf k held)) ts ≡ notHeld ts held → new o + sumOver (λ k. new (seek keyOf k held)) ts ≡ pick (there o) (notHeld ts held) (notHeld ts held + 1)
+    go : (o : Option Position) → total (λ k. new (seek keyOf k held)) ts ≡ notHeld ts held → new o + total (λ k. new (seek keyOf k held)) ts ≡ pick (there o) (notHeld ts held) (notHeld ts held + 1)
     go none h = omega arith
     go (some p) h = omega arith
 
 -- ---- sums over the symbols of orders
 module _ (g : ℕ → ℕ) where
   abbrev sum : List PlannedOrder → ℕ
-  sum l = sumOver (λ o. g (symbolOf o)) (map orderOf l)
+  sum l = total (λ o. g (symbolOf o)) (map orderOf l)
 
   -- an order of quantity 0 is none
   abbrev share : PlannedOrder → ℕ
@@ -152,18 +152,18 @@ module _ (g : ℕ → ℕ) where
   share-most k o e = picked (λ n. n ≤ g k) (isZero (o .quantity .0)) 0 (g (o .symbol .0)) (omega arith) (λ z. omega (arith, ap g e))
 
   sum-inserted : (first : PlannedOrder → PlannedOrder → Bool) (o : PlannedOrder) (l : List PlannedOrder) → sum (insertBy first o l) ≡ g (o .symbol .0) + sum l
-  unfolding sumOver insertBy
+  unfolding total insertBy
   sum-inserted first o [] = refl
   sum-inserted first o (x ∷ l) = picked (λ k. sum k ≡ g (o .symbol .0) + sum (x ∷ l)) (first o x) (o ∷ (x ∷ l)) (x ∷ insertBy first o l) refl (λ e. omega (arith, sum-inserted first o l))
 
-  sum-added : (s : Settings) (os plan : List PlannedOrder) → sum (addedAll s os plan) ≤ sumOver share os + sum plan
-  unfolding sumOver addedAll
+  sum-added : (s : Settings) (os plan : List PlannedOrder) → sum (addedAll s os plan) ≤ total share os + sum plan
+  unfolding total addedAll
   sum-added s [] plan = omega arith
   sum-added s (o ∷ os) plan =
       omega (arith, sum-added s os (added s o plan), added-keeps (λ l. sum l ≤ share o + sum plan) s o plan (omega arith) (λ first e. rw e (omega (arith, sum-inserted first o plan))))
 
   sum-start : {l k : List PlannedOrder} → Start l k → sum k ≤ sum l
-  unfolding sumOver
+  unfolding total
   sum-start none = omega arith
   sum-start (last e p) = omega (arith, ap g e)
   sum-start (more h) = omega (arith, sum-start h)
@@ -181,20 +181,20 @@ module _ (g : ℕ → ℕ) where
         go true = omega arith
         go false = share-most (keyOf p) (close false) (planning.close-order s equity (keyOf p) (p .quantity .0) (price (keyOf p)) false .symbol)
 
-    sum-closings : (ts : List ℕ) (ps : List Position) (l : List PlannedOrder) → sumOver share (closings s equity price ts ps ++ l) ≤ sumOver (besides ts g) (map keyOf ps) + sumOver share l
-    unfolding sumOver closings
+    sum-closings : (ts : List ℕ) (ps : List Position) (l : List PlannedOrder) → total share (closings s equity price ts ps ++ l) ≤ total (besides ts g) (map keyOf ps) + total share l
+    unfolding total closings
     sum-closings ts [] l = omega arith
     sum-closings ts (p ∷ ps) l = omega (arith, share-closing ts p, sum-closings ts ps l)
 
-    sum-targetings : (held : List Position) (ts : List ℕ) (ws : List Float) → sumOver share (targetings s equity price held ts ws) ≤ sumOver g ts
-    unfolding sumOver targetings
+    sum-targetings : (held : List Position) (ts : List ℕ) (ws : List Float) → total share (targetings s equity price held ts ws) ≤ total g ts
+    unfolding total targetings
     sum-targetings held [] ws = omega arith
     sum-targetings held (t ∷ ts) [] = omega arith
     sum-targetings held (t ∷ ts) (w ∷ ws) = omega (arith, share-most t (targeting s equity price held t w) (planning.targeting-order s equity price held t w .symbol), sum-targetings held ts ws)
 
     -- the held symbols that are no targets, and the targets
-    sum-plan : (held : List Position) (ts : List ℕ) (ws : List Float) → sum (planOf s equity price held ts ws) ≤ sumOver (besides ts g) (map keyOf held) + sumOver g ts
-    unfolding planOf wanted sumOver
+    sum-plan : (held : List Position) (ts : List ℕ) (ws : List Float) → sum (planOf s equity price held ts ws) ≤ total (besides ts g) (map keyOf held) + total g ts
+    unfolding planOf wanted total
     sum-plan held ts ws =
         let os = wanted s equity price held ts ws in
         omega (arith, sum-start (admitted-is-start s (addedAll s os [])), sum-added s os [], sum-closings ts held (targetings s equity price held ts ws), sum-targetings held ts ws)
@@ -258,13 +258,13 @@ module _ (s : Settings) (equity : ℤ) (price : ℕ → ℤ) where
         record {
           orders = plan-traded;
           different = once-differ _ (λ j. omega (arith, sum-plan (is j) s equity price held ts ws, counted-once j ks ts (ascending-distinct ks (rising-ascends ks r)) e));
-          room = omega (arith, sum-plan asked s equity price held ts ws, asked-of-targets held ts, sumOver-none (besides ts asked) ks (λ k m. besides-none ts asked k (found-among k held r m)));
+          room = omega (arith, sum-plan asked s equity price held ts ws, asked-of-targets held ts, total-none (besides ts asked) ks (λ k m. besides-none ts asked k (found-among k held r m)));
         }
 
 -- "At equity 0 or below the call is done with no orders"
 pub own-orders : (a : Account) → Full (columnsOf (a .positions)) → (ts : List ℕ) (ws : List Float) (ps : List ℕ) (vs : List ℤ) (room : ℕ)
     → isDone (rebalanceAnswer a ts ws ps vs room) ≡ true → OwnOrders (heldIn (a .positions)) (map orderOf (admittedPlan a ts ws (priceOf ps vs)))
-unfolding admittedPlan sumOver
+unfolding admittedPlan total
 own-orders a full ts ws ps vs room d =
     let r = rebalance-done a ts ws ps vs room d in
     let held = heldIn (a .positions) in

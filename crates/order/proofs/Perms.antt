@@ -9,7 +9,7 @@ use Rattle.table.specs.Keyed.{pick}
 use Rattle.wanted.specs.declared.plan.PlannedOrder.{PlannedOrder}
 use Rattle.admission.specs.Admission.{insertBy}
 use Rattle.admission.specs.Running.{only, parted, symbolBefore, sortedWith}
-use Rattle.order.specs.Running.{Perm, done, keep, swap, then, sumOver, All, nothing, and, Pairs, Last}
+use Rattle.order.specs.Running.{Perm, done, keep, swap, then, total, All, nothing, and, Pairs, Last}
 
 -- ---- permutations
 pub perm-refl : {A : Type 0} (x : List A) → Perm A x x
@@ -78,17 +78,17 @@ perm-sorted run [] = subst (λ l. Perm PlannedOrder l run) (sym (append-nil run)
 perm-sorted run (o ∷ os) = then (perm-sym (perm-middle o run os)) (then (perm-append os (perm-insert symbolBefore o run)) (perm-sorted (insertBy symbolBefore o run) os))
 
 -- ---- what does not depend on the order
-pub sumOver-perm : {A : Type 0} (f : A → ℕ) {x y : List A} → Perm A x y → sumOver f x ≡ sumOver f y
-unfolding sumOver
-sumOver-perm f done = refl
-sumOver-perm f (keep {a} p) = ap (λ (n : ℕ). f a + n) (sumOver-perm f p)
-sumOver-perm f (swap {a} {b} {x}) = omega arith
-sumOver-perm f (then p q) = sumOver-perm f p ∙ sumOver-perm f q
+pub total-perm : {A : Type 0} (f : A → ℕ) {x y : List A} → Perm A x y → total f x ≡ total f y
+unfolding total
+total-perm f done = refl
+total-perm f (keep {a} p) = ap (λ (n : ℕ). f a + n) (total-perm f p)
+total-perm f (swap {a} {b} {x}) = omega arith
+total-perm f (then p q) = total-perm f p ∙ total-perm f q
 
-pub sumOver-same : {A : Type 0} (f g : A → ℕ) → ((a : A) → f a ≡ g a) → (x : List A) → sumOver f x ≡ sumOver g x
-unfolding sumOver
-sumOver-same f g e [] = refl
-sumOver-same f g e (a ∷ x) = omega (arith, e a, sumOver-same f g e x)
+pub total-same : {A : Type 0} (f g : A → ℕ) → ((a : A) → f a ≡ g a) → (x : List A) → total f x ≡ total g x
+unfolding total
+total-same f g e [] = refl
+total-same f g e (a ∷ x) = omega (arith, e a, total-same f g e x)
 
 pub all-perm : {A : Type 0} {Q : A → Type 0} {x y : List A} → Perm A x y → All A Q x → All A Q y
 all-perm done h = h

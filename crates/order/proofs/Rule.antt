@@ -14,8 +14,8 @@ use Rattle.sums.specs.Sums.{satSub}
 use Rattle.sums.proofs.Ints.{P, N, P-pos, N-pos, P-neg, N-neg, P-add, P-sub, P-zero, N-zero, fits-of, satSub-exact, eq-of, le-yes, le-is, lt-yes, lt-no}
 use Rattle.table.specs.Keyed.{seek, put, put64, new}
 use Rattle.table.proofs.Keyed.{seek-key, seek-put, put-swap, put-length, put-room}
-use Rattle.order.specs.Running.{Perm, done, keep, swap, then, sumOver, All, nothing, and, Pairs, Last, Different, Room, NotBelow0, InRange}
-use Rattle.order.proofs.Perms.{sumOver-perm, all-perm, pairs-perm, all-map}
+use Rattle.order.specs.Running.{Perm, done, keep, swap, then, total, All, nothing, and, Pairs, Last, Different, Room, NotBelow0, InRange}
+use Rattle.order.proofs.Perms.{total-perm, all-perm, pairs-perm, all-map}
 
 -- What the theorem asks of the fills of orders O on states A with positions Q.
 pub record Rule (O Q A : Type 0) : Type 1 where
@@ -75,15 +75,15 @@ abbrev pub Differ : {O Q A : Type 0} → Rule O Q A → O → O → Type 0
 Differ R x y = Different (R .symbol) x y
 
 -- what the cash asks
-pub record FundedUnder {O Q A : Type 0} (R : Rule O Q A) (os : List O) (a : A) : Type 0 where
+pub record Funded {O Q A : Type 0} (R : Rule O Q A) (os : List O) (a : A) : Type 0 where
   pub orders : All O (R .Good) os
   pub cash-low : NotBelow0 (R .cash a)
-  pub cash-top : InRange (R .cash a +ℤ pos (sumOver (raised R) os))
+  pub cash-top : InRange (R .cash a +ℤ pos (total (raised R) os))
 
 -- what the positions ask besides
 pub record Apart {O Q A : Type 0} (R : Rule O Q A) (os : List O) (a : A) : Type 0 where
   pub differ : Pairs O (Differ R) os
-  pub room : Room (length (R .held a)) (sumOver (newOf R (R .held a)) os)
+  pub room : Room (length (R .held a)) (total (newOf R (R .held a)) os)
 
 -- ---- tests and numbers
 pub and-left : (a b : Bool) → (a && b) ≡ true → a ≡ true
@@ -149,8 +149,8 @@ module _ {O Q A : Type 0} (R : Rule O Q A) where
   ups-perm (swap {a} {b} {x}) (and (and n k) h) ps = ap (ups x) (up-swap b a ps (λ e. n (sym e)))
   ups-perm (then p q) h ps = ups-perm p h ps ∙ ups-perm q (pairs-perm (λ a b n e. n (sym e)) p h) ps
 
-  new-up : (o : O) (os : List O) (ps : List Q) → All O (Differ R o) os → sumOver (newOf R (up o ps)) os ≡ sumOver (newOf R ps) os
-  unfolding sumOver
+  new-up : (o : O) (os : List O) (ps : List Q) → All O (Differ R o) os → total (newOf R (up o ps)) os ≡ total (newOf R ps) os
+  unfolding total
   new-up o [] ps nothing = refl
   new-up o (x ∷ os) ps (and n h) = omega (arith, ap new (seek-up x o ps n), new-up o os ps h)
 
@@ -167,17 +167,17 @@ module _ {O Q A : Type 0} (R : Rule O Q A) where
       put-room (R .key) q ps (subst (λ (s : ℕ). Room (length ps) (new (seek (R .key) s ps))) (sym (applied-key o ps)) h)
 
   -- the positions that a list of orders leaves, each filled whole
-  held-after : (os : List O) (a : A) → All O (R .Good) os → Pairs O (Differ R) os → Room (length (R .held a)) (sumOver (newOf R (R .held a)) os)
+  held-after : (os : List O) (a : A) → All O (R .Good) os → Pairs O (Differ R) os → Room (length (R .held a)) (total (newOf R (R .held a)) os)
       → allWhole R os a ≡ true → R .held (after R os a) ≡ ups os (R .held a)
-  unfolding after allWhole ups sumOver
+  unfolding after allWhole ups total
   held-after [] a nothing nothing r w = refl
   held-after (o ∷ os) a (and k ks) (and n ns) r w =
       let e : R .whole o a ≡ true = and-left (R .whole o a) (allWhole R os (R .run o a)) w in
       let f : allWhole R os (R .run o a) ≡ true = and-right (R .whole o a) (allWhole R os (R .run o a)) w in
       let m : Room (length (R .held a)) (newOf R (R .held a) o) = omega arith in
       let h : R .held (R .run o a) ≡ up o (R .held a) = R .run-held o a k e ∙ up-room o (R .held a) m in
-      let l : Room (length (up o (R .held a))) (sumOver (newOf R (up o (R .held a))) os) = omega (arith, length-up o (R .held a), new-up o os (R .held a) n) in
-      let r' : Room (length (R .held (R .run o a))) (sumOver (newOf R (R .held (R .run o a))) os) = subst (λ (ps : List Q). Room (length ps) (sumOver (newOf R ps) os)) (sym h) l in
+      let l : Room (length (up o (R .held a))) (total (newOf R (up o (R .held a))) os) = omega (arith, length-up o (R .held a), new-up o os (R .held a) n) in
+      let r' : Room (length (R .held (R .run o a))) (total (newOf R (R .held (R .run o a))) os) = subst (λ (ps : List Q). Room (length ps) (total (newOf R ps) os)) (sym h) l in
       held-after os (R .run o a) ks ns r' f ∙ ap (ups os) h
 
   -- ---- the cash
@@ -206,11 +206,11 @@ module _ {O Q A : Type 0} (R : Rule O Q A) where
   record Left (z : ℤ) (c : ℕ) (os : List O) : Type 0 where
     left : ℕ
     is : z ≡ pos left
-    sum : left + sumOver takes os ≡ c + sumOver (raised R) os
+    sum : left + total takes os ≡ c + total (raised R) os
 
-  cash-after : (os : List O) (a : A) (c : ℕ) → All O (R .Good) os → R .cash a ≡ pos c → c + sumOver (raised R) os < 2 ^ 63
+  cash-after : (os : List O) (a : A) (c : ℕ) → All O (R .Good) os → R .cash a ≡ pos c → c + total (raised R) os < 2 ^ 63
       → allWhole R os a ≡ true → Left (R .cash (after R os a)) c os
-  unfolding after allWhole sumOver
+  unfolding after allWhole total
   cash-after [] a c nothing i t w = record { left = c; is = i; sum = refl }
   cash-after (o ∷ os) a c (and k ks) i t w =
       let e : R .whole o a ≡ true = and-left (R .whole o a) (allWhole R os (R .run o a)) w in
@@ -220,18 +220,18 @@ module _ {O Q A : Type 0} (R : Rule O Q A) where
       let b = cash-after os (R .run o a) (c + raised R o - takes o) ks j (omega arith) f in
       record { left = b .left; is = b .is; sum = omega (arith, b .sum) }
 
-  no-raise : (o : O) (os : List O) → All O (λ y. T (lowers R o) → T (raises R y) → ⊥) os → T (lowers R o) → sumOver (raised R) os ≡ 0
-  unfolding sumOver
+  no-raise : (o : O) (os : List O) → All O (λ y. T (lowers R o) → T (raises R y) → ⊥) os → T (lowers R o) → total (raised R) os ≡ 0
+  unfolding total
   no-raise o [] nothing t = refl
   no-raise o (x ∷ os) (and n h) t = go (raises R x) refl (n t) (no-raise o os h t)
     where
-      go : (b : Bool) → raises R x ≡ b → (T b → ⊥) → sumOver (raised R) os ≡ 0 → raised R x + sumOver (raised R) os ≡ 0
+      go : (b : Bool) → raises R x ≡ b → (T b → ⊥) → total (raised R) os ≡ 0 → raised R x + total (raised R) os ≡ 0
       go true e k ih = absurd (k tt)
       go false e k ih = omega (arith, not-above (change R x) e)
 
-  whole-first : (os : List O) (a : A) (c : ℕ) → All O (R .Good) os → R .cash a ≡ pos c → c + sumOver (raised R) os < 2 ^ 63
-      → sumOver takes os ≤ c + sumOver (raised R) os → RaisesFirst R os → allWhole R os a ≡ true
-  unfolding allWhole sumOver takes
+  whole-first : (os : List O) (a : A) (c : ℕ) → All O (R .Good) os → R .cash a ≡ pos c → c + total (raised R) os < 2 ^ 63
+      → total takes os ≤ c + total (raised R) os → RaisesFirst R os → allWhole R os a ≡ true
+  unfolding allWhole total takes
   whole-first [] a c nothing i t l nothing = refl
   whole-first (o ∷ os) a c (and k ks) i t l (and n ns) =
       let m : takes o ≤ c + raised R o = go (lowers R o) refl in
@@ -250,29 +250,29 @@ module _ {O Q A : Type 0} (R : Rule O Q A) where
   raises-first (o ∷ os) (and h hs) = and (all-map (λ x k s t. not-both (change R x) (k s) t) h) (raises-first os hs)
 
   -- what holds of one running order holds of all
-  pub funded-perm : (a : A) {x y : List O} → Perm O x y → FundedUnder R x a → FundedUnder R y a
+  pub funded-perm : (a : A) {x y : List O} → Perm O x y → Funded R x a → Funded R y a
   funded-perm a p r = record {
     orders = all-perm p (r .orders);
     cash-low = r .cash-low;
-    cash-top = subst (λ (n : ℕ). InRange (R .cash a +ℤ pos n)) (sumOver-perm (raised R) p) (r .cash-top);
+    cash-top = subst (λ (n : ℕ). InRange (R .cash a +ℤ pos n)) (total-perm (raised R) p) (r .cash-top);
   }
 
   pub apart-perm : (a : A) {x y : List O} → Perm O x y → Apart R x a → Apart R y a
   apart-perm a p r = record {
     differ = pairs-perm (λ x y n e. n (sym e)) p (r .differ);
-    room = subst (λ (n : ℕ). Room (length (R .held a)) n) (sumOver-perm (newOf R (R .held a)) p) (r .room);
+    room = subst (λ (n : ℕ). Room (length (R .held a)) n) (total-perm (newOf R (R .held a)) p) (r .room);
   }
 
   record Opening (z : ℤ) (os : List O) : Type 0 where
     amount : ℕ
     is : z ≡ pos amount
-    top : amount + sumOver (raised R) os < 2 ^ 63
+    top : amount + total (raised R) os < 2 ^ 63
 
-  opening : (os : List O) (a : A) → FundedUnder R os a → Opening (R .cash a) os
+  opening : (os : List O) (a : A) → Funded R os a → Opening (R .cash a) os
   unfolding P N
   opening os a r =
       let z = R .cash a in
-      let s = sumOver (raised R) os in
+      let s = total (raised R) os in
       let n = N-zero z (r .cash-low) in
       record {
         amount = P z;
@@ -283,25 +283,25 @@ module _ {O Q A : Type 0} (R : Rule O Q A) where
   one-cash : (z : ℤ) (m n : ℕ) → z ≡ pos m → z ≡ pos n → m ≡ n
   one-cash z m n e f = cc
 
-  module _ (os : List O) (a : A) (r : FundedUnder R os a) where
+  module _ (os : List O) (a : A) (r : Funded R os a) where
     -- what is left in any running order in which each fills whole, by the sums of the list itself
     left-of : (w : List O) → Perm O os w → allWhole R w a ≡ true → Left (R .cash (after R w a)) (opening os a r .amount) os
     left-of w p f =
-        let ready : FundedUnder R w a = funded-perm a p r in
+        let ready : Funded R w a = funded-perm a p r in
         let b = opening os a r in
         let d = opening w a ready in
         let l = cash-after w a (d .amount) (ready .orders) (d .is) (d .top) f in
-        record { left = l .left; is = l .is; sum = omega (arith, l .sum, one-cash (R .cash a) (b .amount) (d .amount) (b .is) (d .is), sumOver-perm takes p, sumOver-perm (raised R) p) }
+        record { left = l .left; is = l .is; sum = omega (arith, l .sum, one-cash (R .cash a) (b .amount) (d .amount) (b .is) (d .is), total-perm takes p, total-perm (raised R) p) }
 
     -- If some running order lets each order fill whole, so does every running order with no order that lowers cash ahead of one that raises it.
     pub raises-first-fills : (w : List O) → Perm O os w → allWhole R w a ≡ true → (v : List O) → Perm O os v → RaisesFirst R v → allWhole R v a ≡ true
     raises-first-fills w p f v q s =
-        let ready : FundedUnder R v a = funded-perm a q r in
+        let ready : Funded R v a = funded-perm a q r in
         let b = opening os a r in
         let d = opening v a ready in
         let l = left-of w p f in
-        let m : sumOver takes v ≤ d .amount + sumOver (raised R) v =
-        omega (arith, l .sum, one-cash (R .cash a) (b .amount) (d .amount) (b .is) (d .is), sumOver-perm takes q, sumOver-perm (raised R) q) in
+        let m : total takes v ≤ d .amount + total (raised R) v =
+        omega (arith, l .sum, one-cash (R .cash a) (b .amount) (d .amount) (b .is) (d .is), total-perm takes q, total-perm (raised R) q) in
         whole-first v a (d .amount) (ready .orders) (d .is) (d .top) m s
 
     -- The same, of every running order that puts the orders not lowering cash ahead of those lowering it.

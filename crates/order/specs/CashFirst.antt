@@ -17,7 +17,7 @@ use Rattle.call_lists.specs.Lists.{priceOf}
 use Rattle.admission.specs.Running.{inRunningOrder}
 use Rattle.portfolio.specs.Answers.{isDone, rebalanceAnswer}
 use Rattle.portfolio.specs.Rebalance.{orderOf, termsOf, stateOf, admittedPlan, rebalanced}
-use Rattle.order.specs.Running.{Perm, sumOver, InRange}
+use Rattle.order.specs.Running.{Perm, total, InRange}
 use Rattle.order.specs.Statement.{cashRaised, AllWhole}
 use Rattle.order.specs.OnAccount.{SameAccount}
 
@@ -46,8 +46,8 @@ abbrev pub begins : Call → State
 begins c = stateOf (c .account)
 
 -- the account that the call leaves
-abbrev pub accountLeft : Call → Account
-accountLeft c = rebalanced (c .account) (c .targets) (c .weights) (c .symbols) (c .prices) (c .period) (c .kind) (c .room) .account
+abbrev pub left : Call → Account
+left c = rebalanced (c .account) (c .targets) (c .weights) (c .symbols) (c .prices) (c .period) (c .kind) (c .room) .account
 
 -- What is asked: columns of 64 places, as every account of the code has; the mode; a call that is done, so that its account is sound; and "cash plus all cash raised
 -- inside the signed 64-bit range". That its orders are not zero, for different symbols and have table room follows.
@@ -55,7 +55,7 @@ pub record InCashFirst (c : Call) : Type 0 where
   pub columns : Full (columnsOf (c .account .positions))
   pub mode : c .account .settings .«cash_first» ≡ true
   pub done : isDone (rebalanceAnswer (c .account) (c .targets) (c .weights) (c .symbols) (c .prices) (c .room)) ≡ true
-  pub cash-top : InRange (c .account .cash +ℤ pos (sumOver (cashRaised (terms c)) (admittedOrders c)))
+  pub cash-top : InRange (c .account .cash +ℤ pos (total (cashRaised (terms c)) (admittedOrders c)))
 
 -- a running order in which each order fills whole
 pub record FillsAll (c : Call) (w : List Order) : Type 0 where
@@ -70,5 +70,5 @@ pub record Leaves (a : Account) (s : State) : Type 0 where
 -- If some running order lets each fill whole, the mode's does, and the call leaves what that one leaves; all such running orders leave the same.
 pub record CarriesDemand3 (c : Call) : Type 0 where
   pub fills : (w : List Order) → FillsAll c w → FillsAll c (runOrders c)
-  pub leaves : (w : List Order) → FillsAll c w → Leaves (accountLeft c) (fillAll (terms c) w (begins c))
+  pub leaves : (w : List Order) → FillsAll c w → Leaves (left c) (fillAll (terms c) w (begins c))
   pub same : (v w : List Order) → FillsAll c v → FillsAll c w → SameAccount (fillAll (terms c) v (begins c)) (fillAll (terms c) w (begins c))

@@ -20,8 +20,8 @@ use Rattle.order.specs.Statement.{allWhole}
 abbrev pub floorOf : ℤ → Terms
 floorOf m = record { costs = Costs.model Costs.zero Costs.zero m; «quantity_step» = pos 1000000; recording = false; «period_index» = 0; kind = Rebalance }
 
-abbrev pub openedAtCash : ℤ → State
-openedAtCash cash = record { cash = cash; held = []; trimmed = 0; shortfall = pos 0; sequence = 0; records = [] }
+abbrev pub opened : ℤ → State
+opened cash = record { cash = cash; held = []; trimmed = 0; shortfall = pos 0; sequence = 0; records = [] }
 
 -- one share of a symbol bought, and one sold
 abbrev pub buy : ℕ → ℤ → Order
@@ -52,8 +52,8 @@ sameTest a b = cond a b (not b)
 
 abbrev pub comesOut : Run → Bool
 comesOut r =
-    sameTest (allWhole (floorOf (r .floor)) (r .orders) (openedAtCash (r .cash))) (r .whole)
-    && sameNumber (fillAll (floorOf (r .floor)) (r .orders) (openedAtCash (r .cash)) .cash) (r .left)
+    sameTest (allWhole (floorOf (r .floor)) (r .orders) (opened (r .cash))) (r .whole)
+    && sameNumber (fillAll (floorOf (r .floor)) (r .orders) (opened (r .cash)) .cash) (r .left)
 
 abbrev pub allComeOut : List Run → Bool
 allComeOut [] = true
@@ -151,8 +151,8 @@ slippedSale = sell 2 (pos 1)
 
 abbrev pub badCosts : List Bool
 badCosts =
-    allWhole slipsDown (slippedSale ∷ (slippedBuy ∷ [])) (openedAtCash (pos 15))
-    ∷ (allWhole slipsDown (slippedBuy ∷ (slippedSale ∷ [])) (openedAtCash (pos 15))
+    allWhole slipsDown (slippedSale ∷ (slippedBuy ∷ [])) (opened (pos 15))
+    ∷ (allWhole slipsDown (slippedBuy ∷ (slippedSale ∷ [])) (opened (pos 15))
     ∷ [])
 
 abbrev pub runs : List Run
@@ -164,8 +164,8 @@ profits ps = map realized ps
 
 abbrev pub sameSymbol : List (List ℤ)
 sameSymbol =
-    profits (fillAll (floorOf (pos 0)) (buy 1 (pos 100) ∷ (sell 1 (pos 150) ∷ (buy 1 (pos 200) ∷ []))) (openedAtCash (pos 1000)) .held)
-    ∷ (profits (fillAll (floorOf (pos 0)) (buy 1 (pos 100) ∷ (buy 1 (pos 200) ∷ (sell 1 (pos 150) ∷ []))) (openedAtCash (pos 1000)) .held)
+    profits (fillAll (floorOf (pos 0)) (buy 1 (pos 100) ∷ (sell 1 (pos 150) ∷ (buy 1 (pos 200) ∷ []))) (opened (pos 1000)) .held)
+    ∷ (profits (fillAll (floorOf (pos 0)) (buy 1 (pos 100) ∷ (buy 1 (pos 200) ∷ (sell 1 (pos 150) ∷ []))) (opened (pos 1000)) .held)
     ∷ [])
 
 -- Room for all: of two new symbols the table takes the one that comes first.

@@ -9,7 +9,7 @@ use Rattle.account.specs.Account.{soundAccount, heldIn, tableOf}
 use Rattle.fills.specs.declared.order.Order.{Order}
 use Rattle.fills.specs.declared.order.Terms.{Terms}
 use Rattle.fills.specs.Orders.{State}
-use Rattle.order.specs.Running.{sumOver, All, Pairs, Different, Room, InRange}
+use Rattle.order.specs.Running.{total, All, Pairs, Different, Room, InRange}
 use Rattle.order.specs.Statement.{cashRaised, Tradable, symbolOf, placesAsked}
 
 -- fills that begin at the account: its costs, its cash, its positions
@@ -23,8 +23,8 @@ pub record OrdersOn (a : Account) (t : Terms) (os : List Order) : Type 0 where
   pub sound : soundAccount a ≡ true
   pub orders : All Order Tradable os
   pub different : Pairs Order (Different symbolOf) os
-  pub room : Room (length (heldIn (a .positions))) (sumOver (placesAsked (heldIn (a .positions))) os)
-  pub cash-top : InRange (a .cash +ℤ pos (sumOver (cashRaised t) os))
+  pub room : Room (length (heldIn (a .positions))) (total (placesAsked (heldIn (a .positions))) os)
+  pub cash-top : InRange (a .cash +ℤ pos (total (cashRaised t) os))
 
 -- "equal cash and equal positions": the whole table, unused places included
 pub record SameAccount (x y : State) : Type 0 where

@@ -15,9 +15,9 @@ pub data Perm (A : Type 0) : List A → List A → Type 0 where
   then : {x y z : List A} → Perm A x y → Perm A y z → Perm A x z
 
 -- the sum of a figure over the members
-unfoldable pub sumOver : {A : Type 0} → (A → ℕ) → List A → ℕ
-sumOver f [] = 0
-sumOver f (a ∷ x) = f a + sumOver f x
+unfoldable pub total : {A : Type 0} → (A → ℕ) → List A → ℕ
+total f [] = 0
+total f (a ∷ x) = f a + total f x
 
 -- each member has the property
 pub data All (A : Type 0) (Q : A → Type 0) : List A → Type 0 where

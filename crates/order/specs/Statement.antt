@@ -17,7 +17,7 @@ use Rattle.fills.specs.declared.order.Order.{Order}
 use Rattle.fills.specs.declared.order.Terms.{Terms}
 use Rattle.fills.specs.Orders.{State}
 use Rattle.fills.specs.Fill.{fillsWhole, fill, fillAll}
-use Rattle.order.specs.Running.{Perm, sumOver, All, Pairs, Last, Different, Room, NotBelow0, InRange}
+use Rattle.order.specs.Running.{Perm, total, All, Pairs, Last, Different, Room, NotBelow0, InRange}
 
 -- "orders not lowering cash .. those lowering it"
 abbrev pub lowers : Terms → Order → Bool
@@ -45,13 +45,13 @@ pub record Funded (t : Terms) (os : List Order) (s : State) : Type 0 where
   pub costs : goodCosts (t .costs) ≡ true
   pub orders : All Order Tradable os
   pub cash-low : NotBelow0 (s .cash)
-  pub cash-top : InRange (s .cash +ℤ pos (sumOver (cashRaised t) os))
+  pub cash-top : InRange (s .cash +ℤ pos (total (cashRaised t) os))
 
 -- all that condition 3 asks: besides, "for different symbols" and "with table room for all"
 pub record Batch (t : Terms) (os : List Order) (s : State) : Type 0 where
   pub funded : Funded t os s
   pub different : Pairs Order (Different symbolOf) os
-  pub room : Room (length (s .held)) (sumOver (placesAsked (s .held)) os)
+  pub room : Room (length (s .held)) (total (placesAsked (s .held)) os)
 
 -- "each fill whole": run one after the other by the code's fills
 unfoldable pub allWhole : Terms → List Order → State → Bool
