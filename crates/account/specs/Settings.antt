@@ -20,7 +20,8 @@ isAtLeast n z = leZ (pos n) z
 abbrev pub goodBand : Float → Bool
 goodBand x = goodRate x
 
--- ".. `min_commission` .. at least 0; .. `commission_bps` .. finite and at least 0; `slippage_bps` from 0 to 10,000"
+-- ".. `min_commission` .. at least 0; .. `commission_bps` .. finite and at least 0; `slippage_bps` from 0 to 10,000";
+-- document 02, 3: "1 also when a non-zero ceiling is below `min_commission`"
 unfoldable pub goodRules : Rules → Bool
 goodRules r = goodCosts (r .«cost_model»)
 

@@ -29,7 +29,8 @@ use Rattle.fills.specs.Inner.Runs.{recordsOf, Fills}
 use Rattle.fills.proofs.Storing.{keeps-one}
 use Rattle.fills.proofs.Fronts.{stored-fronts}
 use Rattle.c_fill.specs.declared.Ask.{Ask}
-use Rattle.c_fill.specs.Single.{termsOf, orderOf, Slots, slots, heldOf, isNone, stateIn, positionIn, soundIn, goodAsk, roomForOne, refusalOf, answerTo, Told, told, counting, doneIn, fillOne, bookOf, enteredIn, Sight, seenBy, seenIn, seenAfter}
+use Rattle.c_fill.specs.Single.{termsOf, orderOf, Slots, slots, heldOf, isNone, stateIn, positionIn, soundIn, goodAsk, roomForOne, refusalOf, answerTo, FillTold, fillTold, counting, doneIn, fillOne}
+use Rattle.c_fill.specs.Inner.Single.{bookOf, enteredIn, Sight, seenBy, seenIn, seenAfter}
 
 -- ---- the table of the position
 abbrev pub empty : Cols
@@ -100,12 +101,12 @@ done-has-room a cash p ws is h =
     (leb-true 4 ws (r .0), leb-true 8 is (r .1))
 
 module _ (a : Ask) (l : Slots) where
-  pub short-money : (length (l .money) ≡ 6 → ⊥) → told 11 l ≡ fillOne a l
+  pub short-money : (length (l .money) ≡ 6 → ⊥) → fillTold 11 l ≡ fillOne a l
   unfolding fillOne answerTo
   short-money h = simp (ne-eqb (length (l .money)) 6 h)
 
   module _ (hm : length (l .money) ≡ 6) where
-    pub short-tallies : (length (l .tallies) ≡ 2 → ⊥) → told 11 l ≡ fillOne a l
+    pub short-tallies : (length (l .tallies) ≡ 2 → ⊥) → fillTold 11 l ≡ fillOne a l
     unfolding fillOne answerTo
     short-tallies h = simp (eq-eqb (length (l .money)) 6 hm, ne-eqb (length (l .tallies)) 2 h)
 
@@ -115,11 +116,11 @@ module _ (a : Ask) (l : Slots) where
       unfolding answerTo
       answer-is = hn ∙ simp (eq-eqb (length (l .money)) 6 hm, eq-eqb (length (l .tallies)) 2 ht)
 
-      pub refused-as-found : (n ≡ 0 → ⊥) → told n l ≡ fillOne a l
+      pub refused-as-found : (n ≡ 0 → ⊥) → fillTold n l ≡ fillOne a l
       unfolding fillOne
       refused-as-found h =
-          ap (λ x. told x l) answer-is
-          ∙ sym (ap (λ x. pick x (doneIn (a .symbol) (fill (termsOf a) (orderOf a) (stateIn a l)) l) (told (numberOf (answerTo a l)) l)) (ap (λ x. eqb x 0) (sym answer-is) ∙ ne-eqb n 0 h))
+          ap (λ x. fillTold x l) answer-is
+          ∙ sym (ap (λ x. pick x (doneIn (a .symbol) (fill (termsOf a) (orderOf a) (stateIn a l)) l) (fillTold (numberOf (answerTo a l)) l)) (ap (λ x. eqb x 0) (sym answer-is) ∙ ne-eqb n 0 h))
 
       pub done-as-filled : n ≡ 0 → doneIn (a .symbol) (fill (termsOf a) (orderOf a) (stateIn a l)) l ≡ fillOne a l
       unfolding fillOne
@@ -129,8 +130,8 @@ module _ (a : Ask) (l : Slots) where
 abbrev pub placed : Sight → Slots → Slots
 placed v l = slots (v .money) (v .tallies) (fronted (allWords (v .records)) (l .words)) (fronted (allInts (v .records)) (l .ints))
 
-abbrev pub toldOf : Sight → Slots → Told
-toldOf v l = told (counting (v .records)) (placed v l)
+abbrev pub toldOf : Sight → Slots → FillTold
+toldOf v l = fillTold (counting (v .records)) (placed v l)
 
 pub same-slots : {ms ms′ : List ℤ} {ts ts′ ws ws′ : List ℕ} {is is′ : List ℤ} → ms ≡ ms′ → ts ≡ ts′ → ws ≡ ws′ → is ≡ is′ → slots ms ts ws is ≡ slots ms′ ts′ ws′ is′
 same-slots {ms} {ms′} {ts} {ts′} {ws} {ws′} {is} {is′} a b c d =

@@ -9,10 +9,10 @@ use Rattle.table.specs.Keyed.{pick}
 use Rattle.fills.specs.Orders.{State}
 use Rattle.fills.specs.Fill.{fill}
 use Rattle.c_fill.specs.declared.Ask.{Ask}
-use Rattle.c_fill.specs.Single.{termsOf, orderOf, stateIn, Slots, Told, told, doneIn, answerTo, fillOne}
+use Rattle.c_fill.specs.Single.{termsOf, orderOf, stateIn, Slots, FillTold, fillTold, doneIn, answerTo, fillOne}
 
-abbrev answered : Bool → State → Ask → Slots → Told
-answered b x a l = pick b (doneIn (a .symbol) x l) (told (numberOf (answerTo a l)) l)
+abbrev answered : Bool → State → Ask → Slots → FillTold
+answered b x a l = pick b (doneIn (a .symbol) x l) (fillTold (numberOf (answerTo a l)) l)
 
 by-test : (b : Bool) (x : State) (a : Ask) (l : Slots) → (answered b x a l .answer % 256 ≡ 0 → ⊥) → answered b x a l .places ≡ l
 by-test true x a l h = absurd (h (omega arith))

@@ -1,2 +1,3 @@
 -- What a fill asked by itself means.
 pub mod Single
+pub mod Inner

@@ -16,20 +16,16 @@ use Rattle.position.specs.Fills.{sound}
 use Rattle.cost_model.specs.declared.CostModel.{CostModel}
 use Rattle.cost_model.specs.Costs.{goodCosts}
 use Rattle.call_lists.specs.Checks.{unless}
-use Rattle.table.specs.declared.found.Found.the-variants.{Absent}
 use Rattle.table.specs.Keyed.{pick, both}
-use Rattle.table.specs.Rows.{Cols, holding}
-use Rattle.table.specs.Inner.Rows.{Counted, counted, posted}
-use Rattle.fills.specs.declared.order.Book.{Book}
+use Rattle.table.specs.Rows.{holding}
 use Rattle.fills.specs.declared.order.Order.{Order}
 use Rattle.fills.specs.declared.order.Terms.{Terms}
 use Rattle.fills.specs.declared.record.ExecutionRecord.{ExecutionRecord}
 use Rattle.fills.specs.Orders.{State}
 use Rattle.fills.specs.Records.{kindOf, goodKind, allWords, allInts, fronted}
-use Rattle.fills.specs.Inner.Runs.{order, recordsOf}
+use Rattle.fills.specs.Inner.Runs.{order}
 use Rattle.fills.specs.Fill.{fill}
 use Rattle.c_fill.specs.declared.Ask.{Ask}
-use Rattle.c_fill.specs.declared.Seen.{Seen}
 
 -- ---- what is asked
 abbrev pub asked : CostModel → ℤ → ℕ → ℕ → ℕ → ℤ → ℤ → Ask
@@ -112,53 +108,22 @@ answerTo a l =
     (refusalOf a (getD (l .money) 0 (pos 0)) (positionIn (a .symbol) (l .money)) (length (l .words)) (length (l .ints)))
 
 -- ---- the answer and the places after it: "Each refusal returns its number with .. every lent place as found."
-pub record Told : Type 0 where
+pub record FillTold : Type 0 where
   pub answer : ℕ
   pub places : Slots
 
-abbrev pub told : ℕ → Slots → Told
-told n l = record { answer = n; places = l }
+abbrev pub fillTold : ℕ → Slots → FillTold
+fillTold n l = record { answer = n; places = l }
 
 -- "After 0, records fill the first places, the answer counts them": their count stands above the number, whose eight bits are then 0
 abbrev pub counting : List ExecutionRecord → ℕ
 counting rs = 256 * length rs
 
-abbrev pub doneIn : ℕ → State → Slots → Told
-doneIn s x l = told (counting (x .records)) (slotsOf s x l)
+abbrev pub doneIn : ℕ → State → Slots → FillTold
+doneIn s x l = fillTold (counting (x .records)) (slotsOf s x l)
 
-unfoldable pub fillOne : Ask → Slots → Told
+unfoldable pub fillOne : Ask → Slots → FillTold
 fillOne a l =
     pick (eqb (numberOf (answerTo a l)) 0)
     (doneIn (a .symbol) (fill (termsOf a) (orderOf a) (stateIn a l)) l)
-    (told (numberOf (answerTo a l)) l)
-
--- ---- the same in the code's structs
-abbrev pub bookOf : List ℤ → List ℕ → Book
-bookOf ms ts = record { cash = getD ms 0 (pos 0); count = 0; trimmed = getD ts 0 0; shortfall = getD ms 1 (pos 0); sequence = getD ts 1 0; written = 0; hint = 0 }
-
-abbrev pub alone : Book → Position → State
-alone b p = record { cash = b .cash; held = heldOf p; trimmed = b .trimmed; shortfall = b .shortfall; sequence = b .sequence; records = [] }
-
-abbrev pub enteredIn : Position → Cols → Counted
-enteredIn p c = pick (isNone p) (counted 0 c) (posted (Absent 0) p (counted 0 c))
-
-abbrev pub moneyOf : Book → Position → List ℤ
-moneyOf b p = b .cash ∷ b .shortfall ∷ numbersOf p
-
-abbrev pub talliesOf : Book → List ℕ
-talliesOf b = b .trimmed ∷ b .sequence ∷ []
-
--- a fill, and the position of its symbol after it
-pub record Sight : Type 0 where
-  pub money : List ℤ
-  pub tallies : List ℕ
-  pub records : List ExecutionRecord
-
-abbrev pub seenBy : Seen → Sight
-seenBy r = record { money = moneyOf (r .filled .book) (r .position); tallies = talliesOf (r .filled .book); records = recordsOf (r .filled) }
-
-abbrev pub seenIn : ℕ → State → Sight
-seenIn s x = record { money = x .cash ∷ x .shortfall ∷ numbersOf (holding s (x .held)); tallies = x .trimmed ∷ x .sequence ∷ []; records = x .records }
-
-abbrev pub seenAfter : Ask → Book → Position → Sight
-seenAfter a b p = seenIn (a .symbol) (fill (termsOf a) (orderOf a) (alone b p))
+    (fillTold (numberOf (answerTo a l)) l)

@@ -7,7 +7,8 @@ ghost use Rattle.table.specs.Rows.{cols};
 ghost use Rattle.table.specs.Inner.Rows.{counted};
 ghost use Rattle.fills.specs.Records.{allWords, allInts, fronted};
 ghost use Rattle.fills.specs.Inner.Runs.{recordsOf};
-ghost use Rattle.c_fill.specs.Single.{asked, termsOf, bookOf, positionIn, isNone, enteredIn, soundIn, goodAsk, refusalOf, seenBy, seenAfter, moneyOf, talliesOf, counting, slots, told, fillOne};
+ghost use Rattle.c_fill.specs.Single.{asked, termsOf, positionIn, isNone, soundIn, goodAsk, refusalOf, counting, slots, fillTold, fillOne};
+ghost use Rattle.c_fill.specs.Inner.Single.{bookOf, enteredIn, seenBy, seenAfter, moneyOf, talliesOf};
 use answer::Answer;
 use cost_model::CostModel;
 use fills::Book;
@@ -259,7 +260,7 @@ fn fill_asked(
     words: &mut [u64],
     ints: &mut [i64],
 ) -> u64
-    ensures { λ r. ⌜ told r (slots (now (money .exit)) (now (tallies .exit)) (now (words .exit)) (now (ints .exit)))
+    ensures { λ r. ⌜ fillTold r (slots (now (money .exit)) (now (tallies .exit)) (now (words .exit)) (now (ints .exit)))
         ≡ fillOne a (slots (now (money .entry)) (now (tallies .entry)) (now (words .entry)) (now (ints .entry))) ⌝ }
 {
     if money.len() != 6 {
@@ -301,7 +302,7 @@ pub extern "C" fn tc_fill(
     words: &mut [u64],
     ints: &mut [i64],
 ) -> u64
-    ensures { λ r. ⌜ told r (slots (now (money .exit)) (now (tallies .exit)) (now (words .exit)) (now (ints .exit)))
+    ensures { λ r. ⌜ fillTold r (slots (now (money .exit)) (now (tallies .exit)) (now (words .exit)) (now (ints .exit)))
         ≡ fillOne (asked (model «commission_bps» «slippage_bps» «min_commission») «quantity_step» period kind symbol quantity price)
         (slots (now (money .entry)) (now (tallies .entry)) (now (words .entry)) (now (ints .entry))) ⌝ }
 {
@@ -341,7 +342,7 @@ pub extern "C" fn tc_fill_with_ceiling(
     words: &mut [u64],
     ints: &mut [i64],
 ) -> u64
-    ensures { λ r. ⌜ told r (slots (now (money .exit)) (now (tallies .exit)) (now (words .exit)) (now (ints .exit)))
+    ensures { λ r. ⌜ fillTold r (slots (now (money .exit)) (now (tallies .exit)) (now (words .exit)) (now (ints .exit)))
         ≡ fillOne (asked (withCeiling «max_commission» (model «commission_bps» «slippage_bps» «min_commission»)) «quantity_step» period kind symbol quantity price)
         (slots (now (money .entry)) (now (tallies .entry)) (now (words .entry)) (now (ints .entry))) ⌝ }
 {

@@ -14,7 +14,7 @@ use Rattle.doubles.specs.Doubles.{finite}
 use Rattle.doubles.proofs.Laws.{toI64-fits}
 use Rattle.doubles.proofs.Chain.{buy-price-above-zero, sell-price-not-negative}
 use Rattle.doubles.proofs.Chain as Chain
-use Rattle.sums.proofs.Ints.{P, N, natAbs-parts, P-fits, N-fits, le-yes, lt-yes, lt-no, le-is, ge-is, le-refl, le-trans, eq-of}
+use Rattle.sums.proofs.Ints.{P, N, natAbs-parts, P-fits, N-fits, le-yes, lt-yes, lt-no, le-is, ge-is, le-refl, le-trans, lt-le, eq-of}
 use Rattle.position.specs.Shares.{isZero}
 use Rattle.cost_model.specs.Costs as Costs
 use Rattle.cost_model.specs.Costs.{tenThousand, commission, atLeast, uncapped, atMost, cost, slippageFactor, slipped, effective, goodRate, goodCeiling, goodCosts}
@@ -111,6 +111,15 @@ at-most-fits k c a b = go (isZero k) (ltZ k c)
     go false true = a
     go false false = b
 
+no-more : (k c : ℤ) → leZ (atMost k c) c ≡ true
+unfolding atMost
+no-more k c = go (isZero k) (ltZ k c) refl
+  where
+    go : (z t : Bool) → ltZ k c ≡ t → leZ (cond z c (cond t k c)) c ≡ true
+    go true t e = le-refl c
+    go false true e = lt-le k c e
+    go false false e = le-refl c
+
 ceiling-or-less : (k c : ℤ) → isZero k ≡ false → leZ (atMost k c) k ≡ true
 unfolding atMost
 ceiling-or-less k c z = rw z (go (ltZ k c) refl)
@@ -161,11 +170,20 @@ pub cost-unreached : (m : CostModel) (n : ℤ) → leZ (uncapped m n) (m .«max_
 unfolding cost
 cost-unreached m n h = at-most-unreached (m .«max_commission») (uncapped m n) h
 
+-- a fill whose commission reaches the ceiling pays just that
+pub cost-reached : (m : CostModel) (n : ℤ) → isZero (m .«max_commission») ≡ false → leZ (m .«max_commission») (uncapped m n) ≡ true → cost m n ≡ m .«max_commission»
+unfolding cost
+cost-reached m n z h = at-most-reached (m .«max_commission») (uncapped m n) z h
+
 -- a ceiling equal to the floor is a flat fee
 pub cost-flat : (m : CostModel) (n : ℤ) → isZero (m .«max_commission») ≡ false → m .«max_commission» ≡ m .«min_commission» → cost m n ≡ m .«min_commission»
-unfolding cost
 cost-flat m n z e =
-    at-most-reached (m .«max_commission») (uncapped m n) z (subst (λ (k : ℤ). leZ k (uncapped m n) ≡ true) (sym e) (uncapped-at-least-floor m n)) ∙ e
+    cost-reached m n z (subst (λ (k : ℤ). leZ k (uncapped m n) ≡ true) (sym e) (uncapped-at-least-floor m n)) ∙ e
+
+-- a ceiling raises no cost
+pub cost-at-most-uncapped : (m : CostModel) (n : ℤ) → leZ (cost m n) (uncapped m n) ≡ true
+unfolding cost
+cost-at-most-uncapped m n = no-more (m .«max_commission») (uncapped m n)
 
 pub cost-at-most-ceiling : (m : CostModel) (n : ℤ) → isZero (m .«max_commission») ≡ false → leZ (cost m n) (m .«max_commission») ≡ true
 unfolding cost

@@ -31,7 +31,7 @@ impl CostModel {
         }
     }
 
-    // Whether every part is in document 01's bounds.
+    // Whether every part is in its bounds: document 01's, and for the ceiling document 02's.
     pub fn is_good(self) -> bool
         ensures { λ r. ⌜ r ≡ goodCosts self ⌝ }
     {
@@ -50,7 +50,7 @@ impl CostModel {
         good_ceiling(self.min_commission, self.max_commission)
     }
 
-    // Commission for a trade of the given notional (cents), for every notional and every rate: a NaN counts 0, and what is too large saturates.
+    // Commission for a trade of the given notional (cents), for every notional, rate, floor and ceiling: a NaN counts 0, and what is too large saturates.
     pub fn compute_cost(self, notional: i64) -> i64
         ensures { λ r. ⌜ r ≡ cost self notional ⌝ }
     {

@@ -9,7 +9,8 @@ use lib.ListN.{length}
 use Rattle.answer.specs.Numbers.{numberOf}
 use Rattle.fills.specs.Inner.Runs.{recordsOf}
 use Rattle.c_fill.specs.declared.Ask.{Ask}
-use Rattle.c_fill.specs.Single.{Slots, slots, bookOf, positionIn, refusalOf, seenBy, seenAfter, Sight, told, counting}
+use Rattle.c_fill.specs.Single.{Slots, slots, positionIn, refusalOf, fillTold, counting}
+use Rattle.c_fill.specs.Inner.Single.{bookOf, seenBy, seenAfter, Sight}
 use Rattle.c_fill.proofs.Alone.{short-money, short-tallies, refused-as-found, done-as-filled, done-has-room, toldOf, same-slots}
 use Rattle.c_fill.proofs.fill_asked.Statement.{statement}
 use Rattle.c_fill.proofs.fill_asked.Tie as tie
@@ -128,8 +129,8 @@ returns-4 c =
     let q = m .before .before in
     let e = passed q in
     let s = began e in
-    ap (λ (n : ℕ). told n (slots (m .put-money .last .0) (t .put-tallies .last .0) (k .keep .last .0) (k .keep .last .1 .0))) (c .counting .ensures)
-    ∙ ap (told (counting (recordsOf (q .fill-alone .result .filled)))) (same-slots (m .put-money .ensures) (t .put-tallies .ensures) (k .keep .ensures .0) (k .keep .ensures .1))
+    ap (λ (n : ℕ). fillTold n (slots (m .put-money .last .0) (t .put-tallies .last .0) (k .keep .last .0) (k .keep .last .1 .0))) (c .counting .ensures)
+    ∙ ap (fillTold (counting (recordsOf (q .fill-alone .result .filled)))) (same-slots (m .put-money .ensures) (t .put-tallies .ensures) (k .keep .ensures .0) (k .keep .ensures .1))
     ∙ ap (λ (v : Sight). toldOf v (given s)) (seen-is q)
     ∙ done-as-filled (ask s) (given s) (e .before .if1 .left) (e .if2 .left) (answered q .number .result) (number-is (answered q)) (q .before .if3 .left)
 

@@ -6,7 +6,7 @@ use mir.Syntax.{w64}
 use mir.Val.{toZ, ofZ, SFits}
 use mir.Facts.{toZ-ofZ}
 use borrow.Author.Needs.{needs}
-use Rattle.c_fill.specs.Single.{moneyOf}
+use Rattle.c_fill.specs.Inner.Single.{moneyOf}
 use Rattle.c_fill.proofs.Places.{all-stored}
 use Rattle.c_fill.proofs.put_money.Statement.{statement}
 use Rattle.c_fill.proofs.put_money.Tie as tie

@@ -1,6 +1,6 @@
 -- Two stores into two places.
 use borrow.Author.Needs.{needs}
-use Rattle.c_fill.specs.Single.{talliesOf}
+use Rattle.c_fill.specs.Inner.Single.{talliesOf}
 use Rattle.c_fill.proofs.Places.{all-stored}
 use Rattle.c_fill.proofs.put_tallies.Statement.{statement}
 use Rattle.c_fill.proofs.put_tallies.Tie as tie
