@@ -10,7 +10,7 @@ use Rattle.answer.specs.declared.Answer.{Answer}
 use Rattle.answer.specs.declared.Answer.the-variants.{Done, BadSetting, BadPrice, NoRecordRoom, Unsound}
 use Rattle.answer.specs.Numbers.{numberOf}
 use Rattle.position.specs.declared.position.Position.{Position}
-use Rattle.position.specs.Rows.{row, held, avg, realized, total}
+use Rattle.position.specs.Rows.{shares, symbol, row, held, avg, realized, total}
 use Rattle.position.specs.Shares.{isZero}
 use Rattle.position.specs.Fills.{sound}
 use Rattle.cost_model.specs.declared.CostModel.{CostModel}
@@ -23,7 +23,6 @@ use Rattle.fills.specs.declared.order.Terms.{Terms}
 use Rattle.fills.specs.declared.record.ExecutionRecord.{ExecutionRecord}
 use Rattle.fills.specs.Orders.{State}
 use Rattle.fills.specs.Records.{kindOf, goodKind, allWords, allInts, fronted}
-use Rattle.fills.specs.Inner.Runs.{order}
 use Rattle.fills.specs.Fill.{fill}
 use Rattle.c_fill.specs.declared.Ask.{Ask}
 
@@ -36,7 +35,7 @@ abbrev pub termsOf : Ask → Terms
 termsOf a = record { costs = a .costs; «quantity_step» = a .«quantity_step»; recording = true; «period_index» = a .period; kind = kindOf (a .kind) }
 
 abbrev pub orderOf : Ask → Order
-orderOf a = order (a .symbol) (a .quantity) (a .price)
+orderOf a = record { symbol = symbol (a .symbol); quantity = shares (a .quantity); price = a .price }
 
 -- ---- the lent places: cash, shortfall, and the position's quantity, average, realized profit and total cost; the counts of trimmed fills and of records;
 -- and room for records, four words and eight numbers each
