@@ -5,8 +5,9 @@ use mathlib.Core.List.{List, [], _∷_}
 use mathlib.Core.Bool.{Bool, true, false}
 use lib.ListN.{length, take, drop, set, getD, replicate}
 use lib.Dec.{eqb, leb, ltb}
-use lib.IntN.{ℤ, pos, negsuc}
+use lib.IntN.{ℤ, pos}
 use Rattle.position.specs.Rows.{row, fresh, keyOf}
+unfoldable pub use Rattle.position.specs.Shares.{isZero}
 use Rattle.position.specs.declared.position.Position.{Position}
 use Rattle.table.specs.Keyed.{pick, both, all, orElse, seek, put64, ascending, Rising}
 use Rattle.table.specs.declared.table.Table.{Table}
@@ -54,11 +55,6 @@ pub record Ordered (n : ℕ) (c : Cols) : Type 0 where
   pub rest : drop n (zipped c) ≡ replicate (64 - n) (fresh 0)
 
 -- the same as a test
-abbrev pub isZero : ℤ → Bool
-isZero (pos zero) = true
-isZero (pos (suc n)) = false
-isZero (negsuc n) = false
-
 abbrev pub zeros : List ℕ → Bool
 zeros l = all (λ x. eqb x 0) l
 
