@@ -9,7 +9,6 @@ use lib.ListN.{length, length-take, set, replicate}
 use lib.IntN.{ℤ, pos}
 use borrow.Author.Tests.{leb-true}
 use Rattle.answer.specs.declared.Answer.the-variants.{Done}
-use Rattle.table.specs.declared.table.Table.{Table}
 use Rattle.table.specs.Rows.{Cols}
 use Rattle.fills.specs.declared.order.Book.{Book}
 use Rattle.fills.specs.declared.order.Order.{Order}
