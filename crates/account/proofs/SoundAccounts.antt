@@ -9,7 +9,7 @@ use Rattle.cost_model.specs.Costs.{free, goodCosts}
 use Rattle.position.specs.Fills.{sound}
 use Rattle.table.specs.declared.table.Table.{Table}
 use Rattle.table.specs.Keyed.{pick}
-use Rattle.table.specs.Rows.{columnsOf, rowAt, emptyTable, unused, ordered, Full}
+use Rattle.table.specs.Rows.{columnsOf, rowAt, emptyTable, isZero, unused, ordered, Full}
 use Rattle.table.specs.Inner.Rows.{Ordered}
 use Rattle.table.proofs.Keyed.{both-true, both-false}
 use Rattle.account.specs.declared.settings.Settings.{Settings}
@@ -122,7 +122,7 @@ changed-keeps-sound s a e = rw e (go (goodSettings s) refl)
 
 -- an account that was opened is sound
 empty-sound : soundTable emptyTable ≡ true
-unfolding soundColumns soundPlaces ordered unused
+unfolding soundColumns soundPlaces ordered unused isZero
 empty-sound = refl
 
 pub opened-sound : (cash : ℤ) (s : Settings) (x : Series) → soundScalars cash s ≡ true → soundAccount (emptyAccount cash s x) ≡ true

@@ -15,6 +15,7 @@ use Rattle.fills.specs.declared.record.ExecutionKind.the-variants.{Rebalance}
 use Rattle.call_lists.specs.Lists.{priceOf}
 use Rattle.account.specs.declared.account.Account.{Account}
 use Rattle.account.specs.declared.change.Changed.{Changed}
+use Rattle.account.specs.Calls.{answered}
 use Rattle.account.specs.Account.{heldIn, withSeries}
 use Rattle.wanted.specs.Equity.{equityOf}
 use Rattle.account_bytes.specs.declared.account_words.ReadAccount.{ReadAccount}
@@ -33,9 +34,6 @@ use Rattle.portfolio.specs.Trades.{Filed, filed, filedBy}
 use Rattle.c_timed.specs.Calls.{accountIn, ofOutcome, rebalanceCall, ofRecorded, returnCall}
 
 -- ---- a return
-abbrev pub change : Answer → Account → Changed
-change answer a = record { answer = answer; account = a }
-
 of-pick : (t : Bool) (x y : Recorded) → ofRecorded (pick t x y) ≡ pick t (ofRecorded x) (ofRecorded y)
 of-pick true x y = refl
 of-pick false x y = refl
@@ -44,8 +42,8 @@ module _ (a : Account) (ps : List ℕ) (vs : List ℤ) where
   by-answer : Answer → Changed
   by-answer answer =
       pick (isDone answer)
-      (change Done (withSeries (nextSeries (a .series) (equityOf (priceOf ps vs) (a .cash) (heldIn (a .positions)))) a))
-      (change answer a)
+      (answered Done (withSeries (nextSeries (a .series) (equityOf (priceOf ps vs) (a .cash) (heldIn (a .positions)))) a))
+      (answered answer a)
 
   return-by-answer : (es : List ℤ) (rs : List Float) → ofRecorded (recorded a ps vs es rs) ≡ by-answer (returnAnswer a ps vs (length es) (length rs))
   unfolding recorded by-answer
@@ -64,10 +62,10 @@ module _ (a : Account) (ps : List ℕ) (vs : List ℤ) where
 pub rebalance-made : (a : Account) (ts : List ℕ) (ws : List Float) (ps : List ℕ) (vs : List ℤ) (t : Traded) (xs′ xs : List ℕ) (ys′ ys : List ℤ)
     → length xs ≡ 256 → length ys ≡ 512
     → filedBy t xs′ ys′ ≡ filed (rebalanced a ts ws ps vs 0 Rebalance (recordPlaces (length xs) (length ys))) xs ys
-    → change (t .answer) (t .account) ≡ rebalanceCall a ts ws ps vs
+    → answered (t .answer) (t .account) ≡ rebalanceCall a ts ws ps vs
 unfolding rebalanceCall
 rebalance-made a ts ws ps vs t xs′ xs ys′ ys m n e =
-    ap (λ (f : Filed). change (f .answer) (f .account)) e
+    ap (λ (f : Filed). answered (f .answer) (f .account)) e
     ∙ ap (λ k. ofOutcome (rebalanced a ts ws ps vs 0 Rebalance (recordPlaces k (length ys)))) m
     ∙ ap (λ k. ofOutcome (rebalanced a ts ws ps vs 0 Rebalance (recordPlaces 256 k))) n
 

@@ -5,14 +5,14 @@ use mathlib.Core.List.{List, [], _∷_}
 use mathlib.Core.Bool.{Bool, true, false, not}
 use native.Mathlib.Omega.{arith}
 use native.Mathlib.Numerals.{add-one}
-use lib.Dec.{ltb, eqb}
+use lib.Dec.{eqb}
 use lib.IntN.{ℤ, pos, negsuc}
 use lib.Signed.{leZ, ltZ}
 use lib.ListN.{length, take, drop, getD, length-drop, drop-of-length-le}
 use lib.Seq.{drop-cons, take-all}
-use borrow.Author.Tests.{lt-ltb, le-ltb, le-leb, eq-eqb, ne-eqb, not-true}
+use borrow.Author.Tests.{le-ltb, le-leb, eq-eqb, ne-eqb, not-true}
 use Rattle.call_lists.specs.Lists.{among, distinct}
-use Rattle.table.specs.Keyed.{pick, both, all, ascending}
+use Rattle.table.specs.Keyed.{pick, all, ascending}
 use Rattle.table.specs.Inner.Keyed.{Over, Rising}
 use Rattle.table.proofs.Keyed.{ascending-rises, both-true}
 
@@ -53,30 +53,6 @@ module _ (s : ℕ) (l : List ℕ) (i : ℕ) (h : i < length l) where
   pub among-on : (getD l i 0 ≡ s → ⊥) → among s (drop i l) ≡ among s (drop (i + 1) l)
   unfolding among
   among-on n = from-place (among s) l i 0 h ∙ simp (ne-eqb _ _ n)
-
--- ---- a list that ascends, from the place before i on
-one : (l : List ℕ) → length l ≤ 1 → ascending l ≡ true
-one [] h = refl
-one (x ∷ []) h = refl
-one (x ∷ (y ∷ l)) h = absurd (omega arith)
-
-module _ (l : List ℕ) (i : ℕ) (g : 1 ≤ i) where
-  two : i < length l → ascending (drop (i - 1) l) ≡ both (ltb (getD l (i - 1) 0) (getD l i 0)) (ascending (drop i l))
-  two h =
-      let q : i - 1 < length l = omega arith in
-      let e : i - 1 + 1 ≡ i = omega arith in
-      from-place ascending l (i - 1) 0 q ∙ ap (λ k. ascending (getD l (i - 1) 0 ∷ drop k l)) e
-      ∙ from-place (λ t. ascending (getD l (i - 1) 0 ∷ t)) l i 0 h
-      ∙ sym (ap (both (ltb (getD l (i - 1) 0) (getD l i 0))) (from-place ascending l i 0 h))
-
-  pub ascends-not : i < length l → getD l i 0 ≤ getD l (i - 1) 0 → ascending (drop (i - 1) l) ≡ false
-  ascends-not h o = two h ∙ simp (le-ltb _ _ o)
-
-  pub ascends-on : i < length l → getD l (i - 1) 0 < getD l i 0 → ascending (drop (i - 1) l) ≡ ascending (drop i l)
-  ascends-on h o = two h ∙ simp (lt-ltb _ _ o)
-
-  pub ascends-end : length l ≤ i → ascending (drop (i - 1) l) ≡ true
-  ascends-end h = one (drop (i - 1) l) (omega (arith, length-drop (i - 1) l))
 
 -- ---- a symbol twice
 pub below-first : (a b : ℕ) (l : List ℕ) → a < b → Over b l → Over a l

@@ -4,6 +4,7 @@ ghost use Rattle.table.specs.Keyed.{ascending};
 ghost use Rattle.call_lists.specs.Lists.{among, allGood, allFinite, allPriced, distinct};
 use doubles::is_finite;
 use position::Symbol;
+use table::ascends;
 
 // Not "a symbol is bad".
 pub fn all_good(symbols: &[u64]) -> bool
@@ -54,14 +55,7 @@ pub fn all_priced(prices: &[i64]) -> bool
 pub fn is_ascending(symbols: &[u64]) -> bool
     ensures { λ r. ⌜ r ≡ ascending (now (symbols .entry)) ⌝ }
 {
-    let mut i = 1;
-    while i < symbols.len() {
-        if symbols[i] <= symbols[i - 1] {
-            return false;
-        }
-        i += 1;
-    }
-    true
+    ascends(symbols, symbols.len())
 }
 
 // Whether the symbol stands in the list.

@@ -102,15 +102,15 @@ toI64-mono (fin s m e) (fin t n d) h =
     signed-le s (m * up e / down e) t (n * up d / down d) (parts-le s (m * up e) (down e) t (n * up d) (down d) (down-pos e) (down-pos d) (le-fin→ s m e t n d h))
 
 -- "saturates": the two ends
+last : (n : ℕ) → n < 2 ^ 63 → 2 ^ 63 - 1 ≤ n → n ≡ 2 ^ 63 - 1
+last n f l = omega arith
+
 pub toI64-top : (x : Float) → T (le (fin false 1 (pos 63)) x) → toI64 x ≡ pos (2 ^ 63 - 1)
 unfolding toSigned
 toI64-top x h = ends (toI64 x) (toSigned-in 63 x) (toI64-mono (fin false 1 (pos 63)) x h)
   where
     ends : (z : ℤ) → mag z < 2 ^ 63 → T (leZ (pos (2 ^ 63 - 1)) z) → z ≡ pos (2 ^ 63 - 1)
-    ends (pos n) f l = ap pos (close n f (leb→le (2 ^ 63 - 1) n l))
-      where
-        close : (n : ℕ) → n < 2 ^ 63 → 2 ^ 63 - 1 ≤ n → n ≡ 2 ^ 63 - 1
-        close n f l = omega arith
+    ends (pos n) f l = ap pos (last n f (leb→le (2 ^ 63 - 1) n l))
     ends (negsuc n) f l = absurd l
 
 pub toI64-bottom : (x : Float) → T (le x (fin true 1 (pos 63))) → toI64 x ≡ negℤ (pos (2 ^ 63))
@@ -119,10 +119,7 @@ toI64-bottom x h = ends (toI64 x) (toSigned-in 63 x) (toI64-mono x (fin true 1 (
   where
     ends : (z : ℤ) → mag z < 2 ^ 63 → T (leZ z (negsuc (2 ^ 63 - 1))) → z ≡ negsuc (2 ^ 63 - 1)
     ends (pos n) f l = absurd l
-    ends (negsuc n) f l = ap negsuc (close n f (leb→le (2 ^ 63 - 1) n l))
-      where
-        close : (n : ℕ) → n < 2 ^ 63 → 2 ^ 63 - 1 ≤ n → n ≡ 2 ^ 63 - 1
-        close n f l = omega arith
+    ends (negsuc n) f l = ap negsuc (last n f (leb→le (2 ^ 63 - 1) n l))
 
 -- ==== i64 and u64 to f64: "rounds to nearest, ties to even"
 pub ofU64-exact : (n : ℕ) → n ≤ 2 ^ 53 → HasValue (ofU64 n) false n 1

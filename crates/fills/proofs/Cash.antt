@@ -9,7 +9,7 @@ use lib.Signed.{ltZ, leZ}
 use mir.Syntax.{w64}
 use mir.Val.{SFits}
 use Rattle.sums.specs.Sums.{satAdd, satSub, notional}
-use Rattle.sums.proofs.Ints.{P, N, one-sided, P-sub, P-clamp, N-clamp, satSub-clamp, satSub-exact, fits-of, P-fits, le-yes, le-no, le-is, gt-is, lt-yes, lt-is, lt-le, N-zero}
+use Rattle.sums.proofs.Ints.{P, N, one-sided, P-sub, P-clamp, N-clamp, satSub-clamp, satSub-plain, le-yes, le-no, le-is, gt-is, lt-yes, lt-is, lt-le, N-zero}
 use Rattle.sums.proofs.Laws.{notional-is-value}
 use Rattle.position.specs.Shares.{isZero}
 use Rattle.position.proofs.Fills.{short-parts}
@@ -113,8 +113,4 @@ module _ (t : Terms) (good : goodCosts (t .costs) ≡ true) (o : Order) (price :
 
 -- a record's change of cash is the plain difference, of cash of at least 0
 pub change-is-plain : (after before : ℤ) → SFits w64 after → SFits w64 before → leZ (pos 0) after ≡ true → leZ (pos 0) before ≡ true → satSub after before ≡ after -ℤ before
-change-is-plain a b fa fb ha hb =
-    satSub-exact a b
-    (fits-of (a -ℤ b)
-    (omega (arith, P-sub a b, P-fits a fa, P-fits b fb, N-zero a ha, N-zero b hb))
-    (omega (arith, P-sub a b, P-fits a fa, P-fits b fb, N-zero a ha, N-zero b hb)))
+change-is-plain = satSub-plain

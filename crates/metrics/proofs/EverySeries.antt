@@ -1,9 +1,9 @@
 -- What holds of the figures of every series: the counts fit it, a drawdown is never negative, and zeros change nothing.
-use Prim.Native.Nat.{ℕ, zero, suc, _+_, _*_, _^_, _≤_, _<_}
+use Prim.Native.Nat.{ℕ, zero, suc, _+_, _*_, _^_, _≤_}
 use mathlib.Core.Path.{_≡_, refl, sym, ap, _∙_, subst}
 use mathlib.Core.Bool.{Bool, true, false, cond, not, _&&_, _||_, Bool·beq}
 use mathlib.Core.List.{List, [], _∷_, foldl}
-use native.Mathlib.Nat.{zero-mul, mul-one, one-mul, mul-pos}
+use native.Mathlib.Nat.{zero-mul, mul-one, one-mul}
 use native.Mathlib.Omega.{arith}
 use lib.Dec.{T, ltb, eqb, eqb→eq}
 use lib.IntN.{ℤ, pos, negsuc}
@@ -12,6 +12,7 @@ use lib.Pow.{pow-pos}
 use lib.Ieee.{Float, nan, inf, fin, binary64, up, down, lt, eq, le, fits, add, sub, mul, div}
 use lib.Ieee.Fits.{up-pos, and-l}
 use borrow.Author.Tests.{ltb-true, lt-ltb}
+use Rattle.doubles.proofs.Order.{no-product}
 use Rattle.metrics.proofs.OnePass.{equity-is}
 use Rattle.metrics.specs.Double as D
 use Rattle.metrics.specs.Double.{one}
@@ -104,13 +105,6 @@ abbrev pub AllZero : List Float → Type 0
 AllZero [] = Unit
 AllZero (r ∷ rs) = T (fits binary64 r) × T (eq r D.zero) × AllZero rs
 
-nothing : (m k : ℕ) → 0 < k → m * k ≡ 0 → m ≡ 0
-nothing zero k p h = refl
-nothing (suc m) k p h = absurd (let q = mul-pos (some m) p in omega arith)
-  where
-    some : (m : ℕ) → 0 < suc m
-    some m = omega arith
-
 written-once : (e : ℤ) → up e * down e ≡ 1 → e ≡ pos 0
 written-once (pos zero) h = refl
 written-once (pos (suc k)) h = absurd (let q = pow-pos k in omega (arith, mul-one (2 ^ suc k)))
@@ -118,7 +112,7 @@ written-once (negsuc k) h = absurd (let q = pow-pos k in omega (arith, one-mul (
 
 zero-is : (s : Bool) (m : ℕ) (e : ℤ) → T (fits binary64 (fin s m e)) → T (eq (fin s m e) D.zero) → fin s m e ≡ fin s 0 (pos 0)
 unfolding eq fits
-zero-is s m e f q = go m (nothing m (up e) (up-pos e) none) f
+zero-is s m e f q = go m (no-product m (up e) (up-pos e) none) f
   where
     none : m * up e ≡ 0
     none = omega (arith, zero-mul (down e), eqb→eq (m * up e * 1) (0 * 1 * down e) (and-l (eqb (m * up e * 1) (0 * 1 * down e)) (Bool·beq s false || eqb (m * up e * 1) 0) q))

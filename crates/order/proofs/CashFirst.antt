@@ -1,5 +1,5 @@
 -- Cash-first mode runs those that lower no cash first, so condition 3 speaks of its running order; and the orders of a done rebalance are such as condition 3 asks.
-use mathlib.Core.List.{List, [], _∷_, _++_, map}
+use mathlib.Core.List.{List, [], _∷_, _++_, map, map-append}
 use mathlib.Core.Bool.{Bool, true, false, not}
 use mathlib.Core.Path.{_≡_, refl, sym, ap, _∙_, subst}
 use Rattle.table.specs.Keyed.{pick}
@@ -21,10 +21,6 @@ use Rattle.order.proofs.Accounts.{order-is-free, same-account}
 use Rattle.order.proofs.OwnOrders.{own-orders}
 
 -- ---- the running order of the plan, as one of its orders
-map-append : {A B : Type 0} (f : A → B) (x y : List A) → map f (x ++ y) ≡ map f x ++ map f y
-map-append f [] y = refl
-map-append f (a ∷ x) y = ap (λ z. f a ∷ z) (map-append f x y)
-
 map-only : {A B : Type 0} (f : A → B) (test : B → Bool) (x : List A) → map f (only (λ a. test (f a)) x) ≡ only test (map f x)
 map-only f test [] = refl
 map-only {A} {B} f test (a ∷ x) = go (test (f a)) (map-only f test x)

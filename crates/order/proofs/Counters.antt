@@ -5,6 +5,7 @@ use mathlib.Core.List.{List, [], _∷_}
 use mathlib.Core.Path.{_≡_, refl, sym, ap, _∙_}
 use lib.ListN.{length}
 use Rattle.cost_model.specs.Costs.{goodCosts}
+use Rattle.position.proofs.Symbols.{and-left, and-right}
 use Rattle.table.specs.Keyed.{pick}
 use Rattle.fills.specs.declared.order.Order.{Order}
 use Rattle.fills.specs.declared.order.Terms.{Terms}
@@ -13,7 +14,6 @@ use Rattle.fills.specs.Fill.{fillsWhole, settled, fill, fillAll}
 use Rattle.order.specs.Running.{Perm, done, keep, swap, then, All, nothing, and}
 use Rattle.order.specs.Statement.{Tradable, Funded, allWhole, AllWhole}
 use Rattle.order.proofs.Perms.{all-perm}
-use Rattle.order.proofs.Rule.{and-left, and-right}
 use Rattle.order.proofs.Fills.{settles}
 
 perm-length : {A : Type 0} {x y : List A} → Perm A x y → length x ≡ length y

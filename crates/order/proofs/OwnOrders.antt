@@ -4,7 +4,7 @@ use Prim.Native.Nat.{ℕ, _+_, _≤_, _<_}
 use mathlib.Core.Bool.{Bool, true, false}
 use mathlib.Core.List.{List, [], _∷_, _++_, map}
 use mathlib.Core.Option.{Option, none, some}
-use mathlib.Core.Path.{_≡_, refl, sym, ap, _∙_}
+use mathlib.Core.Path.{_≡_, refl, sym, ap}
 use native.Mathlib.Omega.{arith}
 use lib.Dec.{eqb, leb}
 use lib.IntN.{ℤ, pos, _-ℤ_}
@@ -13,13 +13,13 @@ use lib.ListN.{length}
 use lib.Signed.{ltZ, leZ}
 use borrow.Author.Tests.{eqb-true, eqb-false, leb-true, leb-false, eq-eqb, ne-eqb}
 use Rattle.position.specs.declared.position.Position.{Position}
-use Rattle.position.specs.Rows.{keyOf}
+use Rattle.position.specs.Rows.{fresh, keyOf}
 use Rattle.sizing.specs.Sizing.{cutTo}
 use Rattle.table.specs.Keyed.{pick, there, new, seek}
 use Rattle.table.specs.Inner.Keyed.{Rising}
 use Rattle.table.specs.Rows.{columnsOf, isZero, Full}
 use Rattle.table.proofs.Keyed.{rising-ascends}
-use Rattle.table.proofs.Ordering.{zero-same}
+use Rattle.table.proofs.Ordering.{at-all}
 use Rattle.table.proofs.Zipped.{keys-of}
 use Rattle.call_lists.specs.Lists.{among, distinct, priceOf}
 use Rattle.call_lists.proofs.Lists.{below-first, below-not-among, ascending-distinct, among-own, among-more, distinct-first, distinct-rest}
@@ -34,7 +34,7 @@ use Rattle.wanted.proofs.Plans as planning
 use Rattle.admission.specs.Admission.{notionalOf, insertBy, reached, added, addedAll, lastAdmitted, admittedFrom, admitted}
 use Rattle.admission.specs.Inner.Kept.{Each, Start, none, last, more}
 use Rattle.admission.specs.Running.{planOf}
-use Rattle.admission.proofs.Kept.{added-keeps, addedAll-all, admitted-is-start}
+use Rattle.admission.proofs.Kept.{wanted-all, added-keeps, addedAll-all, admitted-is-start}
 use Rattle.fills.specs.declared.order.Order.{Order}
 use Rattle.portfolio.specs.Answers.{isDone, notHeld, rebalanceAnswer}
 use Rattle.portfolio.specs.Rebalance.{orderOf, admittedPlan}
@@ -171,7 +171,7 @@ module _ (g : ℕ → ℕ) where
   module _ (s : Settings) (equity : ℤ) (price : ℕ → ℤ) where
     -- a close of some quantity is of no target
     share-closing : (ts : List ℕ) (p : Position) → share (closing s equity price ts p) ≤ besides ts g (keyOf p)
-    unfolding closing plannedClose
+    unfolding closing plannedClose isZero
     share-closing ts p = go (among (keyOf p) ts)
       where
         close : Bool → PlannedOrder
@@ -205,7 +205,7 @@ abbrev Wanted : PlannedOrder → Type 0
 Wanted o = isZero (o .quantity .0) ≡ false → Tradable (orderOf o)
 
 order-wanted : (k : ℕ) (p : ℤ) (o : PlannedOrder) → planning.OrderFor k p o → Wanted o
-order-wanted k p o h z = record { quantity = zero-same (o .quantity .0) ∙ z; price = rw (h .priced z .0) (h .priced z .1) }
+order-wanted k p o h z = record { quantity = z; price = rw (h .priced z .0) (h .priced z .1) }
 
 abbrev Traded : List PlannedOrder → Type 0
 Traded l = All Order Tradable (map orderOf l)
@@ -218,7 +218,7 @@ module _ (s : Settings) where
       let cut = planned (o .symbol .0) (cutTo (o .quantity .0) (o .price) (s .«quantity_step») left) (o .price) (o .«drift_bps») in
       picked Traded (isZero (cut .quantity .0)) [] _ nothing (λ e.
       picked Traded (ltZ (notionalOf cut) (s .«min_order_value»)) [] (cut ∷ []) nothing (λ q.
-      and (record { quantity = zero-same (cut .quantity .0) ∙ e; price = h .price }) nothing))
+      and (record { quantity = e; price = h .price }) nothing))
 
   admitted-traded : (n : ℕ) (left : ℤ) (l : List PlannedOrder) → Each (λ o. Tradable (orderOf o)) l → Traded (admittedFrom s n left l)
   unfolding admittedFrom
@@ -231,24 +231,18 @@ module _ (s : Settings) where
       and (h .0) (admitted-traded (n + 1) (left -ℤ notionalOf o) l (h .1))))))
 
 module _ (s : Settings) (equity : ℤ) (price : ℕ → ℤ) where
-  closings-wanted : (ts : List ℕ) (ps : List Position) (l : List PlannedOrder) → Each Wanted l → Each Wanted (closings s equity price ts ps ++ l)
-  unfolding closings
-  closings-wanted ts [] l h = h
-  closings-wanted ts (p ∷ ps) l h = (order-wanted (keyOf p) (price (keyOf p)) (closing s equity price ts p) (planning.closing-order s equity price ts p), closings-wanted ts ps l h)
-
-  targetings-wanted : (held : List Position) (ts : List ℕ) (ws : List Float) → Each Wanted (targetings s equity price held ts ws)
-  unfolding targetings
-  targetings-wanted held [] ws = omega arith
-  targetings-wanted held (t ∷ ts) [] = omega arith
-  targetings-wanted held (t ∷ ts) (w ∷ ws) = (order-wanted t (price t) (targeting s equity price held t w) (planning.targeting-order s equity price held t w), targetings-wanted held ts ws)
-
   module _ (held : List Position) (ts : List ℕ) (ws : List Float) where
     plan-traded : Traded (planOf s equity price held ts ws)
-    unfolding planOf admitted wanted
+    unfolding planOf admitted
     plan-traded =
         let os = wanted s equity price held ts ws in
         admitted-traded s 0 (s .«max_rebalance_notional») (addedAll s os [])
-        (addedAll-all s (λ o. Tradable (orderOf o)) os [] (closings-wanted ts held (targetings s equity price held ts ws) (targetings-wanted held ts ws)) (omega arith))
+        (addedAll-all s (λ o. Tradable (orderOf o)) os []
+        (wanted-all Wanted s equity price (λ p. true) (λ t. true) held ts ws
+        (λ p e. order-wanted (keyOf p) (price (keyOf p)) (closing s equity price ts p) (planning.closing-order s equity price ts p))
+        (λ t w e. order-wanted t (price t) (targeting s equity price held t w) (planning.targeting-order s equity price held t w))
+        (at-all (λ p. true) (fresh 0) held (λ i h. refl)) (at-all (λ t. true) 0 ts (λ i h. refl)))
+        (omega arith))
 
     -- ---- all three
     own-plan : Rising (map keyOf held) → distinct ts ≡ true → length held + notHeld ts held ≤ 64 → OwnOrders held (map orderOf (planOf s equity price held ts ws))

@@ -7,11 +7,13 @@ use mathlib.Core.Option.{Option, some}
 use mathlib.Core.Path.{_≡_, refl, sym, ap, _∙_, subst}
 use native.Mathlib.Omega.{arith}
 use lib.Dec.{T}
+use lib.Ieee.Bits.{is-true}
 use lib.ListN.{length}
 use lib.IntN.{ℤ, pos, negℤ, _+ℤ_, _-ℤ_}
 use lib.Signed.{ltZ, leZ}
 use Rattle.sums.specs.Sums.{satSub}
 use Rattle.sums.proofs.Ints.{P, N, P-pos, N-pos, P-neg, N-neg, P-add, P-sub, P-zero, N-zero, fits-of, satSub-exact, eq-of, le-yes, le-is, lt-yes, lt-no}
+use Rattle.position.proofs.Symbols.{and-left, and-right}
 use Rattle.table.specs.Keyed.{seek, put, put64, new}
 use Rattle.table.proofs.Keyed.{seek-key, seek-put, put-swap, put-length, put-room}
 use Rattle.order.specs.Running.{Perm, done, keep, swap, then, total, All, nothing, and, Pairs, Last, Different, Room, NotBelow0, InRange}
@@ -86,18 +88,6 @@ pub record Apart {O Q A : Type 0} (R : Rule O Q A) (os : List O) (a : A) : Type 
   pub room : Room (length (R .held a)) (total (newOf R (R .held a)) os)
 
 -- ---- tests and numbers
-pub and-left : (a b : Bool) → (a && b) ≡ true → a ≡ true
-and-left true b e = refl
-and-left false b e = let z : _≡_ {A = ℕ} 0 1 = cc in absurd (omega arith)
-
-pub and-right : (a b : Bool) → (a && b) ≡ true → b ≡ true
-and-right true b e = e
-and-right false b e = let z : _≡_ {A = ℕ} 0 1 = cc in absurd (omega arith)
-
-is-true : (b : Bool) → T b → b ≡ true
-is-true true t = refl
-is-true false t = absurd t
-
 not-above : (z : ℤ) → ltZ (pos 0) z ≡ false → P z ≡ 0
 unfolding P N
 not-above z e = P-zero z (le-is z (pos 0) (omega (arith, lt-no (pos 0) z e)))

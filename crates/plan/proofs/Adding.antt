@@ -43,6 +43,7 @@ counted-same a b g h i = cc
 
 -- a holding that is a target asks for an order of nothing
 pub wanted-none : (s : Settings) (equity : ℤ) (k : ℕ) (q p : ℤ) (wanted : Bool) → wanted ≡ true → isZero (plannedClose s equity k q p wanted .quantity .0) ≡ true
+unfolding isZero
 wanted-none s equity k q p wanted e = rw (e, close-wanted s equity k q p)
 
 pub closes-start : (s : Settings) (equity : ℤ) (price : ℕ → ℤ) (targets : List ℕ) (n m : ℕ) (ks : List ℕ) (qs : List ℤ) (t : CountedPlan) → m ≡ shorter n 64

@@ -5,18 +5,15 @@ use mathlib.Core.Bool.{Bool, true, false}
 use mathlib.Core.List.{List, [], _∷_, map}
 use native.Mathlib.Omega.{arith}
 use native.Mathlib.Numerals.{add-one}
-use lib.Dec.{eqb, leb}
+use lib.Dec.{leb}
 use lib.ListN.{length, drop}
 use lib.IntN.{ℤ, pos}
 use lib.Signed.{leZ}
 use lib.Ieee.{Float}
-use borrow.Author.Tests.{leb-true, eqb-true, le-leb}
+use borrow.Author.Tests.{leb-true, le-leb}
 use Rattle.table.specs.Keyed.{pick}
 use Rattle.table.specs.Rows.{columnsOf}
-use Rattle.table.proofs.Keyed.{both-true}
 use Rattle.call_lists.specs.Lists.{priceOf}
-use Rattle.call_lists.specs.Inner.Sorted.{columns, roomy, sortedInto}
-use Rattle.call_lists.proofs.Sorted.{sorted-serves}
 use Rattle.account.specs.declared.account.Account.{Account}
 use Rattle.account.specs.declared.settings.Settings.{Settings}
 use Rattle.account.specs.Account.{heldIn}
@@ -45,25 +42,6 @@ use Rattle.portfolio.specs.Rebalance.{orderOf, admittedPlan, afterPlan, 
 use Rattle.portfolio.specs.Inner.Trades.{afterOrders}
 use Rattle.portfolio.specs.Inner.Planned.{equityAt, planAt, PlansFromCash, Ready}
 use Rattle.portfolio.proofs.Worths.{equity-of-places}
-
--- ---- prices that were sorted
--- their count is that of places in both columns, whether they were sorted or not
-module _ (ss : List ℕ) (ps : List ℤ) (ks : List ℕ) (vs : List ℤ) (r : ℕ) (ks′ : List ℕ) (vs′ : List ℤ) (e : columns r ks′ vs′ ≡ sortedInto ss ps ks vs) where
-  pub sorted-fits : (r ≤ length ks′) × (r ≤ length vs′)
-  unfolding sortedInto
-  sorted-fits = go (roomy ss ps ks vs) refl
-    where
-      go : (b : Bool) → roomy ss ps ks vs ≡ b → (r ≤ length ks′) × (r ≤ length vs′)
-      go true q =
-          let p = both-true (eqb (length ss) (length ps)) _ q in
-          let l = both-true (leb (length ss) (length ks)) _ (p .1) in
-          let k : length ss ≤ length ks = leb-true _ _ (l .0) in
-          let v : length ss ≤ length vs = leb-true _ _ (l .1) in
-          let h = sorted-serves ss ps ks vs (eqb-true _ _ (p .0)) k v r ks′ vs′ e in
-          (omega (arith, h .most, h .keysLength), omega (arith, h .most, h .valuesLength))
-      go false q =
-          let n : r ≡ 0 = ap (λ c. c .count) (rw q at e) in
-          (omega arith, omega arith)
 
 -- ---- the plan of the places
 no-run : (s : Settings) → inRunningOrder s [] ≡ []

@@ -3,7 +3,7 @@
 use Prim.Native.Nat.{ℕ, _+_}
 use mathlib.Core.Path.{_≡_, refl, sym, _∙_}
 use mathlib.Core.Bool.{Bool, true, false}
-use mathlib.Core.List.{List, [], _∷_, _++_, map}
+use mathlib.Core.List.{List, [], _∷_, map}
 use native.Mathlib.Omega.{arith}
 use lib.IntN.{ℤ, pos}
 use lib.Ieee.{Float}
@@ -34,12 +34,12 @@ use Rattle.account.proofs.SoundAccounts.{account-cash, account-settings, accoun
 use Rattle.account.proofs.Tables.{table-sound}
 use Rattle.wanted.specs.declared.plan.PlannedOrder.{PlannedOrder}
 use Rattle.wanted.specs.Equity.{equityOf}
-use Rattle.wanted.specs.Plan.{closings, targetings, wanted}
+use Rattle.wanted.specs.Plan.{wanted}
 use Rattle.wanted.proofs.Plans as planning
 use Rattle.admission.specs.Admission.{addedAll}
 use Rattle.admission.specs.Inner.Kept.{Each}
 use Rattle.admission.specs.Running.{inRunningOrder, planOf}
-use Rattle.admission.proofs.Kept.{addedAll-all, admitted-all, running-all}
+use Rattle.admission.proofs.Kept.{wanted-all, addedAll-all, admitted-all, running-all}
 use Rattle.portfolio.specs.Answers.{isDone, closeAnswer, rebalanceAnswer, returnAnswer}
 use Rattle.portfolio.specs.Rebalance.{Outcome, orderOf, termsOf, stateOf, accountAfter, admittedPlan, afterPlan, afterRebalance, rebalanced}
 use Rattle.portfolio.specs.Close.{closeOrder, afterClose, positionClosed}
@@ -59,35 +59,21 @@ order-wanted k p o h g f z =
     let w = h .priced z in
     (rw (h .symbol) g, rw (w .0) (w .1), h .price-fits f)
 
-all-append : (F : PlannedOrder → Type 0) (l k : List PlannedOrder) → Each F l → Each F k → Each F (l ++ k)
-all-append F [] k h g = g
-all-append F (x ∷ l) k h g = (h .0, all-append F l k (h .1) g)
-
 sound-symbol : (p : Position) → sound p ≡ true → goodSymbol (keyOf p) ≡ true
 unfolding sound
 sound-symbol p e = both-true (goodSymbol (keyOf p)) _ (sym (and-both (goodSymbol (keyOf p)) _) ∙ e) .0
 
 module _ (s : Settings) (equity : ℤ) (price : ℕ → ℤ) (fits : (k : ℕ) → SFits w64 (price k)) where
-  closings-wanted : (ts : List ℕ) (ps : List Position) → all sound ps ≡ true → Each Wanted (closings s equity price ts ps)
-  unfolding closings
-  closings-wanted ts [] e = omega arith
-  closings-wanted ts (p ∷ ps) e =
-      let b = both-true (sound p) _ e in
-      (order-wanted (keyOf p) (price (keyOf p)) _ (planning.closing-order s equity price ts p) (sound-symbol p (b .0)) (fits (keyOf p)), closings-wanted ts ps (b .1))
-
-  targetings-wanted : (held : List Position) (ts : List ℕ) (ws : List Float) → allGood ts ≡ true → Each Wanted (targetings s equity price held ts ws)
-  unfolding targetings allGood
-  targetings-wanted held [] ws e = omega arith
-  targetings-wanted held (t ∷ ts) [] e = omega arith
-  targetings-wanted held (t ∷ ts) (w ∷ ws) e =
-      let b = both-true (goodSymbol t) _ e in
-      (order-wanted t (price t) _ (planning.targeting-order s equity price held t w) (b .0) (fits t), targetings-wanted held ts ws (b .1))
-
   plan-tradable : (held : List Position) (ts : List ℕ) (ws : List Float) → all sound held ≡ true → allGood ts ≡ true → Each Tradable (planOf s equity price held ts ws)
-  unfolding planOf wanted
+  unfolding planOf allGood
   plan-tradable held ts ws e g =
       admitted-all s (addedAll s (wanted s equity price held ts ws) []) (λ k p. (goodSymbol k ≡ true) × (leZ (pos 1) p ≡ true) × SFits w64 p)
-      (addedAll-all s Tradable (wanted s equity price held ts ws) [] (all-append Wanted (closings s equity price ts held) (targetings s equity price held ts ws) (closings-wanted ts held e) (targetings-wanted held ts ws g)) (omega arith))
+      (addedAll-all s Tradable (wanted s equity price held ts ws) []
+      (wanted-all Wanted s equity price sound goodSymbol held ts ws
+      (λ p h. order-wanted (keyOf p) (price (keyOf p)) _ (planning.closing-order s equity price ts p) (sound-symbol p h) (fits (keyOf p)))
+      (λ t w h. order-wanted t (price t) _ (planning.targeting-order s equity price held t w) h (fits t))
+      e g)
+      (omega arith))
 
 orders-listed : (l : List PlannedOrder) → Each Tradable l → AllListed (map orderOf l)
 orders-listed [] h = omega arith

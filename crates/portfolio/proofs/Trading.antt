@@ -9,8 +9,7 @@ use lib.ListN.{length, length-take, set, replicate}
 use lib.IntN.{ℤ, pos}
 use borrow.Author.Tests.{leb-true}
 use Rattle.answer.specs.declared.Answer.the-variants.{Done}
-use Rattle.table.specs.declared.table.Table.{Table}
-use Rattle.table.specs.Rows.{Cols, holding}
+use Rattle.table.specs.Rows.{Cols}
 use Rattle.fills.specs.declared.order.Book.{Book}
 use Rattle.fills.specs.declared.order.Order.{Order}
 use Rattle.fills.specs.declared.record.ExecutionKind.{ExecutionKind}
@@ -23,6 +22,7 @@ use Rattle.account.specs.declared.account.Account.{Account}
 use Rattle.account.specs.declared.account.Ledger.{Ledger}
 use Rattle.account.specs.Account.{heldIn}
 use Rattle.account.specs.Inner.Account.{accountWith}
+use Rattle.account.proofs.SoundAccounts.{withPositions}
 use Rattle.account.proofs.Tables.{ordered-table}
 use Rattle.portfolio.specs.Answers.{isDone, recordPlaces, hasRoom, closeAnswer}
 use Rattle.portfolio.specs.Rebalance.{Outcome, termsBy, termsOf, stateOf, accountAfter}
@@ -40,9 +40,6 @@ room-recorded : (m w i : ℕ) → leb m (recordPlaces w i) ≡ true → (m * 4 �
 room-recorded m w i e =
     let h : m ≤ min (w / 4) (i / 8) = leb-true _ _ e in
     (omega arith, omega arith)
-
-abbrev withTable : Table → Account → Account
-withTable t a = record { cash = a .cash; settings = a .settings; counters = a .counters; series = a .series; positions = t }
 
 abbrev pub filing : Account → Buffers → Filed
 filing x b = record { answer = Done; account = x; records = b .written; words = b .words; ints = b .ints }
@@ -76,7 +73,7 @@ module _ (h : Ledger) (c : Cols) (os : List Order) (period : ℕ) (kind : Execut
 
   account-put : (n : ℕ) (traded : ℤ) → accountWith (ledgerFrom h r n traded) d ≡ accountAfter a (stateAfter a os period kind) n traded
   unfolding accountAfter
-  account-put n traded = ap (λ t. withTable t (accountWith (ledgerFrom h r n traded) d)) (sym (ordered-table (r .count) d (g .ordered))) ∙ ap (λ s. accountAfter a s n traded) (g .done)
+  account-put n traded = ap (λ t. withPositions t (accountWith (ledgerFrom h r n traded) d)) (sym (ordered-table (r .count) d (g .ordered))) ∙ ap (λ s. accountAfter a s n traded) (g .done)
 
   pub run-filed : (n : ℕ) (traded : ℤ) → filing (accountWith (ledgerFrom h r n traded) d) (buffers ws′ is′ (r .written)) ≡ filed (afterOrders a os period kind n traded) ws is
   run-filed n traded = ap (λ x. filing x (buffers ws′ is′ (r .written))) (account-put n traded) ∙ ap (filing (accountAfter a (stateAfter a os period kind) n traded)) records-filed

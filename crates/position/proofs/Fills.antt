@@ -10,7 +10,7 @@ use borrow.Author.Tests.{eqb-false, ltb-true, ltb-false, lt-ltb, ne-eqb, not-tru
 use mir.Syntax.{w64}
 use mir.Val.{SFits}
 use Rattle.sums.specs.Sums.{clamp64, satAdd, satSub, satAbs, value, priceAt}
-use Rattle.sums.proofs.Ints.{P, N, one-sided, natAbs-parts, P-add, P-sub, le-yes, lt-yes, lt-no, le-is, P-clamp, N-clamp, satAdd-fits, satSub-fits, satAdd-clamp, satSub-clamp, satAdd-mono, satSub-mono, satSub-exact, fits-of, P-fits, ge-is}
+use Rattle.sums.proofs.Ints.{P, N, one-sided, natAbs-parts, P-add, P-sub, le-yes, lt-yes, lt-no, le-is, P-clamp, N-clamp, satAdd-fits, satSub-fits, satAdd-clamp, satSub-clamp, satAdd-mono, satSub-mono, satSub-plain, le-refl, le-trans, ge-is}
 use Rattle.sums.proofs.Laws.{value-fits, value-nonneg, value-nonpos, value-mono-quantity, priceAt-fits, price-long-nonneg, price-short-nonneg, average-long, average-short}
 use Rattle.position.specs.Rows.{fresh, keyOf, held, avg, realized, total}
 use Rattle.position.specs.Shares.{isZero, isPositive}
@@ -119,14 +119,7 @@ short-same : (a b : ℤ) → sameSide a b ≡ true → isPositive a ≡ false �
 unfolding sameSide
 short-same a b s e = not-true _ (rw e at s)
 
--- ---- order
-le-self : (a : ℤ) → leZ a a ≡ true
-le-self a = le-is a a (omega arith)
-
-le-next : (a b c : ℤ) → leZ a b ≡ true → leZ b c ≡ true → leZ a c ≡ true
-le-next a b c h k = le-is a c (omega (arith, le-yes a b h, le-yes b c k))
-
--- a saturated sum is on the side that both its terms are on
+-- ---- order: a saturated sum is on the side that both its terms are on
 both-nonneg : (a b : ℤ) → leZ (pos 0) a ≡ true → leZ (pos 0) b ≡ true → leZ (pos 0) (satAdd a b) ≡ true
 unfolding satAdd clamp64
 both-nonneg a b h k = satAdd-mono (pos 0) a (pos 0) b h k
@@ -177,13 +170,13 @@ flat-sound = refl
 
 -- a long's total cost is at least 0, a short's at most
 long-cost : (q a t : ℤ) → isPositive q ≡ true → Sided q a t → leZ (pos 0) t ≡ true
-long-cost q a t e s = le-next (pos 0) (value q a) t (value-nonneg q a (long-nonneg q e) (s .average)) (s .long e)
+long-cost q a t e s = le-trans (pos 0) (value q a) t (value-nonneg q a (long-nonneg q e) (s .average)) (s .long e)
 
 short-cost : (q a t : ℤ) → isZero q ≡ false → isPositive q ≡ false → Sided q a t → leZ t (pos 0) ≡ true
-short-cost q a t z e s = le-next t (value q a) (pos 0) (s .short e) (value-nonpos q a (short-nonpos q z e) (s .average))
+short-cost q a t z e s = le-trans t (value q a) (pos 0) (s .short e) (value-nonpos q a (short-nonpos q z e) (s .average))
 
 entered-sided : (q price : ℤ) → leZ (pos 0) price ≡ true → Sided q price (value q price)
-entered-sided q price h = record { average = h; long = λ _. le-self (value q price); short = λ _. le-self (value q price) }
+entered-sided q price h = record { average = h; long = λ _. le-refl (value q price); short = λ _. le-refl (value q price) }
 
 averaged-sided : (q t : ℤ) → isZero q ≡ false → (isPositive q ≡ true → leZ (pos 0) t ≡ true) → (isPositive q ≡ false → leZ t (pos 0) ≡ true) → Sided q (priceAt t q) t
 averaged-sided q t z l s =
@@ -269,7 +262,7 @@ module _ (p : Position) (q price : ℤ) (at-least-0 : leZ (pos 0) price ≡ true
       averaged-sided (satAdd h q) (satSub (total p) (value k (avg p))) nn
       (λ e.
       let l = long-same (satAdd h q) h same e in
-      less-nonneg (total p) (value k (avg p)) (le-next (value k (avg p)) (value h (avg p)) (total p) (value-mono-quantity k h (avg p) (s .average) (closed-within h q l)) (s .long l)))
+      less-nonneg (total p) (value k (avg p)) (le-trans (value k (avg p)) (value h (avg p)) (total p) (value-mono-quantity k h (avg p) (s .average) (closed-within h q l)) (s .long l)))
       (λ e.
       let l = short-same (satAdd h q) h same e in
       less-nonpos (total p) (value k (avg p)) (short-cost h (avg p) (total p) nh l s) (value-nonneg k (avg p) (closed-nonneg h q) (s .average)))
@@ -298,17 +291,9 @@ unfolding sound
 fresh-sound s g = rw g flat-sound
 
 -- ---- the profit of a unit is the plain difference, as in 001, on an average and a price of at least 0
-plain-difference : (a b : ℤ) → SFits w64 a → SFits w64 b → leZ (pos 0) a ≡ true → leZ (pos 0) b ≡ true → satSub a b ≡ a -ℤ b
-unfolding P N
-plain-difference a b fa fb ha hb =
-    let d = P-sub a b in
-    let na = le-yes (pos 0) a ha in
-    let nb = le-yes (pos 0) b hb in
-    satSub-exact a b (fits-of (a -ℤ b) (omega (arith, P-fits a fa, P-fits b fb)) (omega (arith, P-fits a fa, P-fits b fb)))
-
 pub gain-is-plain : (p : Position) (price : ℤ) → SFits w64 (avg p) → SFits w64 price → leZ (pos 0) (avg p) ≡ true → leZ (pos 0) price ≡ true → gain p price ≡ cond (isPositive (held p)) (price -ℤ avg p) (avg p -ℤ price)
 unfolding gain
-gain-is-plain p price fa fp ha hp = rw (plain-difference price (avg p) fp fa hp ha, plain-difference (avg p) price fa fp ha hp)
+gain-is-plain p price fa fp ha hp = rw (satSub-plain price (avg p) fp fa hp ha, satSub-plain (avg p) price fa fp ha hp)
 
 -- ---- `apply_fill` by itself returns a sound position for a sound one, and a refused one as given
 pub apply-fill-sound : (p : Position) (q price : ℤ) → sound p ≡ true → sound (applyFill p q price .position) ≡ true

@@ -2,7 +2,7 @@
 use Prim.Native.Nat.{ℕ, suc, _+_, _-_, _≤_, _<_}
 use mathlib.Core.Path.{_≡_, refl, sym, ap, _∙_}
 use mathlib.Core.Bool.{Bool, true, false}
-use mathlib.Core.List.{List, [], _∷_, _++_, map, append-assoc, append-nil}
+use mathlib.Core.List.{List, [], _∷_, _++_, map, append-assoc, append-nil, map-append}
 use native.Mathlib.Omega.{arith}
 use native.Mathlib.Numerals.{add-one}
 use lib.ListN.{length, take, getD, set, replicate, length-append, length-map}
@@ -29,10 +29,6 @@ module _ {A : Type 0} (z x : A) (l : List A) (h : length l < 64) where
 
   pub next-place : set (paddedColumn z l) (length l) x ≡ paddedColumn z (l ++ (x ∷ []))
   next-place = more (63 - length l) (omega arith)
-
-map-append : {A B : Type 0} (f : A → B) (l m : List A) → map f (l ++ m) ≡ map f l ++ map f m
-map-append f [] m = refl
-map-append f (x ∷ l) m = ap (λ k. f x ∷ k) (map-append f l m)
 
 column-more : {A : Type 0} (f : Weight → A) (z : A) (l : List Weight) (w : Weight) → length l < 64 → set (paddedColumn z (map f l)) (length l) (f w) ≡ paddedColumn z (map f (l ++ (w ∷ [])))
 column-more f z l w h =

@@ -9,14 +9,14 @@ use crate::answered::Weights;
 use crate::price::prices_of;
 use crate::sum::summed;
 use crate::weight::no_weights;
-use crate::weight::weights_at;
+use crate::weight::weights_on;
 use account::Account;
 use answer::Answer;
 use answer::is_done;
 use portfolio::query_answer;
 
 // Of a sound account, at prices that were not refused.
-fn snapshot_at(a: Account, symbols: &[u64], prices: &[i64]) -> Snapshot
+fn snapshot_of(a: Account, symbols: &[u64], prices: &[i64]) -> Snapshot
     requires { ⌜ queryAnswer a (now symbols) (now prices) ≡ Done ⌝ }
     ensures { λ r. ⌜ r ≡ snapshotOf (priceOf (now (symbols .entry)) (now (prices .entry))) a ⌝ }
 {
@@ -33,7 +33,7 @@ fn snapshot_at(a: Account, symbols: &[u64], prices: &[i64]) -> Snapshot
         &listed.price,
     );
     let equity = sums::saturating_add(a.cash, sums.worth);
-    let weights = weights_at(
+    let weights = weights_on(
         &t.symbol,
         &t.quantity,
         &t.avg_entry_price,
@@ -75,7 +75,7 @@ pub fn snapshot(a: Account, symbols: &[u64], prices: &[i64]) -> Snapshot
     if !is_done(answer) {
         return refused(answer);
     }
-    snapshot_at(a, symbols, prices)
+    snapshot_of(a, symbols, prices)
 }
 
 // The weights of a snapshot, with its answer.

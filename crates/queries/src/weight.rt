@@ -78,7 +78,7 @@ fn weigh<'a>(
 }
 
 // "and none at equity 0".
-pub(crate) fn weights_at<'a>(
+pub(crate) fn weights_on<'a>(
     symbol: &'a [u64; 64],
     quantity: &'a [i64; 64],
     average: &'a [i64; 64],

@@ -1,6 +1,6 @@
 -- A call whose records have the room of a run: the run's length may stand for the room of 64 places, and what was filed in the first places of longer slices stands in the first places of all.
 use Prim.Native.Nat.{ℕ, zero, suc, _+_, _*_, _≤_, min}
-use mathlib.Core.Path.{_≡_, refl, sym, ap, _∙_}
+use mathlib.Core.Path.{_≡_, refl, sym, ap, subst, _∙_}
 use mathlib.Core.Bool.{Bool, true, false}
 use mathlib.Core.List.{List, [], _∷_, _++_}
 use native.Mathlib.Omega.{arith}
@@ -10,6 +10,8 @@ use lib.Ieee.{Float}
 use lib.ListN.{length, take, drop, replicate, take-append-drop, length-append}
 use lib.Seq.{length-take-le}
 use borrow.Author.Tests.{leb-true, leb-false, le-leb, lt-leb}
+use Rattle.table.specs.Places.{shorter}
+use Rattle.table.proofs.Places.{shorter-min}
 use Rattle.fills.specs.declared.record.ExecutionKind.{ExecutionKind}
 use Rattle.fills.specs.declared.record.ExecutionRecord.{ExecutionRecord}
 use Rattle.fills.specs.Records.{allWords, allInts, fronted}
@@ -74,7 +76,7 @@ module _ (t : Traded) (o : Outcome) (n room : ℕ) (ws : List ℕ) (is : List �
   ints-fit : length (allInts (o .records)) ≤ n * 8
   ints-fit = omega (arith, front-fits (allInts (o .records)) (take (n * 8) (replicate 512 (pos 0))) is (ap (λ x. x .ints) e), li)
 
-  pub filed-is-written : Written (tradedNumbers t (ws ++ drop (n * 4) (replicate 256 0)) (is ++ drop (n * 8) (replicate 512 (pos 0)))) o room
+  filed-is-written : Written (tradedNumbers t (ws ++ drop (n * 4) (replicate 256 0)) (is ++ drop (n * 8) (replicate 512 (pos 0)))) o room
   filed-is-written = record {
     answer = ap (λ x. x .answer) e;
     account = ap (λ x. x .account) e;
@@ -86,11 +88,36 @@ module _ (t : Traded) (o : Outcome) (n room : ℕ) (ws : List ℕ) (is : List �
   }
 
 -- the places of n records
-pub places-are : (n : ℕ) (zw : List ℕ) (zi : List ℤ) → n * 4 ≤ length zw → n * 8 ≤ length zi → recordPlaces (length (take (n * 4) zw)) (length (take (n * 8) zi)) ≡ n
+places-are : (n : ℕ) (zw : List ℕ) (zi : List ℤ) → n * 4 ≤ length zw → n * 8 ≤ length zi → recordPlaces (length (take (n * 4) zw)) (length (take (n * 8) zi)) ≡ n
 places-are n zw zi gw gi =
     let u = length-take-le (n * 4) zw gw in
     let v = length-take-le (n * 8) zi gi in
     omega (arith, u, v)
+
+-- ---- a call with the room of a run, in slices of zeros of as many places, up to 64
+module _ (at : ℕ → Outcome) (room n : ℕ) (same : at (min room 64) ≡ at room) (h : n ≡ shorter room 64) where
+  abbrev words : List ℕ
+  words = replicate 256 0
+
+  abbrev ints : List ℤ
+  ints = replicate 512 (pos 0)
+
+  least : n ≡ min room 64
+  least = h ∙ shorter-min room 64
+
+  words-room : n * 4 ≤ length words
+  words-room = omega (arith, least)
+
+  ints-room : n * 8 ≤ length ints
+  ints-room = omega (arith, least)
+
+  pub within-run : {m : Numbers} (t : Traded) (ws : List ℕ) (is : List ℤ) → m ≡ numbersOf t (ws ++ drop (n * 4) words) (is ++ drop (n * 8) ints)
+      → length ws ≡ length (take (n * 4) words) → length is ≡ length (take (n * 8) ints)
+      → filedBy t ws is ≡ filed (at (places (length (take (n * 4) words)) (length (take (n * 8) ints)))) (take (n * 4) words) (take (n * 8) ints) → Written m (at room) room
+  within-run t ws is e lw li f =
+      subst (λ m. Written m (at room) room) (sym e)
+      (filed-is-written t (at room) n room ws is (omega (arith, least)) (omega (arith, least)) (lw ∙ length-take-le _ _ words-room) (li ∙ length-take-le _ _ ints-room)
+      (f ∙ ap (λ o. filed o (take (n * 4) words) (take (n * 8) ints)) (ap at (places-are n words ints words-room ints-room ∙ least) ∙ same)))
 
 -- ---- handed over: the run has the outcome's records in its first places
 module _ (n : Numbers) (o : Outcome) (ys zs : List ExecutionRecord) (t : Traded) (w : Written n o (length ys)) (e : t ≡ n .traded) (r : zs ≡ collected (n .words) (n .ints) (n .count) ys) where

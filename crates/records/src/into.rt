@@ -1,6 +1,5 @@
 // Calls that trade, with their records in a lent run of structs.
 ghost use mathlib.Core.Path.{_≡_};
-ghost use Prim.Native.Nat.{min};
 ghost use lib.ListN.{length};
 ghost use Rattle.portfolio.specs.Close.{positionClosed};
 ghost use Rattle.portfolio.specs.Rebalance.{rebalanced};
@@ -14,6 +13,7 @@ use fills::ExecutionRecord;
 use portfolio::Traded;
 use portfolio::close_position_at;
 use portfolio::rebalance_simple;
+use table::used;
 
 // The records of a call, in number slices of 64 places.
 pub(crate) struct Filed {
@@ -30,13 +30,6 @@ pub(crate) struct Numbers {
     pub traded: Traded,
 }
 
-// The places that a run of this length has, of the 64 that a call asks for at most.
-fn up_to_64(room: usize) -> usize
-    ensures { λ r. ⌜ r ≡ min room 64 ⌝ }
-{
-    if room < 64 { room } else { 64 }
-}
-
 // The answer of a call, and how many records its slices hold.
 fn in_numbers(traded: Traded, words: [u64; 256], ints: [i64; 512]) -> Numbers
     ensures { λ r. ⌜ r ≡ tradedNumbers traded words ints ⌝ }
@@ -50,7 +43,7 @@ fn in_numbers(traded: Traded, words: [u64; 256], ints: [i64; 512]) -> Numbers
     }
 }
 
-// A close whose records have the room of a run.
+// A close whose records have the room of a run, of which a call asks for 64 places at most.
 fn close_within(
     a: Account,
     symbol: u64,
@@ -63,7 +56,7 @@ fn close_within(
 {
     let mut words = [0u64; 256];
     let mut ints = [0i64; 512];
-    let n = up_to_64(room);
+    let n = used(room, 64);
     let w = n * 4;
     let i = n * 8;
     let traded = close_position_at(
@@ -93,9 +86,9 @@ fn rebalance_within(
 {
     let mut words = [0u64; 256];
     let mut ints = [0i64; 512];
-    let n = up_to_64(room);
-    let w = n * 4;
-    let i = n * 8;
+    let places = used(room, 64);
+    let w = places * 4;
+    let i = places * 8;
     let traded = rebalance_simple(
         a,
         targets,

@@ -273,6 +273,14 @@ satAdd-exact a b h = satAdd-clamp a b ∙ clamp-same (a +ℤ b) h
 pub satSub-exact : (a b : ℤ) → SFits w64 (a -ℤ b) → satSub a b ≡ a -ℤ b
 satSub-exact a b h = satSub-clamp a b ∙ clamp-same (a -ℤ b) h
 
+-- neither of two numbers of at least 0 takes the other past an end
+pub satSub-plain : (a b : ℤ) → SFits w64 a → SFits w64 b → leZ (pos 0) a ≡ true → leZ (pos 0) b ≡ true → satSub a b ≡ a -ℤ b
+satSub-plain a b fa fb ha hb =
+    satSub-exact a b
+    (fits-of (a -ℤ b)
+    (omega (arith, P-sub a b, P-fits a fa, P-fits b fb, N-zero a ha, N-zero b hb))
+    (omega (arith, P-sub a b, P-fits a fa, P-fits b fb, N-zero a ha, N-zero b hb)))
+
 pub satAdd-mono : (a a' b b' : ℤ) → leZ a a' ≡ true → leZ b b' ≡ true → leZ (satAdd a b) (satAdd a' b') ≡ true
 unfolding satAdd
 satAdd-mono a a' b b' h g =

@@ -24,11 +24,23 @@ module _ {A : Type 0} where
   opened-last (suc j) v [] = refl
   opened-last (suc j) v (x ∷ l) = ap (λ t. x ∷ t) (opened-last j v l)
 
-  -- the loop at place j: what is carried, put there with the rest moved up, gives the column asked for
-  pub record Opening (i n : ℕ) (v : A) (l₀ : List A) (j : ℕ) (carry : A) (l : List A) : Type 0 where
+  -- the loop at place j of a column with room: what is carried, put there with the rest moved up, gives the column asked for
+  pub record Opening (room n : ℕ) (asked : List A) (j : ℕ) (carry : A) (l : List A) : Type 0 where
     pub within : j ≤ n
-    pub room : n < 64
-    pub same : opened j (n - j) carry l ≡ openedAt i n v l₀
+    pub below : n < room
+    pub same : opened j (n - j) carry l ≡ asked
+
+  module _ (room n : ℕ) (asked : List A) where
+    pub opening-on : (j : ℕ) (carry d : A) (l : List A) → Opening room n asked j carry l → j < n → Opening room n asked (j + 1) (getD l j d) (set l j carry)
+    opening-on j carry d l o h =
+        let e : n - j ≡ suc (n - (j + 1)) = omega arith in
+        record { within = omega arith; below = o .below; same = rw add-one (opened-on j _ carry d l) ∙ rw e at (o .same) }
+
+    pub opening-last : (j : ℕ) (carry : A) (l : List A) → Opening room n asked j carry l → n ≤ j → set l n carry ≡ asked
+    opening-last j carry l o h =
+        let e : j ≡ n = omega arith in
+        let z : n - n ≡ 0 = omega arith in
+        opened-last n carry l ∙ rw (e, z) at (o .same)
 
   module _ (i n : ℕ) (v : A) (l₀ : List A) where
     pub opened-in : n < 64 → i ≤ n → openedAt i n v l₀ ≡ opened i (n - i) v l₀
@@ -43,19 +55,8 @@ module _ {A : Type 0} where
     unfolding openedAt
     opened-full h = simp (le-ltb _ _ h)
 
-    pub opening-first : n < 64 → i ≤ n → Opening i n v l₀ i v l₀
-    opening-first h g = record { within = g; room = h; same = sym (opened-in h g) }
-
-    pub opening-on : (j : ℕ) (carry d : A) (l : List A) → Opening i n v l₀ j carry l → j < n → Opening i n v l₀ (j + 1) (getD l j d) (set l j carry)
-    opening-on j carry d l o h =
-        let e : n - j ≡ suc (n - (j + 1)) = omega arith in
-        record { within = omega arith; room = o .room; same = rw add-one (opened-on j _ carry d l) ∙ rw e at (o .same) }
-
-    pub opening-last : (j : ℕ) (carry : A) (l : List A) → Opening i n v l₀ j carry l → n ≤ j → set l n carry ≡ openedAt i n v l₀
-    opening-last j carry l o h =
-        let e : j ≡ n = omega arith in
-        let z : n - n ≡ 0 = omega arith in
-        opened-last n carry l ∙ rw (e, z) at (o .same)
+    pub opening-first : n < 64 → i ≤ n → Opening 64 n (openedAt i n v l₀) i v l₀
+    opening-first h g = record { within = g; below = h; same = sym (opened-in h g) }
 
   length-pushed : (m : ℕ) (v : A) (l : List A) → length (pushed m v l) ≡ length l
   length-pushed m v [] = refl

@@ -5,16 +5,14 @@ use mathlib.Core.List.{List, [], _∷_}
 use mathlib.Core.Bool.{Bool, true, false, _&&_}
 use native.Mathlib.Omega.{arith}
 use lib.Dec.{eqb, leb}
-use lib.IntN.{ℤ, pos, negsuc}
+use lib.IntN.{pos}
 use lib.ListN.{length, take, drop, getD, replicate, length-drop, length-replicate, getD-replicate, drop-of-length-le}
 use lib.Seq.{ext-getD, getD-drop, drop-cons}
 use native.Mathlib.Numerals.{add-one}
-use mir.Syntax.{w64}
-use mir.Val.{SFits, ofZ}
-use borrow.Author.Tests.{eqb-true, leb-true, le-leb, ne-eqb}
+use borrow.Author.Tests.{eqb-true, leb-true, le-leb}
 use Rattle.position.specs.Rows.{row, fresh, keyOf}
-use Rattle.position.specs.Shares.{isZero as isZeroShares}
 use Rattle.position.specs.declared.position.Position.{Position}
+use Rattle.position.proofs.Counts.{zero-is}
 use Rattle.table.specs.Keyed.{both, all, ascending}
 use Rattle.table.specs.Rows.{Cols, zipped, rowAt, Full, isZero, zeros, zerosZ, unused, ordered}
 use Rattle.table.specs.Inner.Rows.{Ordered}
@@ -47,24 +45,6 @@ all-end f b l i h = go b ∙ ap (λ t. both b (all f t)) (sym (drop-of-length-le
     go true = refl
     go false = refl
 
--- a signed number is zero where its bits are
-pub zero-bits : (x : ℤ) → SFits w64 x → eqb (ofZ w64 x) 0 ≡ isZero x
-zero-bits (pos zero) f = refl
-zero-bits (pos (suc n)) f = ne-eqb (suc n) 0 (λ e. omega (arith, e))
-zero-bits (negsuc n) f = ne-eqb (ofZ w64 (negsuc n)) 0 (λ e. omega (arith, e, f .sfits))
-
--- the test of a share count is the same
-pub zero-same : (x : ℤ) → isZeroShares x ≡ isZero x
-unfolding isZeroShares
-zero-same (pos zero) = refl
-zero-same (pos (suc n)) = ne-eqb (suc n) 0 (λ e. omega arith)
-zero-same (negsuc n) = refl
-
-pub is-zero : (x : ℤ) → isZero x ≡ true → x ≡ pos 0
-is-zero (pos zero) e = refl
-is-zero (pos (suc n)) e = let q : _≡_ {A = ℕ} 0 1 = cc in absurd (omega arith)
-is-zero (negsuc n) e = let q : _≡_ {A = ℕ} 0 1 = cc in absurd (omega arith)
-
 -- ---- unused places
 module _ {A : Type 0} (t : A → Bool) (z : A) (n : ℕ) (l : List A) where
   zero-from : t z ≡ true → ((x : A) → t x ≡ true → x ≡ z) → all t (drop n l) ≡ true → (i : ℕ) → getD l (n + i) z ≡ z
@@ -72,17 +52,17 @@ module _ {A : Type 0} (t : A → Bool) (z : A) (n : ℕ) (l : List A) where
 
 module _ (n : ℕ) (c : Cols) (f : Full c) where
   pub unused-rest : unused n c ≡ true → drop n (zipped c) ≡ replicate (64 - n) (fresh 0)
-  unfolding unused
+  unfolding unused isZero
   unused-rest e =
       let p1 = both-true _ _ e in
       let p2 = both-true _ _ (p1 .1) in
       let p3 = both-true _ _ (p2 .1) in
       let p4 = both-true _ _ (p3 .1) in
       let s = zero-from (λ x. eqb x 0) 0 n (c .symbol) refl (λ x. eqb-true x 0) (p1 .0) in
-      let q = zero-from isZero (pos 0) n (c .quantity) refl is-zero (p2 .0) in
-      let a = zero-from isZero (pos 0) n (c .average) refl is-zero (p3 .0) in
-      let g = zero-from isZero (pos 0) n (c .realized) refl is-zero (p4 .0) in
-      let t = zero-from isZero (pos 0) n (c .total) refl is-zero (p4 .1) in
+      let q = zero-from isZero (pos 0) n (c .quantity) refl zero-is (p2 .0) in
+      let a = zero-from isZero (pos 0) n (c .average) refl zero-is (p3 .0) in
+      let g = zero-from isZero (pos 0) n (c .realized) refl zero-is (p4 .0) in
+      let t = zero-from isZero (pos 0) n (c .total) refl zero-is (p4 .1) in
       let m : length (drop n (zipped c)) ≡ 64 - n = length-drop n (zipped c) ∙ ap (λ k. k - n) (zipped-length c f) in
       ext-getD (fresh 0) _ _ (m ∙ sym (length-replicate (64 - n) (fresh 0)))
       (λ i h. getD-drop n (zipped c) i (fresh 0) ∙ zipped-at c (n + i) f ∙ rw (s i, q i, a i, g i, t i) (sym (getD-replicate (64 - n) i (fresh 0) (fresh 0) (omega (arith, m)))))
@@ -97,7 +77,7 @@ module _ (n : ℕ) (c : Cols) (f : Full c) where
         at-all t (g (fresh 0)) (drop n l) (λ i b. ap t (getD-drop n l i (g (fresh 0)) ∙ sym (k (n + i)) ∙ ap g (row-zero i (omega (arith, d)))) ∙ h)
 
     pub rest-unused : unused n c ≡ true
-    unfolding unused
+    unfolding unused isZero
     rest-unused = simp (
       column-zero (λ x. eqb x 0) keyOf (c .symbol) refl (f .symbol) (λ i. refl),
       column-zero isZero (λ p. p .quantity .0) (c .quantity) refl (f .quantity) (λ i. refl),

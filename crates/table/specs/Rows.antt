@@ -2,11 +2,12 @@
 use Prim.Native.Nat.{ℕ, zero, suc}
 use mathlib.Core.Path.{_≡_}
 use mathlib.Core.List.{List, [], _∷_}
-use mathlib.Core.Bool.{Bool, true, false}
+use mathlib.Core.Bool.{Bool}
 use lib.ListN.{length, take, drop, getD, replicate}
 use lib.Dec.{eqb, leb}
-use lib.IntN.{ℤ, pos, negsuc}
+use lib.IntN.{ℤ, pos}
 use Rattle.position.specs.Rows.{row, fresh, keyOf}
+unfoldable pub use Rattle.position.specs.Shares.{isZero}
 use Rattle.position.specs.declared.position.Position.{Position}
 use Rattle.table.specs.Keyed.{both, all, orElse, seek, ascending}
 use Rattle.table.specs.declared.table.Table.{Table}
@@ -45,11 +46,6 @@ pub record Full (c : Cols) : Type 0 where
   pub total : length (c .total) ≡ 64
 
 -- ---- "positions .. strictly ascending, unused places zero"
-abbrev pub isZero : ℤ → Bool
-isZero (pos zero) = true
-isZero (pos (suc n)) = false
-isZero (negsuc n) = false
-
 abbrev pub zeros : List ℕ → Bool
 zeros l = all (λ x. eqb x 0) l
 

@@ -38,6 +38,7 @@ pub record OrderFor (k : ℕ) (p : ℤ) (o : PlannedOrder) : Type 0 where
   pub price-fits : SFits w64 p → SFits w64 (o .price)
 
 over-order : (k : ℕ) (p : ℤ) → OrderFor k p (passedOver k)
+unfolding isZero
 over-order k p = record {
   symbol = refl;
   priced = λ e. let z : _≡_ {A = ℕ} 0 1 = cc in absurd (omega arith);

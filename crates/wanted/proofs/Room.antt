@@ -109,7 +109,7 @@ module _ (held : List Position) (notHeld : List ℕ → ℕ) (each : (t : ℕ) (
 
   module _ (s : Settings) (equity : ℤ) (price : ℕ → ℤ) where
     closes-outside : (ts : List ℕ) (ps : List Position) → orderCount (closings s equity price ts ps) ≤ outside ts ps
-    unfolding orderCount closings outside one closing plannedClose
+    unfolding orderCount closings outside one closing plannedClose isZero
     closes-outside ts [] = omega arith
     closes-outside ts (p ∷ ps) = go (among (keyOf p) ts) refl (closes-outside ts ps)
       where

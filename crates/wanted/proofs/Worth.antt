@@ -14,8 +14,7 @@ use Rattle.sums.proofs.Ints.{satAdd-fits}
 use Rattle.position.specs.declared.position.Position.{Position}
 use Rattle.position.specs.Rows.{fresh}
 use Rattle.table.specs.Inner.Keyed.{Rising}
-use Rattle.table.specs.Inner.Places.{shorter}
-use Rattle.table.proofs.Places as places
+use Rattle.table.proofs.Places.{shorter-same}
 use Rattle.table.specs.Rows.{Cols, rows, zipped, Full}
 use Rattle.table.proofs.Zipped.{zipped-length, zipped-at}
 use Rattle.call_lists.specs.Lists.{priceOf}
@@ -44,14 +43,10 @@ worth-of-rows price c f (suc n) h =
     let l : n < length (zipped c) = omega (arith, zipped-length c f) in
     sym (ap (worthFrom price (pos 0)) (take-suc (zipped c) n (fresh 0) l) ∙ worth-snoc price (pos 0) (take n (zipped c)) _ ∙ rw (zipped-at c n f, sym (worth-of-rows price c f n (omega arith))))
 
--- ---- a count of places
-pub shorter-same : (n : ℕ) → n ≤ 64 → shorter n 64 ≡ n
-shorter-same n h = places.shorter-same n 64 h
-
 -- what the function that sums them answers
 pub worth-settled : (c : Cols) (n : ℕ) (symbols : List ℕ) (prices : List ℤ) (r : ℤ) → Full c → n ≤ 64 → Rising symbols → Worth (c .symbol) (c .quantity) n symbols prices r → r ≡ worthFrom (priceOf symbols prices) (pos 0) (rows n c)
 worth-settled c n symbols prices r f h rises w =
-    w .settled rises ∙ ap (λ k. worthPlaces (priceOf symbols prices) k (c .symbol) (c .quantity)) (shorter-same n h) ∙ worth-of-rows (priceOf symbols prices) c f n h
+    w .settled rises ∙ ap (λ k. worthPlaces (priceOf symbols prices) k (c .symbol) (c .quantity)) (shorter-same n 64 h) ∙ worth-of-rows (priceOf symbols prices) c f n h
 
 -- ---- it fits
 pub worth-fits : (price : ℕ → ℤ) (sum : ℤ) (ps : List Position) → SFits w64 sum → SFits w64 (worthFrom price sum ps)

@@ -8,7 +8,6 @@ use mir.Facts.{toZ-ofZ}
 use Rattle.sums.specs.Sums.{notional}
 use Rattle.sums.proofs.Laws.{notional-fits}
 use Rattle.table.specs.Rows.{isZero}
-use Rattle.table.proofs.Ordering.{zero-same}
 use Rattle.sizing.specs.Sizing.{cutTo}
 use Rattle.admission.proofs.Admitting.{part-zero, part-small, part-kept}
 use borrow.Author.Needs.{needs}
@@ -26,7 +25,7 @@ cut-is : (d : tie.After-truncate-qty-to-max-value) → d .truncate-qty-to-max-va
 cut-is d = let s = d .before .before in simp (toZ-ofZ (s .fits .price), toZ-ofZ (s .fits .left), toZ-ofZ (fit-step s)) at (d .truncate-qty-to-max-value .ensures)
 
 some-left : (e : tie.Else1) → isZero (e .before .before .truncate-qty-to-max-value .result .0) ≡ false
-some-left e = sym (e .before .is-zero .ensures ∙ zero-same _) ∙ e .if1 .left
+some-left e = sym (e .before .is-zero .ensures) ∙ e .if1 .left
 
 worth-is : (n : tie.After-notional-of) → n .notional-of .result ≡ notional (n .before .before .before .truncate-qty-to-max-value .result .0) (n .before .before .before .before .before .args .price)
 worth-is n = simp (toZ-ofZ (n .before .before .before .before .before .fits .price)) at (n .notional-of .ensures)
@@ -44,7 +43,7 @@ returns : tie.Need-returns
 returns c =
     let d = c .before .before in
     let a = d .before .before .args in
-    part-zero (a .s) (a .left) (a .quantity .0) (a .price) _ (cut-is d) (sym (c .before .is-zero .ensures ∙ zero-same _) ∙ c .if1 .taken)
+    part-zero (a .s) (a .left) (a .quantity .0) (a .price) _ (cut-is d) (sym (c .before .is-zero .ensures) ∙ c .if1 .taken)
 
 notional-of-requires : tie.Need-notional-of-requires
 notional-of-requires c κs = search needs

@@ -1,25 +1,20 @@
 -- A refusal leaves all as it was; else the rebalance at the prices as listed, or at the sorted ones that serve for them.
-use Prim.Native.Nat.{ℕ, _≤_}
-use mathlib.Core.Path.{_≡_, refl, sym, ap, _∙_, fun-ext}
+use Prim.Native.Nat.{ℕ}
+use mathlib.Core.Path.{_≡_, sym, ap, _∙_, fun-ext}
 use mathlib.Core.Bool.{true}
-use mathlib.Core.List.{List}
-use native.Mathlib.Omega.{arith}
-use lib.IntN.{ℤ, pos}
-use lib.ListN.{length, replicate}
-use lib.Seq.{length-take-le}
+use lib.ListN.{length}
 use borrow.Author.Needs.{needs}
 use borrow.Author.Tests.{not-true, not-false}
 use Rattle.answer.specs.declared.Answer.{Answer}
 use Rattle.table.specs.Rows.{Cols, cols, Full}
 use Rattle.table.proofs.Keyed.{ascending-rises}
-use Rattle.call_lists.proofs.Sorted.{Serves, sorted-serves}
+use Rattle.call_lists.proofs.Sorted.{Usable, sorted-usable}
 use Rattle.fills.specs.Records.{allWords, allInts}
 use Rattle.account.specs.declared.account.Account.{Account}
 use Rattle.account.specs.Inner.Account.{accountWith}
 use Rattle.portfolio.specs.Answers.{isDone, recordPlaces, rebalanceAnswer}
 use Rattle.portfolio.specs.Rebalance.{refused, admittedPlan, afterRebalance, rebalanced}
 use Rattle.portfolio.specs.Trades.{filed}
-use Rattle.portfolio.proofs.Plans.{sorted-fits}
 use Rattle.portfolio.proofs.Refusals.{Rebalancing, rebalance-done, rebalance-ready}
 use Rattle.portfolio.proofs.rebalance.rebalance_on.Statement.{statement}
 use Rattle.portfolio.proofs.rebalance.rebalance_on.Tie as tie
@@ -61,33 +56,11 @@ rebalancing : (c : tie.Else1) → let s = accepted c in Rebalancing (account-at 
 rebalancing c = rebalance-done _ _ _ _ _ _ (is-done c)
 
 -- ---- the sorted prices
-abbrev no-keys : List ℕ
-no-keys = replicate 128 0
-
-abbrev no-values : List ℤ
-no-values = replicate 128 (pos 0)
-
-keys-places : length no-keys ≡ 128
-keys-places = refl
-
-values-places : length no-values ≡ 128
-values-places = refl
-
 abbrev unsorted : tie.After-sort-prices → tie.Else1
 unsorted c = c .before .before .before .before .before
 
-room-for-keys : (c : tie.After-sort-prices) → let l = c .sort-prices .last in (c .sort-prices .result ≤ length (l .1 .1 .0)) × (c .sort-prices .result ≤ length (l .1 .1 .1 .0))
-room-for-keys c = let x = accepted (unsorted c) .args in sorted-fits (x .symbols .now) (x .prices .now) no-keys no-values _ _ _ (c .sort-prices .ensures)
-
-serves : (c : tie.After-sort-prices) → let s = accepted (unsorted c) in
-    Serves (s .args .symbols .now) (s .args .prices .now) no-keys no-values (c .sort-prices .result) (c .sort-prices .last .1 .1 .0) (c .sort-prices .last .1 .1 .1 .0)
-serves c =
-    let s = accepted (unsorted c) in
-    let ss = s .args .symbols .now in
-    let p = rebalancing (unsorted c) .lists in
-    let k : length ss ≤ length no-keys = omega (arith, p .pricesBound, keys-places) in
-    let v : length ss ≤ length no-values = omega (arith, p .pricesBound, values-places) in
-    sorted-serves ss (s .args .prices .now) no-keys no-values (p .pricesPaired) k v _ _ _ (c .sort-prices .ensures)
+usable : (c : tie.After-sort-prices) → let x = accepted (unsorted c) .args in Usable (x .symbols .now) (x .prices .now) (c .sort-prices .result) (c .sort-prices .last .1 .1 .0) (c .sort-prices .last .1 .1 .1 .0)
+usable c = sorted-usable (rebalancing (unsorted c) .lists) _ _ _ (c .sort-prices .ensures)
 
 whole-columns-requires : tie.Need-whole-columns-requires
 whole-columns-requires c κs = search needs
@@ -141,16 +114,16 @@ sort-prices-requires : tie.Need-sort-prices-requires
 sort-prices-requires c κs = search needs
 
 array-share-prefix-keys : tie.Need-array-share-prefix-keys
-array-share-prefix-keys c = room-for-keys (c .before .before .before .before .before .before .before) .0
+array-share-prefix-keys c = usable (c .before .before .before .before .before .before .before) .keysRoom
 
 slice-aggregate-plan-and-fill : tie.Need-slice-aggregate-plan-and-fill
-slice-aggregate-plan-and-fill c = sym (length-take-le _ _ (room-for-keys (c .before .before .before .before .before .before .before .before) .0))
+slice-aggregate-plan-and-fill c = usable (c .before .before .before .before .before .before .before .before) .keysLent
 
 array-share-prefix-values : tie.Need-array-share-prefix-values
-array-share-prefix-values c = room-for-keys (c .before .before .before .before .before .before .before .before) .1
+array-share-prefix-values c = usable (c .before .before .before .before .before .before .before .before) .valuesRoom
 
 slice-aggregate-plan-and-fill-2 : tie.Need-slice-aggregate-plan-and-fill-2
-slice-aggregate-plan-and-fill-2 c = sym (length-take-le _ _ (room-for-keys (c .before .before .before .before .before .before .before .before .before) .1))
+slice-aggregate-plan-and-fill-2 c = usable (c .before .before .before .before .before .before .before .before .before) .valuesLent
 
 plan-and-fill-requires-2 : tie.Need-plan-and-fill-requires-2
 plan-and-fill-requires-2 c κs = search needs
@@ -170,8 +143,8 @@ returns-3 c =
     let s = accepted o in
     let x = s .args in
     rw (is-done o)
-    (r .plan-and-fill2 .ensures (rebalance-ready _ _ _ _ _ _ (rebalancing o) (full-at (o .before .before)) _ (serves q .rising))
-    ∙ ap (λ price. filed (afterRebalance (account-at s) (admittedPlan (account-at s) (x .targets .now) (x .weights .now) price) (x .period) (x .kind)) (x .words .now) (x .ints .now)) (fun-ext (serves q .price)))
+    (r .plan-and-fill2 .ensures (rebalance-ready _ _ _ _ _ _ (rebalancing o) (full-at (o .before .before)) _ (usable q .rising))
+    ∙ ap (λ price. filed (afterRebalance (account-at s) (admittedPlan (account-at s) (x .targets .now) (x .weights .now) price) (x .period) (x .kind)) (x .words .now) (x .ints .now)) (fun-ext (usable q .price)))
 
 pub rebalance-on-spec : {M : Type 1} → statement M
 rebalance-on-spec =

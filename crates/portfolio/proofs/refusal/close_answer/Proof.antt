@@ -9,7 +9,6 @@ use borrow.Author.Tests.{not-true, not-false}
 use Rattle.position.specs.Symbols.{goodSymbol}
 use Rattle.position.proofs.Counts.{lt-not-ge, not-lt-ge}
 use Rattle.table.specs.Rows.{Cols, cols, holding, isZero, Full}
-use Rattle.table.proofs.Ordering.{zero-same}
 use Rattle.account.specs.declared.account.Account.{Account}
 use Rattle.account.specs.Account.{soundAccount, heldIn}
 use Rattle.account.specs.Inner.Account.{accountWith}
@@ -88,7 +87,7 @@ held-zero : (c : tie.After-is-zero) → let s = start (c .before .before .before
 held-zero c f =
     let e = c .before .before .before .before .before in
     let o = account-ordered (account-at (start e)) (is-sound (first e)) f in
-    c .is-zero .ensures ∙ zero-same _ ∙ ap (λ p. isZero (p .quantity .0)) (c .before .holding-of .ensures o)
+    c .is-zero .ensures ∙ ap (λ p. isZero (p .quantity .0)) (c .before .holding-of .ensures o)
 
 returns-5 : tie.Need-returns-5
 unfolding closeAnswer

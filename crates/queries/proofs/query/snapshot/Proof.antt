@@ -29,12 +29,12 @@ returns c =
     let d = sym (ap isDone e) ∙ sym (t .before .is-done .ensures) ∙ not-true _ (t .if1 .taken) in
     rw d (c .refused .ensures ∙ ap noSnapshot e)
 
-snapshot-at-requires : tie.Need-snapshot-at-requires
-snapshot-at-requires c κs = done-is _ (is-done c)
+snapshot-of-requires : tie.Need-snapshot-of-requires
+snapshot-of-requires c κs = done-is _ (is-done c)
 
 returns-2 : tie.Need-returns-2
 unfolding toldSnapshot
-returns-2 c = rw (is-done (c .before)) (c .snapshot-at .ensures)
+returns-2 c = rw (is-done (c .before)) (c .snapshot-of .ensures)
 
 pub snapshot-spec : {M : Type 1} → statement M
-snapshot-spec = tie.close (tie.spec query-answer-requires is-done-requires refused-requires returns snapshot-at-requires returns-2)
+snapshot-spec = tie.close (tie.spec query-answer-requires is-done-requires refused-requires returns snapshot-of-requires returns-2)

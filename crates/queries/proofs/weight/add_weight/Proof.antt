@@ -6,7 +6,6 @@ use mir.Facts.{toZ-ofZ}
 use borrow.Author.Needs.{needs}
 use Rattle.doubles.specs.Doubles.{ofI64}
 use Rattle.queries.specs.Inner.Places.{addedWeight}
-use Rattle.table.proofs.Ordering.{zero-same}
 use Rattle.queries.proofs.weight.add_weight.Statement.{statement}
 use Rattle.queries.proofs.weight.add_weight.Tie as tie
 
@@ -15,7 +14,7 @@ is-zero-requires c κs = search needs
 
 returns : tie.Need-returns
 unfolding addedWeight
-returns c = let e = sym (c .before .is-zero .ensures ∙ zero-same _) ∙ c .if1 .taken in rw e
+returns c = let e = sym (c .before .is-zero .ensures) ∙ c .if1 .taken in rw e
 
 raw-requires : tie.Need-raw-requires
 raw-requires c κs = search needs
@@ -47,7 +46,7 @@ returns-2 c =
     let f = c .before in
     let v = f .value in
     let o = f .before .before in
-    let e = sym (o .before .is-zero .ensures ∙ zero-same _) ∙ o .if1 .left in
+    let e = sym (o .before .is-zero .ensures) ∙ o .if1 .left in
     let fv : SFits w64 (v .result) = record { sfits = v .ok } in
     let s = o .before .before in
     let q = f .before .raw in

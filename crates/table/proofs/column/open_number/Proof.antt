@@ -10,12 +10,13 @@ use mir.Syntax.{w64}
 use mir.Val.{SFits, toZ}
 use mir.Facts.{toZ-ofZ}
 use borrow.Author.Tests.{leb-true, leb-false}
+use Rattle.table.specs.Rows.{openedAt}
 use Rattle.table.proofs.Columns.{Opening, opening-first, opening-on, opening-last, opened-past, opened-full}
 use Rattle.table.proofs.column.open_number.Statement.{statement}
 use Rattle.table.proofs.column.open_number.Tie as tie
 
 abbrev Inv-loop : tie.InvT-loop
-Inv-loop a₀ i n v carry₀ j₀ a carry j = Opening i n (toZ w64 v) a₀ j (toZ w64 carry) a
+Inv-loop a₀ i n v carry₀ j₀ a carry j = Opening 64 n (openedAt i n (toZ w64 v) a₀) j (toZ w64 carry) a
 
 abbrev μ-loop : tie.MeasureT-loop
 μ-loop a₀ i n v carry₀ j₀ a carry j = n - j
@@ -45,7 +46,7 @@ loop-again : tie.Need-loop-again Inv-loop μ-loop
 loop-again c =
     let l = c .before .before .loop in
     let f : SFits w64 (getD (l .numbers) (l .j) (pos 0)) = search needs in
-    simp (toZ-ofZ f) (opening-on _ _ _ _ (l .j) _ _ (l .numbers) (l .inv) (c .before .loop-test .taken))
+    simp (toZ-ofZ f) (opening-on _ _ _ (l .j) _ _ (l .numbers) (l .inv) (c .before .loop-test .taken))
 
 mul-carry-2 : tie.Need-mul-carry-2 Inv-loop μ-loop
 mul-carry-2 c = omega arith
@@ -56,7 +57,7 @@ element-set-from-carry-2 c = omega arith
 returns : tie.Need-returns Inv-loop μ-loop
 returns c =
     let l = c .before .loop in
-    opening-last _ _ _ _ (l .j) _ (l .numbers) (l .inv) (c .loop-test .left) ∙ simp (toZ-ofZ (c .before .before .before .before .fits .v))
+    opening-last _ _ _ (l .j) _ (l .numbers) (l .inv) (c .loop-test .left) ∙ simp (toZ-ofZ (c .before .before .before .before .fits .v))
 
 returns-2 : tie.Need-returns-2 Inv-loop μ-loop
 returns-2 c = sym (⊎-elim (λ w. opened-past _ _ _ _ (leb-false _ _ (w .1 .left))) (λ w. opened-full _ _ _ _ (w .left)) (c .if1 .came))

@@ -4,12 +4,13 @@ use mathlib.Core.Path.{sym}
 use mathlib.Core.Logic.{⊎-elim}
 use native.Mathlib.Omega.{arith}
 use borrow.Author.Tests.{leb-true, leb-false}
+use Rattle.table.specs.Rows.{openedAt}
 use Rattle.table.proofs.Columns.{Opening, opening-first, opening-on, opening-last, opened-past, opened-full}
 use Rattle.table.proofs.column.open_symbol.Statement.{statement}
 use Rattle.table.proofs.column.open_symbol.Tie as tie
 
 abbrev Inv-loop : tie.InvT-loop
-Inv-loop a₀ i n v carry₀ j₀ a carry j = Opening i n v a₀ j carry a
+Inv-loop a₀ i n v carry₀ j₀ a carry j = Opening 64 n (openedAt i n v a₀) j carry a
 
 abbrev μ-loop : tie.MeasureT-loop
 μ-loop a₀ i n v carry₀ j₀ a carry j = n - j
@@ -38,7 +39,7 @@ loop-less c = omega arith
 loop-again : tie.Need-loop-again Inv-loop μ-loop
 loop-again c =
     let l = c .before .before .loop in
-    opening-on _ _ _ _ (l .j) _ _ (l .symbols) (l .inv) (c .before .loop-test .taken)
+    opening-on _ _ _ (l .j) _ _ (l .symbols) (l .inv) (c .before .loop-test .taken)
 
 mul-symbols-2 : tie.Need-mul-symbols-2 Inv-loop μ-loop
 mul-symbols-2 c = omega arith
@@ -49,7 +50,7 @@ element-write-symbols-2 c = omega arith
 returns : tie.Need-returns Inv-loop μ-loop
 returns c =
     let l = c .before .loop in
-    opening-last _ _ _ _ (l .j) _ (l .symbols) (l .inv) (c .loop-test .left)
+    opening-last _ _ _ (l .j) _ (l .symbols) (l .inv) (c .loop-test .left)
 
 returns-2 : tie.Need-returns-2 Inv-loop μ-loop
 returns-2 c = sym (⊎-elim (λ w. opened-past _ _ _ _ (leb-false _ _ (w .1 .left))) (λ w. opened-full _ _ _ _ (w .left)) (c .if1 .came))

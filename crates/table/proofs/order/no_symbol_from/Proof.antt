@@ -5,7 +5,7 @@ use native.Mathlib.Omega.{arith}
 use lib.ListN.{length, drop, getD}
 use lib.Dec.{eqb}
 use Rattle.table.specs.Keyed.{both}
-use Rattle.table.specs.Rows.{isZero, zeros}
+use Rattle.table.specs.Rows.{zeros}
 use Rattle.table.proofs.Ordering.{all-on, all-end}
 use Rattle.table.proofs.order.no_symbol_from.Statement.{statement}
 use Rattle.table.proofs.order.no_symbol_from.Tie as tie

@@ -7,9 +7,10 @@ use lib.IntN.{pos}
 use mir.Syntax.{w64}
 use mir.Val.{SFits}
 use borrow.Author.Needs.{needs}
+use Rattle.position.proofs.Counts.{zero-bits}
 use Rattle.table.specs.Keyed.{both}
 use Rattle.table.specs.Rows.{isZero, zerosZ}
-use Rattle.table.proofs.Ordering.{all-on, all-end, zero-bits}
+use Rattle.table.proofs.Ordering.{all-on, all-end}
 use Rattle.table.proofs.order.zero_from.Statement.{statement}
 use Rattle.table.proofs.order.zero_from.Tie as tie
 

@@ -15,8 +15,8 @@ use Rattle.portfolio.proofs.Refusals.{Queried, query-done}
 use Rattle.queries.specs.Inner.Places.{PositionPrices, AddsUp, WeighsAt}
 use Rattle.queries.proofs.Walks.{places-priced}
 use Rattle.queries.proofs.Snapshots.{snapshot-made}
-use Rattle.queries.proofs.query.snapshot_at.Statement.{statement}
-use Rattle.queries.proofs.query.snapshot_at.Tie as tie
+use Rattle.queries.proofs.query.snapshot_of.Statement.{statement}
+use Rattle.queries.proofs.query.snapshot_of.Tie as tie
 
 full : (s : tie.Start) → Full (columnsOf (s .args .a .positions))
 full s = account-full (s .args .a) _ (s .good .0)
@@ -40,7 +40,7 @@ prices c = c .before .before .before .before .before .before .before .before .be
 abbrev sums : tie.After-saturating-add → tie.After-summed
 sums c = c .before .before .before
 
-abbrev equity : tie.After-weights-at → tie.After-saturating-add
+abbrev equity : tie.After-weights-on → tie.After-saturating-add
 equity c = c .before .before .before .before .before .before .before .before .before
 
 listed : (c : tie.After-prices-of) → let s = start c in PositionPrices (priceOf (s .args .symbols .now) (s .args .prices .now)) (heldIn (s .args .a .positions)) (c .prices-of .result .price)
@@ -55,11 +55,11 @@ worth-fits d = search needs
 profit-fits : (c : tie.After-struct-told4) → SFits w64 (sums (equity (c .before .before)) .summed .result .profit)
 profit-fits c = search needs
 
-weighed : (c : tie.After-weights-at) → let q = equity c in let t = sums q in let s = start (prices t) in
-    WeighsAt (heldIn (s .args .a .positions)) (prices t .prices-of .result .price) (q .saturating-add .result) (c .weights-at .result)
+weighed : (c : tie.After-weights-on) → let q = equity c in let t = sums q in let s = start (prices t) in
+    WeighsAt (heldIn (s .args .a .positions)) (prices t .prices-of .result .price) (q .saturating-add .result) (c .weights-on .result)
 weighed c =
     let fe : SFits w64 (equity c .saturating-add .result) = record { sfits = equity c .saturating-add .ok } in
-    simp (toZ-ofZ fe) at (c .weights-at .ensures)
+    simp (toZ-ofZ fe) at (c .weights-on .ensures)
 
 prices-of-requires : tie.Need-prices-of-requires
 prices-of-requires c κs = let s = c .before .before .before .before in (ordered s .small, queried s .prices)
@@ -70,8 +70,8 @@ summed-requires c κs = ordered (start (c .before .before .before .before .befor
 saturating-add-requires : tie.Need-saturating-add-requires
 saturating-add-requires c κs = search needs
 
-weights-at-requires : tie.Need-weights-at-requires
-weights-at-requires c κs = ordered (start (prices (sums (c .before .before .before .before .before .before .before .before))))
+weights-on-requires : tie.Need-weights-on-requires
+weights-on-requires c κs = ordered (start (prices (sums (c .before .before .before .before .before .before .before .before))))
 
 returns : tie.Need-returns
 returns c =
@@ -82,14 +82,14 @@ returns c =
     let fe : SFits w64 (q .saturating-add .result) = record { sfits = q .saturating-add .ok } in
     let e = simp (toZ-ofZ (cash-fits s), toZ-ofZ (worth-fits (q .before))) at (q .saturating-add .ensures) in
     simp (toZ-ofZ (cash-fits s), toZ-ofZ fe, toZ-ofZ (profit-fits c))
-    (snapshot-made (priceOf (s .args .symbols .now) (s .args .prices .now)) (s .args .a) _ (listed (prices t)) (t .summed .result) (added t) (q .saturating-add .result) e (w .weights-at .result) (weighed w))
+    (snapshot-made (priceOf (s .args .symbols .now) (s .args .prices .now)) (s .args .a) _ (listed (prices t)) (t .summed .result) (added t) (q .saturating-add .result) e (w .weights-on .result) (weighed w))
 
-pub snapshot-at-spec : {M : Type 1} → statement M
-snapshot-at-spec =
+pub snapshot-of-spec : {M : Type 1} → statement M
+snapshot-of-spec =
     tie.close
     (tie.spec
     prices-of-requires
     summed-requires
     saturating-add-requires
-    weights-at-requires
+    weights-on-requires
     returns)
