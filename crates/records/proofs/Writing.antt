@@ -10,7 +10,7 @@ use lib.Ieee.{Float}
 use lib.ListN.{length, take, drop, replicate, take-append-drop, length-append}
 use lib.Seq.{length-take-le}
 use borrow.Author.Tests.{leb-true, leb-false, le-leb, lt-leb}
-use Rattle.table.specs.Places.{shorter}
+use Rattle.table.specs.Inner.Places.{shorter}
 use Rattle.table.proofs.Places.{shorter-min}
 use Rattle.fills.specs.declared.record.ExecutionKind.{ExecutionKind}
 use Rattle.fills.specs.declared.record.ExecutionRecord.{ExecutionRecord}
@@ -111,9 +111,9 @@ module _ (at : ℕ → Outcome) (room n : ℕ) (same : at (min room 64) ≡ at r
   ints-room : n * 8 ≤ length ints
   ints-room = omega (arith, least)
 
-  pub within-run : {m : Numbers} (t : Traded) (ws : List ℕ) (is : List ℤ) → m ≡ numbersOf t (ws ++ drop (n * 4) words) (is ++ drop (n * 8) ints)
+  pub within-run : {m : Numbers} (t : Traded) (ws : List ℕ) (is : List ℤ) → m ≡ tradedNumbers t (ws ++ drop (n * 4) words) (is ++ drop (n * 8) ints)
       → length ws ≡ length (take (n * 4) words) → length is ≡ length (take (n * 8) ints)
-      → filedBy t ws is ≡ filed (at (places (length (take (n * 4) words)) (length (take (n * 8) ints)))) (take (n * 4) words) (take (n * 8) ints) → Written m (at room) room
+      → filedBy t ws is ≡ filed (at (recordPlaces (length (take (n * 4) words)) (length (take (n * 8) ints)))) (take (n * 4) words) (take (n * 8) ints) → Written m (at room) room
   within-run t ws is e lw li f =
       subst (λ m. Written m (at room) room) (sym e)
       (filed-is-written t (at room) n room ws is (omega (arith, least)) (omega (arith, least)) (lw ∙ length-take-le _ _ words-room) (li ∙ length-take-le _ _ ints-room)

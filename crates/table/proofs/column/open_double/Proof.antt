@@ -4,7 +4,7 @@ use mathlib.Core.Path.{sym}
 use mathlib.Core.Logic.{⊎-elim}
 use native.Mathlib.Omega.{arith}
 use borrow.Author.Tests.{leb-true, leb-false}
-use Rattle.table.specs.Rows.{openedAt}
+use Rattle.table.specs.Inner.Rows.{openedAt}
 use Rattle.table.proofs.Columns.{Opening, opening-first, opening-on, opening-last, opened-past, opened-full}
 use Rattle.table.proofs.column.open_double.Statement.{statement}
 use Rattle.table.proofs.column.open_double.Tie as tie

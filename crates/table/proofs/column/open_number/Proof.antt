@@ -10,7 +10,7 @@ use mir.Syntax.{w64}
 use mir.Val.{SFits, toZ}
 use mir.Facts.{toZ-ofZ}
 use borrow.Author.Tests.{leb-true, leb-false}
-use Rattle.table.specs.Rows.{openedAt}
+use Rattle.table.specs.Inner.Rows.{openedAt}
 use Rattle.table.proofs.Columns.{Opening, opening-first, opening-on, opening-last, opened-past, opened-full}
 use Rattle.table.proofs.column.open_number.Statement.{statement}
 use Rattle.table.proofs.column.open_number.Tie as tie
