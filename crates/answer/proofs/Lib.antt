@@ -1,2 +1,3 @@
 -- Laws of the definitions of this crate.
+pub mod Choice
 pub mod Answers

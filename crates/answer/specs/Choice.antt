@@ -1,10 +1,6 @@
--- How definitions choose by a test.
-use mathlib.Core.Bool.{Bool, true, false}
-
--- the first where the test holds, else the second
-abbrev pub pick : {A : Type 0} → Bool → A → A → A
-pick true a b = a
-pick false a b = b
+-- How definitions choose by a test. `pick`, the first where the test holds and else the second, is the kit's `cond`, and `both` its `&&`, before what it joins.
+use mathlib.Core.Bool.{Bool, _&&_}
+pub use mathlib.Core.Bool.{cond as pick}
 
 abbrev pub both : Bool → Bool → Bool
-both a b = pick a b false
+both a b = a && b

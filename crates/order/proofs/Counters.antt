@@ -5,8 +5,8 @@ use mathlib.Core.List.{List, [], _∷_}
 use mathlib.Core.Path.{_≡_, refl, sym, ap, _∙_}
 use lib.ListN.{length}
 use Rattle.cost_model.specs.Costs.{goodCosts}
-use Rattle.position.proofs.Symbols.{and-left, and-right}
 use Rattle.table.specs.Keyed.{pick}
+use Rattle.table.proofs.Keyed.{both-true}
 use Rattle.fills.specs.declared.order.Order.{Order}
 use Rattle.fills.specs.declared.order.Terms.{Terms}
 use Rattle.fills.specs.Orders.{State, nextCount}
@@ -37,8 +37,8 @@ module _ (t : Terms) (good : goodCosts (t .costs) ≡ true) where
   unfolding fillAll allWhole settled countAfter
   whole-trims-nothing [] s nothing w = record { trimmed = refl; shortfall = refl; sequence = refl }
   whole-trims-nothing (o ∷ os) s (and k ks) w =
-      let first : fillsWhole t o (s .cash) ≡ true = and-left (fillsWhole t o (s .cash)) (allWhole t os (fill t o s)) w in
-      let rest : allWhole t os (fill t o s) ≡ true = and-right (fillsWhole t o (s .cash)) (allWhole t os (fill t o s)) w in
+      let first : fillsWhole t o (s .cash) ≡ true = both-true (fillsWhole t o (s .cash)) (allWhole t os (fill t o s)) w .0 in
+      let rest : allWhole t os (fill t o s) ≡ true = both-true (fillsWhole t o (s .cash)) (allWhole t os (fill t o s)) w .1 in
       let e : fill t o s ≡ settled t o (o .quantity .0) s = settles t good o s k first in
       let u : Untrimmed t os (fill t o s) = whole-trims-nothing os (fill t o s) ks rest in
       record {

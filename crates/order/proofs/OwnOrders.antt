@@ -18,7 +18,7 @@ use Rattle.sizing.specs.Sizing.{cutTo}
 use Rattle.table.specs.Keyed.{pick, there, new, seek}
 use Rattle.table.specs.Inner.Keyed.{Rising}
 use Rattle.table.specs.Rows.{columnsOf, isZero, Full}
-use Rattle.table.proofs.Keyed.{rising-ascends}
+use Rattle.table.proofs.Keyed.{by-test, rising-ascends}
 use Rattle.table.proofs.Ordering.{at-all}
 use Rattle.table.proofs.Zipped.{keys-of}
 use Rattle.call_lists.specs.Lists.{among, distinct, priceOf}
@@ -48,11 +48,6 @@ pub record OwnOrders (held : List Position) (os : List Order) : Type 0 where
   pub different : Pairs Order (Different symbolOf) os
   pub room : Room (length held) (total (placesAsked held) os)
 
--- what holds of the first, and of the second where that is picked
-picked : {A : Type 0} (Q : A → Type 0) (b : Bool) (x y : A) → Q x → (b ≡ false → Q y) → Q (pick b x y)
-picked Q true x y p q = p
-picked Q false x y p q = q refl
-
 -- ---- sums over lists of symbols
 total-none : (f : ℕ → ℕ) (l : List ℕ) → ((k : ℕ) → among k l ≡ true → f k ≡ 0) → total f l ≡ 0
 unfolding total
@@ -76,7 +71,7 @@ abbrev besides : List ℕ → (ℕ → ℕ) → ℕ → ℕ
 besides ts f k = pick (among k ts) 0 (f k)
 
 besides-none : (ts : List ℕ) (f : ℕ → ℕ) (k : ℕ) → f k ≡ 0 → besides ts f k ≡ 0
-besides-none ts f k e = picked (λ n. n ≡ 0) (among k ts) 0 (f k) refl (λ q. e)
+besides-none ts f k e = by-test (λ n. n ≡ 0) (among k ts) 0 (f k) (λ q. refl) (λ q. e)
 
 -- 1 for the symbol j
 abbrev is : ℕ → ℕ → ℕ
@@ -149,12 +144,12 @@ module _ (g : ℕ → ℕ) where
   share o = pick (isZero (o .quantity .0)) 0 (g (o .symbol .0))
 
   share-most : (k : ℕ) (o : PlannedOrder) → o .symbol .0 ≡ k → share o ≤ g k
-  share-most k o e = picked (λ n. n ≤ g k) (isZero (o .quantity .0)) 0 (g (o .symbol .0)) (omega arith) (λ z. omega (arith, ap g e))
+  share-most k o e = by-test (λ n. n ≤ g k) (isZero (o .quantity .0)) 0 (g (o .symbol .0)) (λ z. omega arith) (λ z. omega (arith, ap g e))
 
   sum-inserted : (first : PlannedOrder → PlannedOrder → Bool) (o : PlannedOrder) (l : List PlannedOrder) → sum (insertBy first o l) ≡ g (o .symbol .0) + sum l
   unfolding total insertBy
   sum-inserted first o [] = refl
-  sum-inserted first o (x ∷ l) = picked (λ k. sum k ≡ g (o .symbol .0) + sum (x ∷ l)) (first o x) (o ∷ (x ∷ l)) (x ∷ insertBy first o l) refl (λ e. omega (arith, sum-inserted first o l))
+  sum-inserted first o (x ∷ l) = by-test (λ k. sum k ≡ g (o .symbol .0) + sum (x ∷ l)) (first o x) (o ∷ (x ∷ l)) (x ∷ insertBy first o l) (λ e. refl) (λ e. omega (arith, sum-inserted first o l))
 
   sum-added : (s : Settings) (os plan : List PlannedOrder) → sum (addedAll s os plan) ≤ total share os + sum plan
   unfolding total addedAll
@@ -216,18 +211,18 @@ module _ (s : Settings) where
   unfolding lastAdmitted
   last-traded left o h =
       let cut = planned (o .symbol .0) (cutTo (o .quantity .0) (o .price) (s .«quantity_step») left) (o .price) (o .«drift_bps») in
-      picked Traded (isZero (cut .quantity .0)) [] _ nothing (λ e.
-      picked Traded (ltZ (notionalOf cut) (s .«min_order_value»)) [] (cut ∷ []) nothing (λ q.
+      by-test Traded (isZero (cut .quantity .0)) [] _ (λ e. nothing) (λ e.
+      by-test Traded (ltZ (notionalOf cut) (s .«min_order_value»)) [] (cut ∷ []) (λ q. nothing) (λ q.
       and (record { quantity = e; price = h .price }) nothing))
 
   admitted-traded : (n : ℕ) (left : ℤ) (l : List PlannedOrder) → Each (λ o. Tradable (orderOf o)) l → Traded (admittedFrom s n left l)
   unfolding admittedFrom
   admitted-traded n left [] h = nothing
   admitted-traded n left (o ∷ l) h =
-      picked Traded (reached (s .«max_trades_per_rebalance») n) [] _ nothing (λ a.
-      picked Traded (leZ (s .«max_rebalance_notional») (pos 0)) (o ∷ admittedFrom s (n + 1) left l) _ (and (h .0) (admitted-traded (n + 1) left l (h .1))) (λ b.
-      picked Traded (leZ left (pos 0)) [] _ nothing (λ c.
-      picked Traded (ltZ left (notionalOf o)) (lastAdmitted s left o) (o ∷ admittedFrom s (n + 1) (left -ℤ notionalOf o) l) (last-traded left o (h .0)) (λ d.
+      by-test Traded (reached (s .«max_trades_per_rebalance») n) [] _ (λ a. nothing) (λ a.
+      by-test Traded (leZ (s .«max_rebalance_notional») (pos 0)) (o ∷ admittedFrom s (n + 1) left l) _ (λ b. and (h .0) (admitted-traded (n + 1) left l (h .1))) (λ b.
+      by-test Traded (leZ left (pos 0)) [] _ (λ c. nothing) (λ c.
+      by-test Traded (ltZ left (notionalOf o)) (lastAdmitted s left o) (o ∷ admittedFrom s (n + 1) (left -ℤ notionalOf o) l) (λ d. last-traded left o (h .0)) (λ d.
       and (h .0) (admitted-traded (n + 1) (left -ℤ notionalOf o) l (h .1))))))
 
 module _ (s : Settings) (equity : ℤ) (price : ℕ → ℤ) where
@@ -265,6 +260,6 @@ own-orders a full ts ws ps vs room d =
     let price = priceOf ps vs in
     let equity = equityOf price (a .cash) held in
     let rises : Rising (map keyOf held) = rw (keys-of (a .positions .count) (columnsOf (a .positions)) full) (account-ordered a (r .sound) full .rising) in
-    picked (λ l. OwnOrders held (map orderOf l)) (leZ equity (pos 0)) [] (planOf (a .settings) equity price held ts ws)
-    (record { orders = nothing; different = nothing; room = omega (arith, r .few) })
+    by-test (λ l. OwnOrders held (map orderOf l)) (leZ equity (pos 0)) [] (planOf (a .settings) equity price held ts ws)
+    (λ e. record { orders = nothing; different = nothing; room = omega (arith, r .few) })
     (λ e. own-plan (a .settings) equity price held ts ws rises (r .lists .targetsDistinct) (r .few))

@@ -13,9 +13,8 @@ use lib.IntN.{ℤ, pos, negℤ, _+ℤ_, _-ℤ_}
 use lib.Signed.{ltZ, leZ}
 use Rattle.sums.specs.Sums.{satSub}
 use Rattle.sums.proofs.Ints.{P, N, P-pos, N-pos, P-neg, N-neg, P-add, P-sub, P-zero, N-zero, fits-of, satSub-exact, eq-of, le-yes, le-is, lt-yes, lt-no}
-use Rattle.position.proofs.Symbols.{and-left, and-right}
 use Rattle.table.specs.Keyed.{seek, put, put64, new}
-use Rattle.table.proofs.Keyed.{seek-key, seek-put, put-swap, put-length, put-room}
+use Rattle.table.proofs.Keyed.{both-true, seek-key, seek-put, put-swap, put-length, put-room}
 use Rattle.order.specs.Running.{Perm, done, keep, swap, then, total, All, nothing, and, Pairs, Last, Different, Room, NotBelow0, InRange}
 use Rattle.order.proofs.Perms.{total-perm, all-perm, pairs-perm, all-map}
 
@@ -162,8 +161,8 @@ module _ {O Q A : Type 0} (R : Rule O Q A) where
   unfolding after allWhole ups total
   held-after [] a nothing nothing r w = refl
   held-after (o ∷ os) a (and k ks) (and n ns) r w =
-      let e : R .whole o a ≡ true = and-left (R .whole o a) (allWhole R os (R .run o a)) w in
-      let f : allWhole R os (R .run o a) ≡ true = and-right (R .whole o a) (allWhole R os (R .run o a)) w in
+      let e : R .whole o a ≡ true = both-true (R .whole o a) (allWhole R os (R .run o a)) w .0 in
+      let f : allWhole R os (R .run o a) ≡ true = both-true (R .whole o a) (allWhole R os (R .run o a)) w .1 in
       let m : Room (length (R .held a)) (newOf R (R .held a) o) = omega arith in
       let h : R .held (R .run o a) ≡ up o (R .held a) = R .run-held o a k e ∙ up-room o (R .held a) m in
       let l : Room (length (up o (R .held a))) (total (newOf R (up o (R .held a))) os) = omega (arith, length-up o (R .held a), new-up o os (R .held a) n) in
@@ -203,8 +202,8 @@ module _ {O Q A : Type 0} (R : Rule O Q A) where
   unfolding after allWhole total
   cash-after [] a c nothing i t w = record { left = c; is = i; sum = refl }
   cash-after (o ∷ os) a c (and k ks) i t w =
-      let e : R .whole o a ≡ true = and-left (R .whole o a) (allWhole R os (R .run o a)) w in
-      let f : allWhole R os (R .run o a) ≡ true = and-right (R .whole o a) (allWhole R os (R .run o a)) w in
+      let e : R .whole o a ≡ true = both-true (R .whole o a) (allWhole R os (R .run o a)) w .0 in
+      let f : allWhole R os (R .run o a) ≡ true = both-true (R .whole o a) (allWhole R os (R .run o a)) w .1 in
       let l : takes o ≤ c + raised R o = whole-le o a c k i e in
       let j : R .cash (R .run o a) ≡ pos (c + raised R o - takes o) = cash-run o a c k i (omega arith) e in
       let b = cash-after os (R .run o a) (c + raised R o - takes o) ks j (omega arith) f in

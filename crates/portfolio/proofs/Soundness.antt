@@ -1,8 +1,8 @@
 -- A call on a sound account leaves it sound, done or refused.
 -- Numbers of the code fit 64 bits, and a table's columns have 64 places; the laws take both as given.
-use Prim.Native.Nat.{ℕ, _+_}
-use mathlib.Core.Path.{_≡_, refl, sym, _∙_}
-use mathlib.Core.Bool.{Bool, true, false}
+use Prim.Native.Nat.{ℕ}
+use mathlib.Core.Path.{_≡_}
+use mathlib.Core.Bool.{true, false}
 use mathlib.Core.List.{List, [], _∷_, map}
 use native.Mathlib.Omega.{arith}
 use lib.IntN.{ℤ, pos}
@@ -15,9 +15,9 @@ use Rattle.position.specs.declared.position.Position.{Position}
 use Rattle.position.specs.Rows.{keyOf}
 use Rattle.position.specs.Symbols.{goodSymbol}
 use Rattle.position.specs.Fills.{sound}
-use Rattle.table.specs.Keyed.{pick, both, all}
+use Rattle.table.specs.Keyed.{both, all}
 use Rattle.table.specs.Rows.{columnsOf, isZero, Full}
-use Rattle.table.proofs.Keyed.{and-both, both-true, rising-ascends}
+use Rattle.table.proofs.Keyed.{by-test, both-true, rising-ascends}
 use Rattle.table.proofs.Zipped.{keys-of}
 use Rattle.call_lists.specs.Lists.{allGood, priceOf}
 use Rattle.call_lists.proofs.Prices.{price-fits}
@@ -61,7 +61,7 @@ order-wanted k p o h g f z =
 
 sound-symbol : (p : Position) → sound p ≡ true → goodSymbol (keyOf p) ≡ true
 unfolding sound
-sound-symbol p e = both-true (goodSymbol (keyOf p)) _ (sym (and-both (goodSymbol (keyOf p)) _) ∙ e) .0
+sound-symbol p e = both-true (goodSymbol (keyOf p)) _ e .0
 
 module _ (s : Settings) (equity : ℤ) (price : ℕ → ℤ) (fits : (k : ℕ) → SFits w64 (price k)) where
   plan-tradable : (held : List Position) (ts : List ℕ) (ws : List Float) → all sound held ≡ true → allGood ts ≡ true → Each Tradable (planOf s equity price held ts ws)
@@ -80,11 +80,6 @@ orders-listed [] h = omega arith
 orders-listed (o ∷ l) h = (record { symbol = h .0 .0; price = h .0 .1; price-fits = h .0 .2 }, orders-listed l (h .1))
 
 -- ---- calls
--- done, or refused
-either-sound : {A : Type 0} (account : A → Account) (done : Bool) (x y : A) → (done ≡ true → soundAccount (account x) ≡ true) → soundAccount (account y) ≡ true → soundAccount (account (pick done x y)) ≡ true
-either-sound account true x y h g = h refl
-either-sound account false x y h g = g
-
 module _ (a : Account) (f : Full (columnsOf (a .positions))) (e : soundAccount a ≡ true) where
   state-sound : Sound (stateOf a)
   state-sound =
@@ -106,30 +101,27 @@ module _ (a : Account) (f : Full (columnsOf (a .positions))) (e : soundAccount a
   pub close-keeps-sound : (s : ℕ) (price : ℤ) → SFits w64 price → (period : ℕ) (kind : ExecutionKind) (room : ℕ) → soundAccount (positionClosed a s price period kind room .account) ≡ true
   unfolding positionClosed afterClose fillAll
   close-keeps-sound s price fits period kind room =
-      either-sound (λ (o : Outcome). o .account) (isDone (closeAnswer a s price room)) _ _
+      by-test (λ (o : Outcome). soundAccount (o .account) ≡ true) (isDone (closeAnswer a s price room)) _ _
       (λ d.
       let c = close-done a s price room d in
       after-sound _ _ _ (run-sound (closeOrder a s price ∷ []) period kind (record { symbol = c .good; price = c .priced; price-fits = fits }, omega arith)))
-      e
+      (λ d. e)
 
   pub rebalance-keeps-sound : (ts : List ℕ) (ws : List Float) (ps : List ℕ) (vs : List ℤ) → ((i : ℕ) → SFits w64 (getD vs i (pos 0))) → (period : ℕ) (kind : ExecutionKind) (room : ℕ)
       → soundAccount (rebalanced a ts ws ps vs period kind room .account) ≡ true
   unfolding rebalanced afterRebalance afterPlan admittedPlan
   rebalance-keeps-sound ts ws ps vs fits period kind room =
-      either-sound (λ (o : Outcome). o .account) (isDone (rebalanceAnswer a ts ws ps vs room)) _ _
+      by-test (λ (o : Outcome). soundAccount (o .account) ≡ true) (isDone (rebalanceAnswer a ts ws ps vs room)) _ _
       (λ d.
       let h = rebalance-done a ts ws ps vs room d in
       let price = priceOf ps vs in
       let equity = equityOf price (a .cash) (heldIn (a .positions)) in
       let p = plan-tradable (a .settings) equity price (λ k. price-fits k ps vs fits) (heldIn (a .positions)) ts ws (account-positions a e f) (h .lists .targetsGood) in
       let plan = admittedPlan a ts ws price in
-      after-sound _ _ _ (run-sound _ period kind (orders-listed (inRunningOrder (a .settings) plan) (running-all (a .settings) plan Tradable (go (leZ equity (pos 0)) (planOf (a .settings) equity price (heldIn (a .positions)) ts ws) p)))))
-      e
-    where
-      go : (b : Bool) (l : List PlannedOrder) → Each Tradable l → Each Tradable (pick b [] l)
-      go true l h = omega arith
-      go false l h = h
+      let q : Each Tradable plan = by-test (Each Tradable) (leZ equity (pos 0)) [] (planOf (a .settings) equity price (heldIn (a .positions)) ts ws) (λ z. omega arith) (λ z. p) in
+      after-sound _ _ _ (run-sound _ period kind (orders-listed (inRunningOrder (a .settings) plan) (running-all (a .settings) plan Tradable q))))
+      (λ d. e)
 
   pub return-keeps-sound : (ps : List ℕ) (vs : List ℤ) (equities : List ℤ) (returns : List Float) → soundAccount (recorded a ps vs equities returns .account) ≡ true
   unfolding recorded
-  return-keeps-sound ps vs equities returns = either-sound (λ (o : Recorded). o .account) (isDone (returnAnswer a ps vs (length equities) (length returns))) _ _ (λ d. series-keep-sound a e _) e
+  return-keeps-sound ps vs equities returns = by-test (λ (o : Recorded). soundAccount (o .account) ≡ true) (isDone (returnAnswer a ps vs (length equities) (length returns))) _ _ (λ d. series-keep-sound a e _) (λ d. e)

@@ -19,13 +19,9 @@ use Rattle.position.specs.Fills.{soundNumbers, sound, sameSide, entered,
 use Rattle.position.specs.declared.position.Position.{Position}
 use Rattle.position.specs.declared.position.Filled.{Filled}
 use Rattle.answer.specs.declared.Answer.the-variants.{Done, BadPrice, Unsound}
-use Rattle.position.proofs.Symbols.{and-left, and-right}
+use Rattle.answer.proofs.Choice.{by-test, both-true}
 
 -- ---- the branches
-by-test : {A : Type 0} (Q : A → Type 0) (t : Bool) (x y : A) → (t ≡ true → Q x) → (t ≡ false → Q y) → Q (cond t x y)
-by-test Q true x y f g = f refl
-by-test Q false x y f g = g refl
-
 -- What holds of the position as it is and of what each branch makes holds after the fill.
 module _ (Q : Position → Type 0) (p : Position) (q price : ℤ) where
   pub by-branch :
@@ -153,9 +149,9 @@ pub sound-sided : (q a t : ℤ) → isZero q ≡ false → soundNumbers q a t �
 unfolding soundNumbers
 sound-sided q a t z s =
     let open-one : leZ (pos 0) a && cond (isPositive q) (leZ (value q a) t) (leZ t (value q a)) ≡ true = rw z at s in
-    let side : cond (isPositive q) (leZ (value q a) t) (leZ t (value q a)) ≡ true = and-right (leZ (pos 0) a) _ open-one in
+    let side : cond (isPositive q) (leZ (value q a) t) (leZ t (value q a)) ≡ true = both-true (leZ (pos 0) a) _ open-one .1 in
     record {
-      average = and-left (leZ (pos 0) a) _ open-one;
+      average = both-true (leZ (pos 0) a) _ open-one .0;
       long = λ e. (rw e at side);
       short = λ e. (rw e at side);
     }
@@ -282,9 +278,8 @@ module _ (p : Position) (q price : ℤ) (at-least-0 : leZ (pos 0) price ≡ true
 pub applied-keeps-sound : (p : Position) (q price : ℤ) → sound p ≡ true → leZ (pos 0) price ≡ true → sound (applied p q price) ≡ true
 unfolding sound
 applied-keeps-sound p q price s h =
-    let good = and-left (goodSymbol (keyOf p)) _ s in
-    let numbers = and-right (goodSymbol (keyOf p)) _ s in
-    rw (applied-keeps-symbol p q price, good) (applied-numbers p q price h numbers)
+    let h′ = both-true (goodSymbol (keyOf p)) _ s in
+    rw (applied-keeps-symbol p q price, h′ .0) (applied-numbers p q price h (h′ .1))
 
 pub fresh-sound : (s : ℕ) → goodSymbol s ≡ true → sound (fresh s) ≡ true
 unfolding sound

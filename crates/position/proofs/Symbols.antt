@@ -1,7 +1,7 @@
 -- A symbol's number and its bytes: the order of numbers is the order of bytes, and the bytes give the number back.
 use Prim.Native.Nat.{ℕ, zero, suc, _+_, _*_, _/_, _%_, _^_, _<_}
 use mathlib.Core.Path.{_≡_, refl, sym, ap, _∙_}
-use mathlib.Core.Bool.{Bool, true, false, cond, _&&_}
+use mathlib.Core.Bool.{Bool, true, false, cond}
 use mathlib.Core.List.{List, _∷_}
 use native.Mathlib.Omega.{arith}
 use native.Mathlib.Nat.{mul-div-cancel, mul-mod-left, add-zero, add-mul, mul-assoc, pow-suc, zero-mul, mul-one, pow-zero}
@@ -9,6 +9,7 @@ use lib.Arith.{mod-mul}
 use lib.Pow.{pow-add}
 use lib.Dec.{ltb, eqb}
 use borrow.Author.Tests.{ltb-true, ltb-false, eqb-true, eqb-false, lt-ltb, le-ltb}
+use Rattle.answer.proofs.Choice.{both-true}
 use Rattle.position.specs.Symbols.{bytesFrom, symbolBytes, leading, ofBytes, goodByte, zeros, padded, before}
 
 -- n is m with i bytes of zeros after it
@@ -47,22 +48,13 @@ past-the-end i n e s =
     let eight : i ≡ 8 = omega arith in
     omega (arith, s .is ∙ ap (λ (j : ℕ). s .high * 256 ^ j) eight)
 
-pub and-left : (a b : Bool) → a && b ≡ true → a ≡ true
-and-left true b e = refl
-and-left false b e = e
-
-pub and-right : (a b : Bool) → a && b ≡ true → b ≡ true
-and-right true b e = e
-and-right false true e = refl
-and-right false false e = e
-
 -- ---- zeros
 pub zeros-only : (k i n : ℕ) → k + i ≡ 8 → Spaced i n → zeros (bytesFrom k n) ≡ true → n ≡ 0
 unfolding bytesFrom zeros
 zeros-only zero i n e s z = past-the-end i n e s
 zeros-only (suc k) i n e s z =
-    let first = eqb-true (n / 2 ^ 56) 0 (and-left (eqb (n / 2 ^ 56) 0) (zeros (bytesFrom k (n % 2 ^ 56 * 256))) z) in
-    let rest = zeros-only k (suc i) (n % 2 ^ 56 * 256) (omega arith) (next-spaced k i n e s) (and-right (eqb (n / 2 ^ 56) 0) (zeros (bytesFrom k (n % 2 ^ 56 * 256))) z) in
+    let first = eqb-true (n / 2 ^ 56) 0 (both-true (eqb (n / 2 ^ 56) 0) (zeros (bytesFrom k (n % 2 ^ 56 * 256))) z .0) in
+    let rest = zeros-only k (suc i) (n % 2 ^ 56 * 256) (omega arith) (next-spaced k i n e s) (both-true (eqb (n / 2 ^ 56) 0) (zeros (bytesFrom k (n % 2 ^ 56 * 256))) z .1) in
     omega arith
 
 pub some-bytes : (n : ℕ) → n < 2 ^ 64 → (n ≡ 0 → ⊥) → zeros (symbolBytes n) ≡ false

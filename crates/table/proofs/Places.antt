@@ -45,6 +45,14 @@ take-shorter n l = go (ltb n (length l)) refl
         let h = ltb-false n (length l) e in
         take-all (length l) l (omega arith) ∙ sym (take-all n l (omega (arith, h)))
 
+-- a count of places in use that a list bounds
+module _ {r : ℕ} (n : ℕ) (l : List ℕ) (e : r ≡ shorter n (length l)) where
+  pub used-within : r ≤ length l
+  used-within = omega (arith, e, shorter-within n (length l))
+
+  pub used-same : take r l ≡ take n l
+  used-same = ap (λ k. take k l) e ∙ take-shorter n l
+
 -- ---- what a search finds
 skips : (l : List ℕ) (k i s : ℕ) → ((j : ℕ) → j < i → getD l j 0 < s) → i ≤ length l → foundFrom k s l ≡ foundFrom (k + i) s (drop i l)
 skips l k zero s b h = let q : k ≡ k + 0 = omega arith in ap (λ m. foundFrom m s l) q

@@ -1,21 +1,20 @@
 -- A hit at the hinted place is the search's answer, since rising keys are all different.
-use Prim.Native.Nat.{ℕ, _≤_, _<_}
-use mathlib.Core.Path.{_≡_, ap, _∙_}
+use Prim.Native.Nat.{_≤_}
+use mathlib.Core.Path.{_≡_}
 use native.Mathlib.Omega.{arith}
 use borrow.Author.Needs.{needs}
 use lib.ListN.{length, take}
-use Rattle.table.specs.Inner.Places.{shorter, Finds}
-use Rattle.table.proofs.Places.{shorter-within, take-shorter, finds-there}
+use Rattle.table.proofs.Places.{used-within, used-same, finds-there}
 use Rattle.table.proofs.found.find.Statement.{statement}
 use Rattle.table.proofs.found.find.Tie as tie
 
 -- the count that is used
 module _ (c : tie.After-used) where
   room : c .used .result ≤ length (c .before .before .args .keys .now)
-  room = omega (arith, c .used .ensures, shorter-within (c .before .before .args .n) (length (c .before .before .args .keys .now)))
+  room = used-within (c .before .before .args .n) (c .before .before .args .keys .now) (c .used .ensures)
 
   same-keys : take (c .used .result) (c .before .before .args .keys .now) ≡ take (c .before .before .args .n) (c .before .before .args .keys .now)
-  same-keys = ap (λ n. take n (c .before .before .args .keys .now)) (c .used .ensures) ∙ take-shorter (c .before .before .args .n) (c .before .before .args .keys .now)
+  same-keys = used-same (c .before .before .args .n) (c .before .before .args .keys .now) (c .used .ensures)
 
 used-requires : tie.Need-used-requires
 used-requires c κs = search needs

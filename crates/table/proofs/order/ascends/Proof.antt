@@ -9,7 +9,7 @@ use lib.Seq.{length-take-le, getD-take}
 use borrow.Author.Needs.{needs}
 use Rattle.table.specs.Keyed.{ascending}
 use Rattle.table.proofs.Keyed.{ascending-on, ascending-not, ascending-end}
-use Rattle.table.proofs.Places.{shorter-within, take-shorter}
+use Rattle.table.proofs.Places.{used-within, used-same}
 use Rattle.table.proofs.order.ascends.Statement.{statement}
 use Rattle.table.proofs.order.ascends.Tie as tie
 
@@ -38,10 +38,10 @@ module _ (keys : List ℕ) (m i : ℕ) (fits : m ≤ length keys) where
 
 module _ (c : tie.After-used Inv-loop μ-loop) where
   room : c .used .result ≤ length (c .before .before .args .keys .now)
-  room = omega (arith, c .used .ensures, shorter-within (c .before .before .args .n) (length (c .before .before .args .keys .now)))
+  room = used-within (c .before .before .args .n) (c .before .before .args .keys .now) (c .used .ensures)
 
   same-keys : take (c .used .result) (c .before .before .args .keys .now) ≡ take (c .before .before .args .n) (c .before .before .args .keys .now)
-  same-keys = ap (λ n. take n (c .before .before .args .keys .now)) (c .used .ensures) ∙ take-shorter (c .before .before .args .n) (c .before .before .args .keys .now)
+  same-keys = used-same (c .before .before .args .n) (c .before .before .args .keys .now) (c .used .ensures)
 
 used-requires : tie.Need-used-requires Inv-loop μ-loop
 used-requires c κs = search needs

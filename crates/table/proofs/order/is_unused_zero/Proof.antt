@@ -1,15 +1,8 @@
 -- Each column's test is one of the five.
-use mathlib.Core.Path.{_≡_}
-use mathlib.Core.Bool.{Bool, _&&_}
-use Rattle.table.specs.Keyed.{both}
 use Rattle.table.specs.Rows.{unused}
-use Rattle.table.proofs.Keyed.{and-both}
 use borrow.Author.Needs.{needs}
 use Rattle.table.proofs.order.is_unused_zero.Statement.{statement}
 use Rattle.table.proofs.order.is_unused_zero.Tie as tie
-
-all-five : {s s′ q q′ a a′ g g′ t t′ : Bool} → s ≡ s′ → q ≡ q′ → a ≡ a′ → g ≡ g′ → t ≡ t′ → s && (q && (a && (g && t))) ≡ both s′ (both q′ (both a′ (both g′ t′)))
-all-five es eq ea eg et = rw (es, eq, ea, eg, et) (simp and-both)
 
 no-symbol-from-requires : tie.Need-no-symbol-from-requires
 no-symbol-from-requires c κs = search needs
@@ -33,7 +26,7 @@ returns c =
     let c2 = c3 .before .before in
     let c1 = c2 .before .before in
     let c0 = c1 .before .before in
-    all-five (c0 .no-symbol-from .ensures) (c1 .zero-from .ensures) (c2 .zero-from2 .ensures) (c3 .zero-from3 .ensures) (c .zero-from4 .ensures)
+    rw (c0 .no-symbol-from .ensures, c1 .zero-from .ensures, c2 .zero-from2 .ensures, c3 .zero-from3 .ensures, c .zero-from4 .ensures)
 
 pub is-unused-zero-spec : {M : Type 1} → statement M
 is-unused-zero-spec =
