@@ -34,7 +34,7 @@ fn the_example_runs_to_its_end() {
     assert_eq!(out.status.code(), Some(0));
     let said = said(&out);
     assert_eq!(said.matches("  equity ").count(), 60);
-    for expected in ["cut down to the cash at hand", "stop exit", "60 periods, 60 returns"] {
+    for expected in ["cut down to the cash at hand", "stop exit", "60 periods, 60 returns", ", cost 10.00\n"] {
         assert!(said.contains(expected), "{expected}");
     }
     let page = page.unwrap();
