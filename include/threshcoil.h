@@ -38,6 +38,7 @@ enum tc_settings_word {
     TC_RECORDING_AT = 10,
     TC_CASH_FIRST_AT = 11,
     TC_MAX_COMMISSION_AT = 12,
+    TC_CEILING_AT = 12, /* the same word, by its name while it was spare */
     TC_COVER_RULE_AT = 13,
     TC_LONG_ONLY_AT = 14,
     TC_SETTINGS_WORDS = 15

@@ -6,7 +6,7 @@ mod ceiling;
 pub use ceiling::emit;
 
 use crate::fills::next;
-use crate::leaf::{are_good, asked_of_the_rust, costs_of, draw_costs, draw_symbol, is_sound, largest, need, paid};
+use crate::leaf::{are_good, costs_of, draw_costs, draw_symbol, is_sound, largest, need, notional, paid};
 use oracle::{Ask, Filled, Single};
 use scenario::{Context, Costs, Kind, Random, Record, Symbol};
 use threshcoil_sys as port;
@@ -118,7 +118,7 @@ fn compared(run: &Run, seed: u64, count: u64) -> bool {
             let (ask, before) = (run.draw)(&mut random, sort, account);
             let paid = paid(ask.costs, ask.quantity, ask.price);
             let need = need(ask.quantity, paid, ask.costs);
-            let Some(Filled { after, record }) = theirs(&ask, before, paid) else {
+            let Some(Filled { after, record }) = ceiling::theirs(&ask, before, paid) else {
                 endless += 1;
                 differences += u64::from(!fills_by_the_rule(run.fill, &ask, before, paid, need));
                 continue;
@@ -136,12 +136,6 @@ fn compared(run: &Run, seed: u64, count: u64) -> bool {
         "{name}: left out, since nanobook may not end (request 2^63 - 1, step 1), and held to the rule: {endless}"
     );
     differences == 0 && endless > 0 && met.iter().all(|n| *n > 0)
-}
-
-/// Nanobook's own fill, under costs that charge the same without a ceiling.
-fn theirs(ask: &Ask, before: Single, paid: i64) -> Option<Filled> {
-    let costs = asked_of_the_rust(ask.costs, port::tc_notional_of(ask.quantity, paid)).expect("a run asks no other");
-    oracle::fill_alone(&Ask { costs, ..*ask }, &before)
 }
 
 /// What stands in a record's places before a fill, so that a place written or left shows.
@@ -268,7 +262,7 @@ fn draw(random: &mut Random, sort: u64, account: Single) -> (Ask, Single) {
         price: price.max(1),
     };
     let paid = paid(costs, quantity, ask.price);
-    let proceeds = port::tc_notional_of(quantity, paid);
+    let proceeds = notional(quantity, paid);
     let short = if quantity > 0 { need(quantity, paid, costs) } else { costs.min_commission.saturating_sub(proceeds) };
     let cash = match random.below(10) {
         0 => 0,

@@ -1,4 +1,5 @@
-//! A small table to look at: document 01's numbers through the port, beside Rust's.
+//! A small table to look at: document 01's numbers through the port, beside Rust's: nanobook's own, or Rust's own arithmetic where
+//! nanobook has no such function. Under a ceiling, which it lacks, they come of its answers without one (leaf/ceilings.rs).
 
 use crate::differ::{call, same, shown};
 use crate::leaf::{self, Inputs};

@@ -3,8 +3,8 @@
 use crate::plan::{Close, Opening, Period, Plan, Said};
 use std::fmt;
 use threshcoil::{
-    Account, Context, ExecutionKind, ExecutionRecord, Figures, Position, Price, Refusal, Symbol, Target, Weight,
-    figures,
+    Account, Context, CostModel, ExecutionKind, ExecutionRecord, Figures, Position, Price, Refusal, Symbol, Target,
+    Weight, figures,
 };
 
 /// Something that did not count, and its line.
@@ -18,6 +18,8 @@ pub struct Refused {
 #[derive(Clone, Copy, Debug)]
 pub enum Why {
     Library(Refusal),
+    /// Of an opening, whose number is that of any bad setting.
+    CeilingBelowFloor(Refusal),
     /// Of a close: the library, asked at a price of 0, would blame the price.
     NoPrice,
     /// Of a holding, whose equity is then short by it.
@@ -26,8 +28,12 @@ pub enum Why {
 
 impl fmt::Display for Refused {
     fn fmt(&self, f: &mut fmt::Formatter<'_>) -> fmt::Result {
+        let refused = |refusal: Refusal| format!("{} was refused, {}: {refusal}", self.what, refusal.number());
         match self.why {
-            Why::Library(refusal) => write!(f, "{} was refused, {}: {refusal}", self.what, refusal.number()),
+            Why::Library(refusal) => write!(f, "{}", refused(refusal)),
+            Why::CeilingBelowFloor(refusal) => {
+                write!(f, "{}: max_commission is below min_commission", refused(refusal))
+            }
             Why::NoPrice => write!(f, "{} has no price: the period lists none, nor does the line give one", self.what),
             Why::Unpriced => write!(f, "{} is held and the period has no price of it: it counts 0", self.what),
         }
@@ -62,10 +68,9 @@ pub struct History {
 /// Runs the plan. `told` hears each period as it ends; where `stop` is set, the first refusal ends the run.
 pub fn run(plan: &Plan, stop: bool, mut told: impl FnMut(usize, &Told)) -> Result<History, Refused> {
     let Opening { cash, settings } = plan.opening;
-    let refused = |refusal| Refused { line: bad_opening(plan), what: "the opening".into(), why: Why::Library(refusal) };
     let mut equities = vec![0; plan.periods.len() + 1];
     let mut returns = vec![0.0; plan.periods.len() + 1];
-    let mut account = Account::open(cash, &settings, &mut equities).map_err(refused)?;
+    let mut account = Account::open(cash, &settings, &mut equities).map_err(|refusal| bad_opening(plan, refusal))?;
     let (mut periods, mut weights, mut stopped) = (Vec::new(), Vec::new(), false);
     for (k, period) in plan.periods.iter().enumerate() {
         let (trims, gains) = (account.trimmed_fill_count(), account.return_count());
@@ -101,11 +106,15 @@ pub fn run(plan: &Plan, stop: bool, mut told: impl FnMut(usize, &Told)) -> Resul
     Ok(History { account, periods, equities, returns, figures, weights, positions, stopped })
 }
 
-/// The line from which on the opening is bad: of two settings that are bad together, the later one's.
-fn bad_opening(plan: &Plan) -> usize {
+/// Told at the line from which on the opening is bad, by what stands there: of two settings that are bad together, at the later one's.
+fn bad_opening(plan: &Plan, refusal: Refusal) -> Refused {
     let good = |said: &Said<Opening>| Account::open(said.what.cash, &said.what.settings, &mut [0]).is_ok();
     let bad = plan.openings.iter().rposition(good).map_or(0, |last_good| last_good + 1);
-    plan.openings.get(bad).map_or(1, |said| said.line)
+    let (line, opening) = plan.openings.get(bad).map_or((1, plan.opening), |said| (said.line, said.what));
+    let CostModel { min_commission, max_commission, .. } = opening.settings.cost_model;
+    let below = max_commission != 0 && max_commission < min_commission;
+    let why = if below { Why::CeilingBelowFloor(refusal) } else { Why::Library(refusal) };
+    Refused { line, what: "the opening".into(), why }
 }
 
 /// The period's closes, as they stand in the file, then its rebalance.

@@ -34,7 +34,7 @@ fn the_example_runs_to_its_end() {
     assert_eq!(out.status.code(), Some(0));
     let said = said(&out);
     assert_eq!(said.matches("  equity ").count(), 60);
-    for expected in ["cut down to the cash at hand", "stop exit", "60 periods, 60 returns"] {
+    for expected in ["cut down to the cash at hand", "stop exit", "60 periods, 60 returns", ", cost 10.00\n"] {
         assert!(said.contains(expected), "{expected}");
     }
     let page = page.unwrap();
@@ -139,17 +139,20 @@ fn an_opening_that_cannot_be_read_runs_nothing() {
 
 #[test]
 fn a_refused_opening_and_a_missing_file_are_told() {
-    for (name, bad, line) in [
-        ("cash", "name Bad\ncash -10.00\nslippage_bps 1\n", 2),
-        ("slippage", "cash 10.00\nslippage_bps 10001\ncommission_bps 1\n", 2),
-        ("below", "cash 10.00\nmax_commission -0.01\n", 2),
-        ("ceiling-after", "min_commission 5.00\ncash 10.00\nmax_commission 4.99\n", 3),
-        ("ceiling-before", "max_commission 4.99\nmin_commission 5.00\ncash 10.00\n", 2),
-        ("ceiling-mended", "max_commission 4.99\nmin_commission 5.00\nmax_commission 5.00\ncash -10.00\n", 4),
+    let pair = ": max_commission is below min_commission";
+    for (name, bad, line, more) in [
+        ("cash", "name Bad\ncash -10.00\nslippage_bps 1\n", 2, ""),
+        ("slippage", "cash 10.00\nslippage_bps 10001\ncommission_bps 1\n", 2, ""),
+        ("below", "cash 10.00\nmax_commission -0.01\n", 2, pair),
+        ("ceiling-after", "min_commission 5.00\ncash 10.00\nmax_commission 4.99\n", 3, pair),
+        ("ceiling-before", "max_commission 4.99\nmin_commission 5.00\ncash 10.00\n", 2, pair),
+        ("ceiling-mended", "max_commission 4.99\nmin_commission 5.00\nmax_commission 5.00\ncash -10.00\n", 4, ""),
+        ("ceiling-none", "cash -10.00\nmin_commission 5.00\nmax_commission 0\n", 1, ""),
+        ("ceiling-later", "cash -10.00\nmin_commission 5.00\nmax_commission 4.99\n", 1, ""),
     ] {
         let (out, page) = model(&format!("refused-{name}"), Some(bad), &[]);
         assert_eq!(out.status.code(), Some(1), "{name}");
-        let told = format!(".txt:{line}: the opening was refused, 1: a setting or opening cash is bad");
+        let told = format!(".txt:{line}: the opening was refused, 1: a setting or opening cash is bad{more}\n");
         assert!(said(&out).contains(&told), "{name}: {}", said(&out));
         assert!(out.stdout.is_empty() && page.is_none(), "{name}");
     }

@@ -91,7 +91,8 @@ fn places(name: &str) -> Vec<(&'static str, usize)> {
     let body = &HEADER[HEADER[from..].find('{').expect("its names") + from + 1..];
     let entry = |text: &'static str| {
         let (name, place) = text.split_once('=')?;
-        Some((name.trim(), place.trim().parse().ok()?))
+        // A comment may stand before it.
+        Some((name.split_whitespace().last()?, place.trim().parse().ok()?))
     };
     body[..body.find('}').expect("its end")].split(',').filter_map(entry).collect()
 }
@@ -121,7 +122,10 @@ fn the_header_has_the_places_of_the_table() {
         "TC_COVER_RULE_AT",
         "TC_LONG_ONLY_AT",
     ];
-    assert_eq!(places("tc_settings_word"), of_table(layout::SETTINGS, &settings, "TC_SETTINGS_WORDS"));
+    let mut settings = of_table(layout::SETTINGS, &settings, "TC_SETTINGS_WORDS");
+    let ceiling = layout::Setting::MaxCommission as usize;
+    settings.insert(ceiling + 1, ("TC_CEILING_AT", ceiling));
+    assert_eq!(places("tc_settings_word"), settings);
     let counters = [
         "TC_ORDER_COUNT_AT",
         "TC_LAST_NOTIONAL_AT",

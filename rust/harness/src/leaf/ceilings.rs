@@ -1,5 +1,5 @@
 //! Commission under a ceiling, which the Rust lacks: its own commission is the oracle, and "the lesser" of it and the ceiling is taken
-//! here; its largest affordable buy is one where the ceiling changes no commission, or makes all of them one fee.
+//! here; its largest affordable buy is asked for twice, without the ceiling and for a flat fee of it.
 
 use super::Kind::{Bool, F64, I64};
 use super::costs::{are_good, charged, lesser};
@@ -27,17 +27,20 @@ fn costs(words: [u64; 4]) -> Costs {
     Costs { max_commission: ceiling as i64, ..costs::costs([c, s, floor]) }
 }
 
-fn free(c: Costs) -> Costs {
+/// The costs without their ceiling.
+pub fn free(c: Costs) -> Costs {
     Costs { max_commission: 0, ..c }
 }
 
-/// The costs without a ceiling under which the Rust charges the same for every notional up to this one: those given, where the
-/// ceiling isn't reached, since commission never falls as notional rises; the floor alone, where the ceiling equals it.
-pub fn asked_of_the_rust(c: Costs, notional: i64) -> Option<Costs> {
-    if charged(free(c), notional) == charged(c, notional) {
-        return Some(free(c));
-    }
-    (c.max_commission == c.min_commission).then_some(Costs { commission_bps: 0.0, ..free(c) })
+/// The costs that charge the ceiling, whatever the notional.
+pub fn flat_fee(c: Costs) -> Costs {
+    Costs { commission_bps: 0.0, min_commission: c.max_commission, ..free(c) }
+}
+
+/// Costs without a ceiling, the lesser of which good costs charge. So a need fits cash where it does under one of these, and the
+/// largest affordable buy is the greater of theirs.
+fn of_the_rust(c: Costs) -> impl Iterator<Item = Costs> {
+    [free(c)].into_iter().chain((c.max_commission != 0).then(|| flat_fee(c)))
 }
 
 /// What the ceiling may do to a commission, by the costs and the notional that are read from the inputs.
@@ -71,15 +74,16 @@ fn of_cost(i: &Inputs) -> (Costs, i64) {
 }
 
 fn of_need(i: &Inputs) -> (Costs, i64) {
-    (costs([i[2], i[3], i[4], i[5]]), notional(i[0] as i64, i[1] as i64))
+    (costs([i[2], i[3], i[4], i[5]]), notional((i[0] as i64).max(0), (i[1] as i64).max(0)))
 }
 
 fn last(i: &Inputs) -> Costs {
     costs([i[4], i[5], i[6], i[7]])
 }
 
-fn notional(quantity: i64, price: i64) -> i64 {
-    (i128::from(quantity) * i128::from(price) / 1_000_000).clamp(0, i64::MAX as i128) as i64
+/// Of a buy or a sale, in Rust's own arithmetic.
+pub fn notional(quantity: i64, price: i64) -> i64 {
+    (i128::from(quantity) * i128::from(price) / 1_000_000).abs().min(i64::MAX as i128) as i64
 }
 
 const COST: &[Class] = lessened!(of_cost);
@@ -129,18 +133,6 @@ fn ours(i: &Inputs) -> i64 {
         min_commission,
         max_commission,
     )
-}
-
-/// The port's own need fits cash, and that of one step more does not, or is more than the request.
-fn is_the_largest(i: &Inputs) -> bool {
-    let ([requested, cash, step, price], filled) = (asked(i), ours(i));
-    let Costs { commission_bps: c, slippage_bps: s, min_commission, max_commission } = last(i);
-    let fits = |n: i64| port::tc_buy_cash_required_with_ceiling(n, price, c, s, min_commission, max_commission) <= cash;
-    if !takes(i) {
-        return filled == 0;
-    }
-    let more = filled.checked_add(step).filter(|more| *more <= requested);
-    filled % step == 0 && (0..=requested).contains(&filled) && fits(filled) && !more.is_some_and(fits)
 }
 
 /// Cut down, not to nothing.
@@ -256,33 +248,22 @@ pub const LEAVES: &[Leaf] = &[
         }),
         nanobook: Some(|n, i| {
             let [requested, cash, step, price] = asked(i);
-            let c = asked_of_the_rust(last(i), notional(requested, price)).expect("left out where it is none");
-            (n.largest_affordable_buy_qty)(requested, cash, step, price, c) as u64
+            let count = |c| (n.largest_affordable_buy_qty)(requested, cash, step, price, c);
+            of_the_rust(last(i)).map(count).max().unwrap_or(0) as u64
         }),
         left_out: &[
             ("costs that no account has", |i| !are_good(last(i))),
-            ("a ceiling that some notionals reach", |i| {
-                asked_of_the_rust(last(i), notional(i[0] as i64, i[3] as i64)).is_none()
-            }),
             ("the request fits, and nanobook gives it off the step", |i| {
                 let [requested, cash, step, price] = asked(i);
                 takes(i) && requested % step != 0 && need(requested, price, last(i)) <= cash
             }),
             ("nanobook does not end", |i| {
                 let [requested, cash, step, price] = asked(i);
-                requested == i64::MAX && step == 1 && cash > 0 && need(i64::MAX, price, last(i)) > cash
+                let searches = || of_the_rust(last(i)).any(|c| need(i64::MAX, price, c) > cash);
+                requested == i64::MAX && step == 1 && cash > 0 && searches()
             }),
         ],
         classes: PARTS,
-        ..PLAIN
-    },
-    Leaf {
-        name: "tc_largest_affordable_buy_qty_with_ceiling, by the port's own need",
-        takes: &[I64, I64, I64, I64, F64, F64, I64, I64],
-        gives: Bool,
-        draw: Some(affordable),
-        port: |i| u64::from(is_the_largest(i)),
-        rust: Some(|_| 1),
         ..PLAIN
     },
 ];

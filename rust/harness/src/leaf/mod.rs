@@ -12,7 +12,7 @@ mod shares;
 mod sizes;
 mod wide;
 
-pub use ceilings::{asked_of_the_rust, ceiling as draw_ceiling};
+pub use ceilings::{ceiling as draw_ceiling, flat_fee, free, notional};
 pub use costs::{are_good, charged, costs as costs_of, draw as draw_costs, paid};
 pub use figures::expected as expected_figures;
 pub use positions::{Numbers, is_sound, refusal, symbol as draw_symbol};

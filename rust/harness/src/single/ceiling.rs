@@ -1,22 +1,28 @@
-//! Single fills under a ceiling: beside the Rust, which has none, where the ceiling isn't reached or equals the floor; under any other
-//! written as text for the model to play (tools/model/fills.py).
+//! Single fills under a ceiling: beside the Rust, which has none and yet makes each such fill; and written as text for the model to
+//! play (tools/model/fills.py).
 
 use super::{Case, Class, Run, Spoiled, ours, places, refusals, with_ceiling};
-use crate::leaf::{are_good, charged, draw_ceiling, need, paid};
-use oracle::{Ask, Single};
+use crate::leaf::{are_good, charged, draw_ceiling, flat_fee, free, need, notional, paid};
+use oracle::{Ask, Filled, Single};
 use scenario::{Context, Costs, Kind, Random, Record, Symbol, text};
 use std::io::Write;
-use threshcoil_sys as port;
 
-pub const RUN: Run = Run {
-    name: "single under a ceiling",
-    draw: |random, sort, account| draw(random, sort, account, known),
-    fill: with_ceiling,
-    classes: CLASSES,
-};
+pub const RUN: Run = Run { name: "single under a ceiling", draw, fill: with_ceiling, classes: CLASSES };
 
-fn free(c: Costs) -> Costs {
-    Costs { max_commission: 0, ..c }
+/// Nanobook's own fill; under a ceiling, which it lacks, one of two that it makes: without the ceiling, or for a flat fee of it. The
+/// lesser is charged, and commission never falls as notional rises. Where that of what the flat fee fills reaches the ceiling, so
+/// does that of any larger buy, which then fits no better without it; else the plain fill is no smaller, and fits by a commission
+/// below the ceiling. A sale is not cut down, so its own commission decides.
+pub fn theirs(ask: &Ask, before: Single, paid: i64) -> Option<Filled> {
+    let (rust, ceiling) = (oracle::leaves()?, ask.costs.max_commission);
+    let filled = |costs: Costs| oracle::fill_alone(&Ask { costs, ..*ask }, &before);
+    if ceiling == 0 {
+        return filled(ask.costs);
+    }
+    let flat = filled(flat_fee(ask.costs))?;
+    let quantity = if ask.quantity > 0 { flat.record.map_or(0, |r| r.quantity) } else { ask.quantity };
+    let plain = (rust.compute_cost)(free(ask.costs), (rust.notional_of)(quantity, paid));
+    if plain >= ceiling { Some(flat) } else { filled(free(ask.costs)) }
 }
 
 impl Case {
@@ -24,9 +30,14 @@ impl Case {
         self.ask.costs.max_commission
     }
 
+    /// The commission of so many shares without a ceiling.
+    fn uncapped(&self, quantity: i64) -> i64 {
+        charged(free(self.ask.costs), notional(quantity, self.paid))
+    }
+
     /// The request's commission without a ceiling.
     fn today(&self) -> i64 {
-        charged(free(self.ask.costs), port::tc_notional_of(self.ask.quantity, self.paid))
+        self.uncapped(self.ask.quantity)
     }
 
     /// The ceiling is the floor, and the request's commission is above both.
@@ -34,14 +45,32 @@ impl Case {
         self.ceiling() == self.ask.costs.min_commission && self.ceiling() > 0 && self.today() > self.ceiling()
     }
 
-    fn not_reached(&self) -> bool {
-        self.ceiling() > 0 && !self.flat()
+    /// The ceiling is above the floor, and the request's commission is above both.
+    fn between(&self) -> bool {
+        self.ceiling() > self.ask.costs.min_commission && self.today() > self.ceiling()
     }
 
-    /// The cash after a sale of all for this commission would be below 0.
-    fn would_skip(&self, commission: i64) -> bool {
-        let proceeds = port::tc_notional_of(self.ask.quantity, self.paid);
-        i128::from(self.before.cash) + i128::from(proceeds) < i128::from(commission)
+    fn not_reached(&self) -> bool {
+        self.ceiling() > 0 && self.today() <= self.ceiling()
+    }
+
+    /// A buy that fits whole and would not without a ceiling.
+    fn whole_by_it(&self) -> bool {
+        let plain = need(self.ask.quantity, self.paid, free(self.ask.costs));
+        self.buys() && !self.trimmed() && plain > self.before.cash
+    }
+
+    /// A sale that is filled and would not be without a ceiling: cash and proceeds are less than its commission.
+    fn sold_by_it(&self) -> bool {
+        let proceeds = notional(self.ask.quantity, self.paid);
+        let skipped = i128::from(self.before.cash) + i128::from(proceeds) < i128::from(self.today());
+        self.ask.quantity < 0 && self.record.is_some() && skipped
+    }
+
+    /// Cut down to a part below the ceiling, and a step more would reach it.
+    fn next_reaches(&self) -> bool {
+        let more = |r: Record| self.uncapped(r.quantity.saturating_add(self.ask.quantity_step));
+        self.trimmed() && self.record.is_some_and(|r| r.cost < self.ceiling() && more(r) >= self.ceiling())
     }
 }
 
@@ -55,44 +84,31 @@ const CLASSES: &[Class] = &[
     ("sells, not reached", |c| c.not_reached() && c.ask.quantity < 0 && c.record.is_some()),
     ("skipped sells, not reached", |c| c.not_reached() && c.ask.quantity < 0 && c.record.is_none()),
     ("flat fees", |c| c.flat() && c.record.is_some()),
-    ("whole buys by the flat fee alone", |c| {
-        c.flat() && c.buys() && !c.trimmed() && need(c.ask.quantity, c.paid, free(c.ask.costs)) > c.before.cash
-    }),
+    ("whole buys by the flat fee alone", |c| c.flat() && c.whole_by_it()),
     ("trimmed to a part for a flat fee", |c| c.flat() && c.trimmed() && c.record.is_some()),
     ("of these at step 1,000,000", |c| c.flat() && c.part(1_000_000)),
     ("trimmed to nothing for a flat fee", |c| c.flat() && c.trimmed() && c.record.is_none()),
-    ("sells by the flat fee alone", |c| {
-        c.flat() && c.ask.quantity < 0 && c.record.is_some() && c.would_skip(c.today())
-    }),
+    ("sells by the flat fee alone", |c| c.flat() && c.sold_by_it()),
     ("skipped sells for a flat fee", |c| c.flat() && c.ask.quantity < 0 && c.record.is_none()),
+    ("pays the ceiling whole", |c| c.between() && !c.trimmed() && c.record.is_some()),
+    ("whole by the ceiling alone", |c| c.between() && c.whole_by_it()),
+    ("pays it trimmed to a part", |c| c.between() && c.trimmed() && c.record.is_some_and(|r| r.cost == c.ceiling())),
+    ("next step would reach it", |c| c.between() && c.next_reaches()),
+    ("trimmed to nothing under it", |c| c.between() && c.trimmed() && c.record.is_none()),
+    ("sale by the ceiling alone", |c| c.between() && c.sold_by_it()),
+    ("skipped sells under it", |c| c.between() && c.ask.quantity < 0 && c.record.is_none()),
     ("need saturates", |c| c.ceiling() > 0 && c.need == i64::MAX),
 ];
 
-/// A ceiling for which the Rust is an oracle: none, the floor, or one that the request's commission doesn't exceed.
-fn known(random: &mut Random, costs: Costs, notional: i64) -> i64 {
-    let today = charged(costs, notional);
-    match random.below(8) {
-        0 => 0,
-        1..=3 => costs.min_commission,
-        4 | 5 => today,
-        6 => today.saturating_add(1 + random.below(1_000) as i64),
-        _ => today.saturating_add((random.u64() >> 1) as i64),
-    }
-}
-
-/// Any good ceiling.
-fn any(random: &mut Random, costs: Costs, notional: i64) -> i64 {
-    match draw_ceiling(random, costs.min_commission, charged(costs, notional)) {
-        0 => 0,
-        drawn => drawn.max(costs.min_commission),
-    }
-}
-
-/// A fill under a ceiling, with cash about what it needs with it or without, or about where the ceiling is reached.
-fn draw(random: &mut Random, sort: u64, account: Single, ceiling: fn(&mut Random, Costs, i64) -> i64) -> (Ask, Single) {
+/// A fill under any good ceiling, with cash about what it needs with it or without, or about where the ceiling is reached.
+fn draw(random: &mut Random, sort: u64, account: Single) -> (Ask, Single) {
     let (mut ask, mut before) = super::draw(random, sort, account);
-    let notional = port::tc_notional_of(ask.quantity, paid(ask.costs, ask.quantity, ask.price));
-    ask.costs.max_commission = ceiling(random, ask.costs, notional);
+    let notional = notional(ask.quantity, paid(ask.costs, ask.quantity, ask.price));
+    let floor = ask.costs.min_commission;
+    ask.costs.max_commission = match draw_ceiling(random, floor, charged(ask.costs, notional)) {
+        0 => 0,
+        drawn => drawn.max(floor),
+    };
     let (cost, most) = (charged(ask.costs, notional), ask.costs.max_commission);
     let short = if ask.quantity > 0 { notional.saturating_add(cost) } else { cost.saturating_sub(notional) };
     let reached = (most as f64 * 10_000.0 / ask.costs.commission_bps) as i64;
@@ -131,7 +147,7 @@ pub fn emit(seed: u64, count: u64, out: &mut dyn Write) -> bool {
         if random.one_in(12) {
             (sort, account) = (random.below(4), Single::default());
         }
-        let (mut ask, before) = draw(&mut random, sort, account, any);
+        let (mut ask, before) = draw(&mut random, sort, account);
         // A plan has no order of 0, and the model is not asked of one.
         ask.quantity += i64::from(ask.quantity == 0);
         let (answer, after, record) = told(&ask, before);
