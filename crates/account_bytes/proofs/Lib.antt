@@ -4,4 +4,5 @@ pub mod Writing
 pub mod Lists
 pub mod SettingsKept
 pub mod AccountKept
+pub mod Sound
 pub mod Parts

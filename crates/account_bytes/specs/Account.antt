@@ -13,7 +13,7 @@ use Rattle.table.specs.declared.table.Table.{Table}
 use Rattle.account.specs.declared.account.Account.{Account}
 use Rattle.account.specs.declared.account.Counters.{Counters}
 use Rattle.account.specs.declared.account.Series.{Series}
-use Rattle.account.specs.Account.{withSeries}
+use Rattle.account.specs.Account.{soundAccount, withSeries}
 use Rattle.account.specs.Calls.{series, zeroAccount}
 use Rattle.account_bytes.specs.declared.account_words.ReadAccount.{ReadAccount}
 use Rattle.account_bytes.specs.Sizes.{cashAt, settingsFrom, orderCountAt, lastNotionalAt, trimmedCountAt, shortfallAt, recordCountAt, openCountAt, closedTotalAt, equityCountAt, returnCountAt, prevEquityAt, countAt, columnSize, symbolsFrom, quantitiesFrom, averagesFrom, realizedFrom, totalsFrom, accountLength}
@@ -103,6 +103,14 @@ holdAccount l = both (eqb (length l) accountLength) (both (areSettings settingsF
 
 unfoldable pub readAccount : List ℕ → ReadAccount
 readAccount l = pick (holdAccount l) (gotAccount (accountOf (wordsOf l))) noAccount
+
+-- the account that bytes hold, all zeros where they hold none
+abbrev pub accountIn : List ℕ → Account
+accountIn l = readAccount l .account
+
+-- "Account bytes of the wrong length answer 11", as do a bad mark or flag and a NaN, and an account that is not sound
+unfoldable pub soundIn : List ℕ → Bool
+soundIn l = both (readAccount l .good) (soundAccount (accountIn l))
 
 -- as found where the length is another
 unfoldable pub writtenAccount : Account → List ℕ → List ℕ

@@ -21,37 +21,17 @@ use Rattle.account.specs.declared.change.Changed.{Changed}
 use Rattle.account.specs.Settings.{goodSettings}
 use Rattle.account.specs.Account.{soundAccount, withSettings}
 use Rattle.account.specs.Calls.{answered, changed}
-use Rattle.account.proofs.SoundAccounts.{zero-unsound}
-use Rattle.account_bytes.specs.Sizes.{accountLength}
-use Rattle.account_bytes.specs.Account.{gotAccount, noAccount, accountOf, holdAccount, readAccount, writtenAccount}
-use Rattle.account_bytes.proofs.AccountKept.{good-long}
+use Rattle.account_bytes.specs.Account.{writtenAccount}
+use Rattle.account_bytes.proofs.Sound.{sound-in, written-sound}
 use Rattle.c_accounts.specs.Entries.{accountIn, soundIn, accountBytes, AccountTold, accountTold, answering}
 use Rattle.c_accounts.specs.Setters.{setIn}
 use Rattle.c_accounts.specs.Inner.Setters.{setterTold}
-
--- ---- bytes that hold no account
-good-or-zero : (t : Bool) (a : Account) → let r = pick t (gotAccount a) noAccount in both (r .good) (soundAccount (r .account)) ≡ soundAccount (r .account)
-good-or-zero true a = refl
-good-or-zero false a = sym zero-unsound
-
-pub sound-in : (b : List ℕ) → soundIn b ≡ soundAccount (accountIn b)
-unfolding soundIn readAccount
-sound-in b = good-or-zero (holdAccount b) (accountOf (wordsOf b))
-
--- the bytes of a sound account are as many as are written
-pub sound-length : (b : List ℕ) → soundIn b ≡ true → eqb (length b) accountLength ≡ true
-unfolding soundIn
-sound-length b e = eq-eqb (length b) accountLength (good-long b (both-true (readAccount b .good) (soundAccount (accountIn b)) e .0))
-
-pub written-sound : (a : Account) (b : List ℕ) → soundIn b ≡ true → writtenAccount a b ≡ accountBytes a
-unfolding writtenAccount accountBytes
-written-sound a b e = simp (sound-length b e)
 
 -- ---- a setter's answer, filed
 set-by : (t k g : Bool) (s : Settings) (b : List ℕ) → soundIn b ≡ t →
     setterTold k (pick t (pick g (answered Done (withSettings s (accountIn b))) (answered BadSetting (accountIn b))) (answered Unsound (accountIn b))) b
     ≡ pick t (pick (both k g) (answering Done (accountBytes (withSettings s (accountIn b)))) (answering BadSetting b)) (answering Unsound b)
-unfolding setterTold
+unfolding setterTold accountBytes
 set-by true true true s b e = ap (accountTold 0) (written-sound (withSettings s (accountIn b)) b e)
 set-by true true false s b e = refl
 set-by true false true s b e = refl

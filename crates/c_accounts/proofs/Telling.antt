@@ -26,7 +26,7 @@ use Rattle.c_accounts.specs.Entries.{accountIn, settingsIn, soundIn, acc
 use Rattle.c_accounts.specs.Inner.Entries.{unlessUnsound}
 use Rattle.c_accounts.specs.Queries.{queried, heldWords, settingsTold}
 use Rattle.c_accounts.specs.Inner.Queries.{tellIn}
-use Rattle.c_accounts.proofs.Filing.{sound-in}
+use Rattle.account_bytes.proofs.Sound.{sound-in}
 
 -- ---- words told, by each way out
 module _ (n : ℕ) (words out : List ℕ) where

@@ -16,7 +16,7 @@ use Rattle.table.proofs.Keyed.{both-true}
 use Rattle.call_lists.specs.Checks.{unless}
 use Rattle.account.specs.declared.account.Account.{Account}
 use Rattle.account.specs.Account.{soundAccount}
-use Rattle.account.proofs.SoundAccounts.{zero-unsound}
+use Rattle.account_bytes.proofs.Sound.{sound-in}
 use Rattle.word_bytes.specs.Words.{wordsOf}
 use Rattle.account_bytes.specs.Account.{gotAccount, noAccount, accountOf, holdAccount, readAccount}
 use Rattle.list_bytes.specs.declared.price.Prices.{Prices}
@@ -28,15 +28,6 @@ use Rattle.list_bytes.proofs.Lists.{price-symbols, price-prices}
 use Rattle.portfolio.specs.Answers.{isDone}
 use Rattle.c_queries.specs.Asked.{accountIn, soundIn, asked}
 use Rattle.c_queries.specs.Inner.Asked.{early}
-
--- ---- bytes that hold no account
-good-or-zero : (t : Bool) (a : Account) → let r = pick t (gotAccount a) noAccount in both (r .good) (soundAccount (r .account)) ≡ soundAccount (r .account)
-good-or-zero true a = refl
-good-or-zero false a = sym zero-unsound
-
-sound-in : (b : List ℕ) → soundIn b ≡ soundAccount (accountIn b)
-unfolding soundIn readAccount
-sound-in b = good-or-zero (holdAccount b) (accountOf (wordsOf b))
 
 -- ---- by soundness, and by the lengths
 made : (s t : Bool) → isDone (pick t Done (unless s Unsound TooLong)) ≡ true → t ≡ true

@@ -5,18 +5,9 @@ use mathlib.Core.List.{List}
 use Rattle.answer.specs.declared.Answer.{Answer}
 use Rattle.answer.specs.declared.Answer.the-variants.{TooLong, Unsound}
 use Rattle.table.specs.Keyed.{pick, both}
-use Rattle.account.specs.declared.account.Account.{Account}
-use Rattle.account.specs.Account.{soundAccount}
-use Rattle.account_bytes.specs.Account.{readAccount}
+pub use Rattle.account_bytes.specs.Account.{accountIn}
+unfoldable pub use Rattle.account_bytes.specs.Account.{soundIn}
 use Rattle.list_bytes.specs.Entries.{wholeList}
-
--- the account that bytes hold
-abbrev pub accountIn : List ℕ → Account
-accountIn b = readAccount b .account
-
--- "Account bytes of the wrong length answer 11", as do a bad mark or flag and a NaN, and an account that is not sound
-unfoldable pub soundIn : List ℕ → Bool
-soundIn b = both (readAccount b .good) (soundAccount (accountIn b))
 
 -- the query of an account at prices, unless its bytes are not sound, the prices no list within the bound, or what is lent has another length
 unfoldable pub asked : {X : Type 0} → (Answer → X) → List ℕ → List ℕ → Bool → X → X

@@ -10,7 +10,6 @@ use Rattle.table.specs.Keyed.{pick, both}
 use Rattle.fills.specs.declared.record.ExecutionKind.the-variants.{Rebalance}
 use Rattle.account.specs.declared.account.Account.{Account}
 use Rattle.account.specs.declared.change.Changed.{Changed}
-use Rattle.account_bytes.specs.Account.{readAccount}
 use Rattle.list_bytes.specs.Entries.{wholeList}
 use Rattle.list_bytes.specs.Lists.{symbolsIn, weightsIn, pricesIn}
 use Rattle.portfolio.specs.Rebalance.{Outcome, rebalanced}
@@ -19,8 +18,7 @@ use Rattle.queries.specs.Answers.{toldSnapshot}
 use Rattle.c_timed.specs.Made.{tooLong, Left, refusing, left, LeftBoth, refusingBoth, leftBoth}
 
 -- bytes that hold no account stand for all zeros, which is no sound account, so that each call is refused
-abbrev pub accountIn : List ℕ → Account
-accountIn b = readAccount b .account
+pub use Rattle.account_bytes.specs.Account.{accountIn}
 
 -- ---- a rebalance in period 0, with room for 64 records
 abbrev pub ofOutcome : Outcome → Changed

@@ -21,7 +21,7 @@ use Rattle.portfolio.specs.Answers.{isDone, hasRoom, closeAnswer, rebalanceAnsw
 use Rattle.portfolio.specs.Rebalance.{refused, rebalanced}
 use Rattle.portfolio.specs.Close.{positionClosed}
 use Rattle.portfolio.specs.Returns.{recorded}
-use Rattle.c_trades.specs.Asked.{accountIn, asked}
+use Rattle.c_trades.specs.Asked.{accountIn, soundIn, asked}
 use Rattle.c_trades.specs.Inner.Asked.{early, earlyOn}
 
 module _ {X : Type 0} (refuse : Answer → X) (call : X) where
@@ -38,7 +38,7 @@ module _ {X : Type 0} (refuse : Answer → X) (call : X) where
 
   pub asked-early : (b : List ℕ) (kind : ℕ) (w : Bool) → (soundAccount (accountIn b) ≡ false → call ≡ refuse Unsound)
       → asked refuse b kind w call ≡ pick (isDone (early (readAccount b) kind w)) call (refuse (early (readAccount b) kind w))
-  unfolding asked early
+  unfolding asked early soundIn
   asked-early b kind w h = by-tests (readAccount b .good) (soundAccount (accountIn b)) (goodKind kind) w h
 
 -- by whether the bytes hold an account

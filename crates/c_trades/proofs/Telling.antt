@@ -12,17 +12,12 @@ use Rattle.account.specs.declared.account.Account.{Account}
 use Rattle.account.specs.Account.{soundAccount}
 use Rattle.account_bytes.specs.Sizes.{accountLength}
 use Rattle.account_bytes.specs.Account.{accountWords, readAccount, writtenAccount}
-use Rattle.account_bytes.proofs.AccountKept.{good-long}
+use Rattle.account_bytes.proofs.Sound.{written-sound}
 use Rattle.list_bytes.specs.Records.{allBytes}
 use Rattle.portfolio.specs.Answers.{isDone}
 use Rattle.portfolio.specs.Rebalance.{Outcome}
 use Rattle.c_trades.specs.Asked.{accountIn, soundIn}
 use Rattle.c_trades.specs.Told.{tellTrade, tradeTold}
-
--- ---- "Account bytes of the wrong length answer 11": of a sound account's bytes the length is right
-pub account-bytes : (b : List ℕ) (a : Account) → soundIn b ≡ true → writtenAccount a b ≡ bytesOf (accountWords a)
-unfolding writtenAccount
-account-bytes b a e = simp (eq-eqb (length b) accountLength (good-long b (both-true (readAccount b .good) (soundAccount (accountIn b)) e .0)))
 
 -- ---- a call that trades
 module _ (o : Outcome) (b rs : List ℕ) where
@@ -33,4 +28,4 @@ module _ (o : Outcome) (b rs : List ℕ) where
   pub done-written : isDone (o .answer) ≡ true → soundIn b ≡ true
       → tradeTold o b rs ≡ tellTrade (256 * length (o .records)) (bytesOf (accountWords (o .account))) (allBytes (o .records) ++ drop (96 * length (o .records)) rs)
   unfolding tradeTold
-  done-written e h = simp (e, account-bytes b (o .account) h)
+  done-written e h = simp (e, written-sound (o .account) b h)

@@ -5,19 +5,10 @@ use mathlib.Core.List.{List}
 use lib.Dec.{eqb}
 use Rattle.answer.specs.declared.Answer.{Answer}
 use Rattle.answer.specs.declared.Answer.the-variants.{BadSetting, TooLong, Unsound}
-use Rattle.table.specs.Keyed.{pick, both}
+use Rattle.table.specs.Keyed.{pick}
 use Rattle.fills.specs.Records.{goodKind}
-use Rattle.account.specs.declared.account.Account.{Account}
-use Rattle.account.specs.Account.{soundAccount}
-use Rattle.account_bytes.specs.Account.{readAccount}
-
--- the account that bytes hold
-abbrev pub accountIn : List ℕ → Account
-accountIn b = readAccount b .account
-
--- "Account bytes of the wrong length answer 11", as do a bad mark or flag and a NaN, and an account that is not sound
-abbrev pub soundIn : List ℕ → Bool
-soundIn b = both (readAccount b .good) (soundAccount (accountIn b))
+pub use Rattle.account_bytes.specs.Account.{accountIn}
+unfoldable pub use Rattle.account_bytes.specs.Account.{soundIn}
 
 -- whether n bytes are a whole number of records
 abbrev pub wholeRun : ℕ → Bool

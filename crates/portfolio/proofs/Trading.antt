@@ -9,7 +9,7 @@ use lib.ListN.{length, length-take, set, replicate}
 use lib.IntN.{ℤ, pos}
 use borrow.Author.Tests.{leb-true}
 use Rattle.answer.specs.declared.Answer.the-variants.{Done}
-use Rattle.table.specs.Rows.{Cols}
+use Rattle.table.specs.Rows.{Cols, holding}
 use Rattle.fills.specs.declared.order.Book.{Book}
 use Rattle.fills.specs.declared.order.Order.{Order}
 use Rattle.fills.specs.declared.record.ExecutionKind.{ExecutionKind}
