@@ -16,7 +16,6 @@ use Rattle.portfolio.specs.Rebalance.{Outcome, rebalanced}
 use Rattle.portfolio.specs.Returns.{Recorded, recorded}
 use Rattle.queries.specs.Answers.{toldSnapshot}
 use Rattle.c_timed.specs.Made.{tooLong, Left, refusing, left, LeftBoth, refusingBoth, leftBoth}
-
 -- bytes that hold no account stand for all zeros, which is no sound account, so that each call is refused
 pub use Rattle.account_bytes.specs.Account.{accountIn}
 
