@@ -2,13 +2,13 @@
 ghost use mathlib.Core.Path.{_≡_};
 ghost use Prim.Native.Nat.{_≤_};
 ghost use lib.ListN.{length, take};
-ghost use Rattle.account_bytes.specs.Settings.{flagWord};
 ghost use Rattle.queries.specs.Answers.{toldUnpriced};
 ghost use Rattle.c_queries.specs.Told.{tellQuery};
 ghost use Rattle.c_queries.specs.Reports.{unpricedTold, unpricedIn};
 use crate::asked::account_in;
 use crate::asked::early;
 use account::Account;
+use account_bytes::flag_word;
 use answer::is_done;
 use list_bytes::Prices;
 use list_bytes::read_prices;
@@ -27,12 +27,6 @@ fn unpriced_at(p: Prices, a: Account) -> Unpriced
     unpriced_holding(a, &symbol[..n], &price[..n])
 }
 
-fn mark_of(present: bool) -> u64
-    ensures { λ r. ⌜ r ≡ flagWord present ⌝ }
-{
-    if present { 1 } else { 0 }
-}
-
 fn put_unpriced(u: Unpriced, out: &mut [u8]) -> u64
     requires { ⌜ length (now out) ≡ 16 ⌝ }
     ensures { λ r. ⌜ tellQuery r (now (out .exit)) ≡ unpricedTold u (now (out .entry)) ⌝ }
@@ -41,7 +35,7 @@ fn put_unpriced(u: Unpriced, out: &mut [u8]) -> u64
     if !is_done(answer) {
         return answer::number(answer);
     }
-    put_word(out, 0, mark_of(u.present));
+    put_word(out, 0, flag_word(u.present));
     put_symbol(out, 1, u.symbol);
     0
 }

@@ -21,8 +21,8 @@ returns : tie.Need-returns
 unfolding unpricedTold
 returns c = simp (sym (c .before .before .is-done .ensures) ∙ not-true _ (c .before .if1 .taken), c .number .ensures)
 
-mark-of-requires : tie.Need-mark-of-requires
-mark-of-requires c κs = search needs
+flag-word-requires : tie.Need-flag-word-requires
+flag-word-requires c κs = search needs
 
 put-word-requires : tie.Need-put-word-requires
 put-word-requires c κs = search needs
@@ -43,7 +43,7 @@ returns-2 c =
     let out = s .args .out .now in
     let u = s .args .u in
     let d = sym (q .before .is-done .ensures) ∙ not-false _ (q .if1 .left) in
-    let m = p .put-word .ensures ∙ ap (putWord out 0) (p .before .mark-of .ensures) in
+    let m = p .put-word .ensures ∙ ap (putWord out 0) (p .before .flag-word .ensures) in
     let w : t .put-symbol .last .0 ≡ bytesOf (flagWord (u .present) ∷ turned (u .symbol) ∷ []) =
     t .put-symbol .ensures ∙ ap (λ (k : List ℕ). putWord k 1 (turned (u .symbol))) m ∙ two-puts out (flagWord (u .present)) (turned (u .symbol)) (s .pre) in
     simp (d, w)
@@ -55,7 +55,7 @@ put-unpriced-spec =
     is-done-requires
     number-requires
     returns
-    mark-of-requires
+    flag-word-requires
     put-word-requires
     put-symbol-requires
     same-length
