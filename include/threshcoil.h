@@ -21,6 +21,8 @@ extern "C" {
 #define TC_MAX_TARGETS 64
 #define TC_MAX_PRICES 128
 #define TC_MAX_RETURNS 4096
+#define TC_MAX_ACCOUNTS 32 /* in a group */
+#define TC_MAX_PARTS 64    /* of a period */
 
 /* The words of settings, eight bytes each, by their places. The ceiling, TC_MAX_COMMISSION_AT, is 0 for none, or at least the
  * floor, TC_MIN_COMMISSION_AT. The last two are spare: 0. */
@@ -106,7 +108,10 @@ enum tc_answer {
     TC_NOT_HELD = 9,        /* a close names an absent or flat position */
     TC_BUFFER_FULL = 10,    /* the equity or return buffer has no free place */
     TC_UNSOUND = 11,        /* the account is not sound, or its bytes have another length */
-    TC_BAD_SERIES = 12      /* a return series is empty or has a non-finite member */
+    TC_BAD_SERIES = 12,     /* a return series is empty or has a non-finite member */
+    TC_BAD_GROUP = 13,      /* a group is empty or over TC_MAX_ACCOUNTS */
+    TC_NO_FIRST_SUM = 14,   /* a part's first sum is not positive */
+    TC_OUT_OF_RANGE = 15    /* a change or a finished sum of a group leaves int64_t */
 };
 #define TC_ANSWER(r) ((r) & 0xff)
 #define TC_COUNT(r) ((r) >> 8)
@@ -159,6 +164,16 @@ uint64_t tc_record_return(uint8_t *account, size_t account_bytes, const uint8_t 
  * Kelly) and three counts (all, winning and losing returns) */
 uint64_t tc_figures(const double *returns, size_t return_count, double *rates, size_t rate_places, uint64_t *counts,
                     size_t count_places);
+
+/* ---- the house return: one figure for a group of accounts over the parts of a period. Marks (1: there, 0: absent) and equities
+ * stand part by part, in a part account by account, for each its first end and its last: 2 * accounts * parts of either. Numbers
+ * behind a mark 0 are not looked at. Rates are the figure and each part's growth, 1 + parts places; changes the group's and each
+ * account's, 1 + accounts places; firsts and gains each part's first sum and summed change, parts places each. Refusals in this
+ * order: 13, 6 (parts, or another length anywhere), 1 (a mark above 1), 15, 14. */
+uint64_t tc_house_return(uint64_t accounts, uint64_t parts, const uint8_t *marks, size_t mark_count,
+                         const int64_t *equities, size_t equity_count, double *rates, size_t rate_places,
+                         int64_t *changes, size_t change_places, int64_t *firsts, size_t first_places,
+                         int64_t *gains, size_t gain_places);
 
 /* ---- leaves */
 

@@ -10,6 +10,20 @@ crate::entries! {
      and three counts (all, winning and losing returns)."
     tc_figures(returns: &[f64], rates: &mut [f64], counts: &mut [u64]);
 
+    "The house return of a group over the parts of a period. Marks, 1 for an equity that is there and 0 for an absent one, and equities \
+     stand part by part, in a part account by account, first end and last. The rates are the figure and each part's growth; the changes \
+     the group's and each account's; firsts and gains each part's first sum and summed change."
+    tc_house_return(
+        accounts: u64,
+        parts: u64,
+        marks: &[u8],
+        equities: &[i64],
+        rates: &mut [f64],
+        changes: &mut [i64],
+        firsts: &mut [i64],
+        gains: &mut [i64]
+    );
+
     "One fill as an account of at most one position makes it, without a ceiling. The money is cash, shortfall and the position's \
      quantity, average, realized profit and total cost; the tallies are the counts of trimmed fills and of records, before and \
      after; a record takes four words and eight numbers, and is counted."

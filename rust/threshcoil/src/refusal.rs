@@ -4,7 +4,7 @@ use std::fmt;
 
 /// A call that was not done. The account and every lent place are as they were.
 ///
-/// Where several apply, the one told is the first of: 11, 1, 6, 2, 3, 5, 4, 8, 7, 9, 10, 12.
+/// Where several apply, the one told is the first of: 11, 1, 6, 2, 3, 5, 4, 8, 7, 9, 10, 12; of a group: 13, 6, 15, 14.
 ///
 /// ```
 /// use threshcoil::{Refusal, Symbol};
@@ -25,7 +25,7 @@ pub enum Refusal {
     BadPrice,
     /// 5: a weight is not finite.
     BadWeight,
-    /// 6: more than 64 targets, 128 prices or 4,096 returns.
+    /// 6: more than 64 targets, 128 prices or 4,096 returns, or parts of a period outside 1 to 64.
     TooLong,
     /// 7: held symbols, flat ones too, and target symbols together exceed 64.
     TooMany,
@@ -39,11 +39,17 @@ pub enum Refusal {
     Unsound,
     /// 12: a return series is empty or has a member that is not finite.
     BadSeries,
+    /// 13: a group of accounts is empty or over 32.
+    BadGroup,
+    /// 14: a part's first sum is not positive.
+    NoFirstSum,
+    /// 15: a change or a finished sum of a group leaves the signed 64-bit range.
+    OutOfRange,
 }
 
 use Refusal::*;
 
-const ALL: [(Refusal, &str); 12] = [
+const ALL: [(Refusal, &str); 15] = [
     (BadSetting, "a setting or opening cash is bad"),
     (BadSymbol, "a symbol is bad"),
     (Twice, "a symbol stands twice in one list"),
@@ -56,6 +62,9 @@ const ALL: [(Refusal, &str); 12] = [
     (BufferFull, "the equity or return buffer has no free place"),
     (Unsound, "the account is not sound"),
     (BadSeries, "a return series is empty or has a non-finite member"),
+    (BadGroup, "a group of accounts is empty or over 32"),
+    (NoFirstSum, "a part's first sum is not positive"),
+    (OutOfRange, "a change or a finished sum leaves the signed 64-bit range"),
 ];
 
 impl Refusal {
@@ -64,7 +73,7 @@ impl Refusal {
         self as u64
     }
 
-    /// The refusal of a number from 1 to 12.
+    /// The refusal of a number from 1 to 15.
     pub fn of_number(number: u64) -> Option<Refusal> {
         ALL.iter().map(|(refusal, _)| *refusal).find(|refusal| refusal.number() == number)
     }
