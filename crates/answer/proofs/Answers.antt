@@ -7,12 +7,12 @@ use native.Mathlib.Omega.{arith}
 use lib.ListN.{getD}
 use borrow.Author.Tests.{eqb-true}
 use Rattle.answer.specs.declared.Answer.{Answer}
-use Rattle.answer.specs.declared.Answer.the-variants.{Done, BadSetting, BadSymbol, Twice, BadPrice, BadWeight, TooLong, TooMany, NoRecordRoom, NotHeld, BufferFull, Unsound, BadSeries}
+use Rattle.answer.specs.declared.Answer.the-variants.{Done, BadSetting, BadSymbol, Twice, BadPrice, BadWeight, TooLong, TooMany, NoRecordRoom, NotHeld, BufferFull, Unsound, BadSeries, BadGroup, NoFirstSum, OutOfRange}
 use Rattle.answer.specs.Numbers.{numberOf, isDone, unless, orLater}
 
 -- the answers in the order of their numbers
 abbrev table : List Answer
-table = Done ∷ BadSetting ∷ BadSymbol ∷ Twice ∷ BadPrice ∷ BadWeight ∷ TooLong ∷ TooMany ∷ NoRecordRoom ∷ NotHeld ∷ BufferFull ∷ Unsound ∷ BadSeries ∷ []
+table = Done ∷ BadSetting ∷ BadSymbol ∷ Twice ∷ BadPrice ∷ BadWeight ∷ TooLong ∷ TooMany ∷ NoRecordRoom ∷ NotHeld ∷ BufferFull ∷ Unsound ∷ BadSeries ∷ BadGroup ∷ NoFirstSum ∷ OutOfRange ∷ []
 
 in-its-place : (a : Answer) → getD table (numberOf a) Done ≡ a
 in-its-place Done = refl
@@ -28,6 +28,9 @@ in-its-place NotHeld = refl
 in-its-place BufferFull = refl
 in-its-place Unsound = refl
 in-its-place BadSeries = refl
+in-its-place BadGroup = refl
+in-its-place NoFirstSum = refl
+in-its-place OutOfRange = refl
 
 pub number-tells : (a b : Answer) → numberOf a ≡ numberOf b → a ≡ b
 number-tells a b e = sym (in-its-place a) ∙ ap (λ n. getD table n Done) e ∙ in-its-place b

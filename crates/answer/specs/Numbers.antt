@@ -1,9 +1,9 @@
--- Document 01, 'Answer numbers': the number of each answer, given exactly when the table says, and how one check follows another.
+-- Document 01, 'Answer numbers', and the refusals of document 02's requests: the number of each answer, given exactly when the table or the request says, and how one check follows another.
 use Prim.Native.Nat.{ℕ}
 use mathlib.Core.Bool.{Bool}
 use lib.Dec.{eqb}
 use Rattle.answer.specs.declared.Answer.{Answer}
-use Rattle.answer.specs.declared.Answer.the-variants.{Done, BadSetting, BadSymbol, Twice, BadPrice, BadWeight, TooLong, TooMany, NoRecordRoom, NotHeld, BufferFull, Unsound, BadSeries}
+use Rattle.answer.specs.declared.Answer.the-variants.{Done, BadSetting, BadSymbol, Twice, BadPrice, BadWeight, TooLong, TooMany, NoRecordRoom, NotHeld, BufferFull, Unsound, BadSeries, BadGroup, NoFirstSum, OutOfRange}
 use Rattle.answer.specs.Choice.{pick}
 
 abbrev pub numberOf : Answer → ℕ
@@ -33,6 +33,12 @@ numberOf BufferFull = 10
 numberOf Unsound = 11
 -- a return series is empty or has a non-finite member
 numberOf BadSeries = 12
+-- group empty or over 32
+numberOf BadGroup = 13
+-- a part's first sum is not positive
+numberOf NoFirstSum = 14
+-- a change or a finished sum (not a partial one) leaves i64
+numberOf OutOfRange = 15
 
 -- "0 done"
 abbrev pub isDone : Answer → Bool

@@ -1,4 +1,4 @@
-// The answers of document 01's table.
+// The answers of document 01's table, and those that document 02 adds.
 ghost use mathlib.Core.Path.{_≡_};
 ghost use Rattle.answer.specs.Numbers.{numberOf, isDone};
 
@@ -16,9 +16,12 @@ pub enum Answer {
     BufferFull,
     Unsound,
     BadSeries,
+    BadGroup,
+    NoFirstSum,
+    OutOfRange,
 }
 
-// The number that document 01 gives an answer.
+// The number that the documents give an answer.
 pub fn number(a: Answer) -> u64
     ensures { λ r. ⌜ r ≡ numberOf a ⌝ }
 {
@@ -36,6 +39,9 @@ pub fn number(a: Answer) -> u64
         Answer::BufferFull => 10,
         Answer::Unsound => 11,
         Answer::BadSeries => 12,
+        Answer::BadGroup => 13,
+        Answer::NoFirstSum => 14,
+        Answer::OutOfRange => 15,
     }
 }
 

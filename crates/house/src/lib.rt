@@ -1,0 +1,124 @@
+// One figure for a group of accounts: document 02, "House return over a group of accounts".
+ghost use mathlib.Core.Path.{_≡_};
+ghost use Prim.Native.Nat.{_*_, _≤_};
+ghost use lib.ListN.{length};
+ghost use Rattle.house.specs.Places.{groupIn, goodMarks};
+ghost use Rattle.house.specs.House.{earlyAnswer, refusal, houseOfGroup, houseOf};
+mod entry;
+mod growth;
+mod part;
+mod sum;
+mod total;
+use answer::Answer;
+use answer::is_done;
+use crate::growth::grow;
+use crate::part::sum_parts;
+use crate::total::sum_accounts;
+use crate::total::sum_group;
+
+pub const MOST_ACCOUNTS: u64 = 32;
+
+pub const MOST_PARTS: u64 = 64;
+
+// The report: after a refusal all but the answer is 0. The first places of a column are used, one for each account or each part.
+pub struct House {
+    pub answer: Answer,
+    pub figure: f64,
+    pub change: i64,
+    pub changes: [i64; 32],
+    pub firsts: [i64; 64],
+    pub gains: [i64; 64],
+    pub growths: [f64; 64],
+}
+
+fn refused(answer: Answer) -> House
+    ensures { λ r. ⌜ r ≡ refusal answer ⌝ }
+{
+    House {
+        answer,
+        figure: 0.0,
+        change: 0,
+        changes: [0i64; 32],
+        firsts: [0i64; 64],
+        gains: [0i64; 64],
+        growths: [0.0; 64],
+    }
+}
+
+// No mark above 1: every bit of the marks but the lowest is 0.
+fn good_marks(marks: &[u8]) -> bool
+    ensures { λ r. ⌜ r ≡ goodMarks (now (marks .entry)) ⌝ }
+{
+    let mut good = true;
+    let mut i = 0usize;
+    while i < marks.len() {
+        good = good & (marks[i] <= 1);
+        i += 1;
+    }
+    good
+}
+
+// What is asked before any sum.
+fn early(accounts: u64, parts: u64, marks: &[u8], equities: &[i64]) -> Answer
+    ensures { λ r. ⌜ r ≡ earlyAnswer accounts parts (now (marks .entry)) (now (equities .entry)) ⌝ }
+{
+    if accounts == 0 || accounts > MOST_ACCOUNTS {
+        return Answer::BadGroup;
+    }
+    if parts == 0 || parts > MOST_PARTS {
+        return Answer::TooLong;
+    }
+    let ends = 2 * (parts * accounts);
+    if marks.len() as u64 != ends || equities.len() as u64 != ends {
+        return Answer::TooLong;
+    }
+    if good_marks(marks) {
+        return Answer::Done;
+    }
+    Answer::BadSetting
+}
+
+// 15 is told before 14, wherever either stands: all sums are taken before a first sum is asked for.
+fn report_of(n: usize, m: usize, marks: &[u8], equities: &[i64]) -> House
+    requires { ⌜ (n ≤ 32) × (m ≤ 64) × (length (now marks) ≡ 2 * (m * n)) × (length (now equities) ≡ 2 * (m * n)) ⌝ }
+    ensures { λ r. ⌜ r ≡ houseOfGroup n m (groupIn n (now (marks .entry)) (now (equities .entry))) ⌝ }
+{
+    let sums = sum_parts(n, m, marks, equities);
+    let hi = sums.hi;
+    let lo = sums.lo;
+    let firsts = sums.firsts;
+    let gains = sums.gains;
+    let totals = sum_accounts(n, m, &hi, &lo);
+    let group = sum_group(m, &gains);
+    let fits = sums.fits & totals.fits & group.fits;
+    if !fits {
+        return refused(Answer::OutOfRange);
+    }
+    let grown = grow(m, &firsts, &gains);
+    if !grown.positive {
+        return refused(Answer::NoFirstSum);
+    }
+    let changes = totals.changes;
+    let growths = grown.growths;
+    House {
+        answer: Answer::Done,
+        figure: grown.figure,
+        change: group.value,
+        changes,
+        firsts,
+        gains,
+        growths,
+    }
+}
+
+// Marks and equities stand part by part, in a part account by account, for each its first end and its last. A mark is 1 where the equity is there and 0
+// where it is absent, and then the number is not looked at.
+pub fn house_return(accounts: u64, parts: u64, marks: &[u8], equities: &[i64]) -> House
+    ensures { λ r. ⌜ r ≡ houseOf accounts parts (now (marks .entry)) (now (equities .entry)) ⌝ }
+{
+    let answer = early(accounts, parts, marks, equities);
+    if !is_done(answer) {
+        return refused(answer);
+    }
+    report_of(accounts as usize, parts as usize, marks, equities)
+}
