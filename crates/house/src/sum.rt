@@ -39,7 +39,7 @@ pub(crate) fn start(n: u64) -> Wide
 
 // "The low words are added modulo 2^64 and the carry kept": their sum passed the top exactly where it is below either of them.
 pub(crate) fn plus(w: Wide, x: u64) -> Wide
-    requires { ⌜ valueOf w < 2 ^ 127 ⌝ }
+    requires { ⌜ w .hi < 2 ^ 32 ⌝ }
     ensures { λ r. ⌜ r ≡ wide (valueOf w + x) ⌝ }
 {
     let lo = std::num::wrapping_add_u64(w.lo, x);

@@ -1,0 +1,3 @@
+-- Laws of the definitions of this crate.
+pub mod Raised
+pub mod Columns
