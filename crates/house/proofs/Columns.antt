@@ -14,9 +14,9 @@ use Rattle.house.specs.Group.{every}
 use Rattle.house.specs.Places.{each, column}
 
 -- ---- tests
-pub every-on : (i : ℕ) (t : ℕ → Bool) → every i t && t i ≡ every (i + 1) t
+pub every-on : (t : ℕ → Bool) (i : ℕ) (b x : Bool) → b ≡ every i t → x ≡ t i → b && x ≡ every (i + 1) t
 unfolding every
-every-on i t = rw add-one
+every-on t i b x e g = rw (e, g, add-one i)
 
 -- what holds below n and at n holds below n + 1
 pub below-or-at : (Q : ℕ → Type 0) (n i : ℕ) → i < suc n → (i < n → Q i) → Q n → Q i
@@ -103,3 +103,7 @@ module _ {A : Type 0} where
           go false p =
               let d : (i ≡ n → ⊥) = eqb-false i n p in
               getD-set-other (column room rest n f) n i (f n) rest d ∙ before ∙ other d (ltb i n) refl ∙ sym there
+
+  -- one more place filled
+  pub filled-on : (room : ℕ) (rest : A) (f : ℕ → A) (i : ℕ) (l : List A) (v : A) → i < room → l ≡ column room rest i f → v ≡ f i → set l i v ≡ column room rest (i + 1) f
+  filled-on room rest f i l v h e g = rw (e, g) (column-on room rest i f h)

@@ -3,6 +3,7 @@ use Prim.Native.Nat.{ℕ, zero, suc, _+_, _*_, _-_, _/_, _%_, _^_, _≤_, _<_}
 use mathlib.Core.Path.{_≡_, refl, sym, ap, _∙_}
 use mathlib.Core.Bool.{Bool, true, false, cond, _&&_}
 use native.Mathlib.Omega.{arith}
+use native.Mathlib.Numerals.{add-one}
 use lib.Dec.{eqb, leb, ltb}
 use lib.IntN.{ℤ, pos, negsuc, _+ℤ_, _-ℤ_}
 use lib.Signed.{leZ}
@@ -10,6 +11,9 @@ use borrow.Author.Tests.{ltb-true, ltb-false, leb-true, le-leb, lt-ltb, le-ltb, 
 use mir.Syntax.{w64}
 use mir.Val.{SFits}
 use Rattle.sums.proofs.Ints.{P, N, P-add, P-sub, P-fits, N-fits, P-pos, N-pos, P-negsuc, N-negsuc, le-yes, le-is, fits-of, eq-of}
+use Rattle.sums.specs.declared.Wide.{Wide}
+use Rattle.sums.specs.Wide.{valueOf, wide}
+use Rattle.sums.proofs.TwoWords.{valueOf-wide, valueOf-words}
 use Rattle.answer.proofs.Choice.{both-true}
 use Rattle.house.specs.Group.{inI64, sumTo}
 use Rattle.house.specs.Inner.Raised.{half, raised, lowered, between, near, sumN, begun, summed, ended}
@@ -100,10 +104,35 @@ unfolding sumN
 sumN-cong zero f g e = refl
 sumN-cong (suc n) f g e = omega (arith, sumN-cong n f g (λ a h. e a (omega arith)), e n (omega arith))
 
-pub sumN-most : (n : ℕ) (f : ℕ → ℕ) → ((a : ℕ) → f a < 2 ^ 64) → sumN n f ≤ n * 2 ^ 64
-unfolding sumN
-sumN-most zero f h = omega arith
-sumN-most (suc n) f h = omega (arith, sumN-most n f h, h n)
+-- At most i words come to s: shut, since its numbers are too long for what else a loop asks of `omega`.
+unfoldable pub Under : ℕ → ℕ → Type 0
+Under s i = s ≤ i * 2 ^ 64
+
+-- the first i of n words in a sum, as the loops have it
+pub record Holds (n : ℕ) (f : ℕ → ℕ) (i : ℕ) (w : Wide) : Type 0 where
+  pub is : w ≡ wide (begun n + sumN i f)
+  pub most : Under (sumN i f) i
+
+module _ (n : ℕ) (f : ℕ → ℕ) where
+  pub holds-first : (w : Wide) → w ≡ wide (begun n) → Holds n f 0 w
+  unfolding sumN Under
+  holds-first w e = record { is = e ∙ ap wide (omega arith); most = omega arith }
+
+  pub holds-low : (i : ℕ) (w : Wide) → n ≤ 64 → i ≤ n → Holds n f i w → w .hi < 2 ^ 32
+  unfolding Under
+  holds-low i w m l h =
+      let v : w .hi * 2 ^ 64 + w .lo ≡ begun n + sumN i f = sym (valueOf-words w) ∙ ap valueOf (h .is) ∙ valueOf-wide _ in
+      omega (arith, h .most)
+
+  pub holds-on : (i : ℕ) (w r : Wide) (x : ℕ) → Holds n f i w → x ≡ f i → x < 2 ^ 64 → r ≡ wide (valueOf w + x) → Holds n f (i + 1) r
+  unfolding sumN Under
+  holds-on i w r x h e l q =
+      let v : valueOf w ≡ begun n + sumN i f = ap valueOf (h .is) ∙ valueOf-wide _ in
+      record { is = q ∙ ap wide (rw (add-one i) (omega arith)); most = rw (add-one i) (omega (arith, h .most)) }
+
+  -- all of them
+  pub holds-last : (i : ℕ) (w : Wide) → i ≡ n → Holds n f i w → valueOf w ≡ summed n f
+  holds-last i w e h = ap valueOf (h .is) ∙ valueOf-wide _ ∙ rw e
 
 pub sum-parts : (n : ℕ) (f : ℕ → ℤ) → ((a : ℕ) → a < n → SFits w64 (f a)) → P (sumTo n f) + n * half ≡ sumN n (λ a. raised (f a)) + N (sumTo n f)
 unfolding sumN sumTo P N

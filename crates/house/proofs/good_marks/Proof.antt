@@ -1,37 +1,45 @@
+-- The invariant: what was found of the marks before the place.
+use Prim.Native.Nat.{_≤_, _-_}
+use mathlib.Core.Path.{_≡_, refl, sym, ap, _∙_}
+use native.Mathlib.Omega.{arith}
+use borrow.Author.Needs.{needs}
+use mathlib.Core.Bool.{_&&_}
+use lib.Dec.{leb}
+use lib.ListN.{length, getD}
+use Rattle.house.specs.Group.{every}
+use Rattle.house.proofs.Columns.{every-on}
 use Rattle.house.proofs.good_marks.Statement.{statement}
 use Rattle.house.proofs.good_marks.Tie as tie
-use Rattle.house.proofs.good_marks.Reads as reads
-use Rattle.house.proofs.good_marks.Lts as lts
 
 abbrev Inv-loop : tie.InvT-loop
-Inv-loop marks good₀ i₀ good i = ?
+Inv-loop marks good₀ i₀ good i = (i ≤ length marks) × (good ≡ every i (λ k. leb (getD marks k 0) 1))
 
 abbrev μ-loop : tie.MeasureT-loop
-μ-loop marks good₀ i₀ good i = ?
+μ-loop marks good₀ i₀ good i = length marks - i
 
--- src/lib.rt:54:5
 loop-holds : tie.Need-loop-holds Inv-loop μ-loop
-loop-holds c = ?
+unfolding every
+loop-holds c = (omega arith, refl)
 
--- src/lib.rt:55:24
 shared-slice-read-good : tie.Need-shared-slice-read-good Inv-loop μ-loop
-shared-slice-read-good c = ?
+shared-slice-read-good c = search needs
 
--- src/lib.rt:56:9
 add-i : tie.Need-add-i Inv-loop μ-loop
-add-i c = ?
+add-i c = omega arith
 
--- src/lib.rt:54:5
 loop-less : tie.Need-loop-less Inv-loop μ-loop
-loop-less c = ?
+loop-less c = omega arith
 
--- src/lib.rt:54:5
 loop-again : tie.Need-loop-again Inv-loop μ-loop
-loop-again c = ?
+loop-again c =
+    let l = c .before .before .loop in
+    (omega (arith, c .before .loop-test .taken), every-on _ (l .i) _ _ (l .inv .1) refl)
 
--- src/lib.rt:49:1
 returns : tie.Need-returns Inv-loop μ-loop
-returns c = ?
+returns c =
+    let l = c .before .loop in
+    let e : l .i ≡ length (c .before .before .args .marks .now) = omega (arith, c .loop-test .left) in
+    l .inv .1 ∙ rw e
 
 pub good-marks-spec : {M : Type 1} → statement M
 good-marks-spec =

@@ -1,61 +1,62 @@
+-- The invariant: the sum of the changes before the place.
+use Prim.Native.Nat.{_≤_, _-_}
+use mathlib.Core.Path.{_≡_, ap, _∙_}
+use native.Mathlib.Omega.{arith}
+use borrow.Author.Needs.{needs}
+use lib.IntN.{pos}
+use lib.ListN.{getD}
+use mir.Syntax.{w64}
+use mir.ValLaws.{toZ-ofZ}
+use Rattle.house.specs.Inner.Raised.{raised, ended}
+use Rattle.house.proofs.Raised.{Holds, holds-first, holds-low, holds-on, holds-last}
 use Rattle.house.proofs.total.sum_group.Statement.{statement}
 use Rattle.house.proofs.total.sum_group.Tie as tie
-use Rattle.house.proofs.total.sum_group.Reads as reads
-use Rattle.house.proofs.total.sum_group.Lts as lts
-use Rattle.house.proofs.sum.finish.Reads as finish-reads
-use Rattle.house.proofs.sum.plus.Reads as plus-reads
-use Rattle.house.proofs.sum.raise.Reads as raise-reads
-use Rattle.house.proofs.sum.start.Reads as start-reads
 
 abbrev Inv-loop : tie.InvT-loop
-Inv-loop m gains sum₀ p₀ sum p = ?
+Inv-loop m gains sum₀ p₀ sum p = (p ≤ m) × Holds m (λ i. raised (getD gains i (pos 0))) p sum
 
 abbrev μ-loop : tie.MeasureT-loop
-μ-loop m gains sum₀ p₀ sum p = ?
+μ-loop m gains sum₀ p₀ sum p = m - p
 
--- src/total.rt:47:9
 start-requires : tie.Need-start-requires Inv-loop μ-loop
-start-requires c κs = ?
+start-requires c κs = c .pre
 
--- src/total.rt:49:5
 loop-holds : tie.Need-loop-holds Inv-loop μ-loop
-loop-holds c = ?
+loop-holds c = (omega arith, holds-first _ _ _ (c .start .ensures))
 
--- src/total.rt:50:31
 mul-raise : tie.Need-mul-raise Inv-loop μ-loop
-mul-raise c = ?
+mul-raise c = search needs
 
--- src/total.rt:50:31
 element-copy-out-raise : tie.Need-element-copy-out-raise Inv-loop μ-loop
-element-copy-out-raise c = ?
+element-copy-out-raise c = omega arith
 
--- src/total.rt:50:25
 raise-requires : tie.Need-raise-requires Inv-loop μ-loop
-raise-requires c κs = ?
+raise-requires c κs = search needs
 
--- src/total.rt:50:9
 plus-requires : tie.Need-plus-requires Inv-loop μ-loop
-plus-requires c κs = ?
+plus-requires c κs =
+    let l = c .before .before .before .loop in
+    holds-low _ _ (l .p) (l .sum) (c .before .before .before .before .before .pre) (l .inv .0) (l .inv .1)
 
--- src/total.rt:51:9
 add-p : tie.Need-add-p Inv-loop μ-loop
-add-p c = ?
+add-p c = omega arith
 
--- src/total.rt:49:5
 loop-less : tie.Need-loop-less Inv-loop μ-loop
-loop-less c = ?
+loop-less c = omega arith
 
--- src/total.rt:49:5
 loop-again : tie.Need-loop-again Inv-loop μ-loop
-loop-again c = ?
+loop-again c =
+    let l = c .before .before .before .before .loop in
+    (omega arith, holds-on _ _ (l .p) (l .sum) _ _ (l .inv .1) (c .before .raise .ensures ∙ ap raised (toZ-ofZ w64 _ (search needs))) (omega (arith, c .before .raise .ok)) (c .plus .ensures))
 
--- src/total.rt:53:5
 finish-requires : tie.Need-finish-requires Inv-loop μ-loop
-finish-requires c κs = ?
+finish-requires c κs = search needs
 
--- src/total.rt:43:1
 returns : tie.Need-returns Inv-loop μ-loop
-returns c = ?
+returns c =
+    let l = c .before .before .loop in
+    let e : l .p ≡ c .before .before .before .before .args .m = omega (arith, c .before .loop-test .left) in
+    c .finish .ensures ∙ ap (ended _) (holds-last _ _ (l .p) (l .sum) e (l .inv .1))
 
 pub sum-group-spec : {M : Type 1} → statement M
 sum-group-spec =
