@@ -1,3 +1,4 @@
 -- Laws of the definitions of this crate.
 pub mod Raised
 pub mod Columns
+pub mod Adding

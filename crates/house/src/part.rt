@@ -1,12 +1,12 @@
 // The sums of each part, and with them those of each account.
-ghost use Prim.Native.Nat.{ℕ, _+_, _*_, _≤_, _<_, _^_};
+ghost use Prim.Native.Nat.{_+_, _*_, _≤_};
 ghost use mathlib.Core.Path.{_≡_};
 ghost use lib.ListN.{length};
 ghost use Rattle.sums.specs.Wide.{wide};
 ghost use Rattle.house.specs.Group.{firstOf, changeOf, inI64, every};
 ghost use Rattle.house.specs.Places.{endsAt};
 ghost use Rattle.house.specs.Inner.Raised.{raised, moved, summed, totalAt};
-ghost use Rattle.house.specs.Inner.Parts.{Added, Summed};
+ghost use Rattle.house.specs.Inner.Parts.{Room, Added, Summed};
 use crate::entry::entry_of;
 use crate::sum::finish;
 use crate::sum::plus;
@@ -37,7 +37,8 @@ fn sum_part(
     hi: &mut [u64; 32],
     lo: &mut [u64; 32],
 ) -> Part
-    requires { ⌜ (n ≤ 32) × (2 * (at + n) ≤ length (now marks)) × (2 * (at + n) ≤ length (now equities)) × ((i : ℕ) → i < 32 → totalAt (now hi) (now lo) i < 2 ^ 126) ⌝ }
+    requires { ⌜ (n ≤ 32) × (2 * (at + n) ≤ length (now marks)) × (2 * (at + n) ≤ length (now equities)) ⌝ }
+    requires { ⌜ Room (now hi) (now lo) ⌝ }
     ensures { λ r. ⌜ Added n (λ a. endsAt (now (marks .entry)) (now (equities .entry)) (at + a)) r (now (hi .entry)) (now (lo .entry)) (now (hi .exit)) (now (lo .exit)) ⌝ }
 {
     let mut first = start(n as u64);

@@ -1,12 +1,12 @@
 -- What the loops leave: sums of words in columns, and what they stand for where all that is finished is in i64.
-use Prim.Native.Nat.{ℕ, _+_, _*_, _<_}
+use Prim.Native.Nat.{ℕ, _+_, _*_, _^_, _<_}
 use mathlib.Core.Bool.{Bool, cond, _&&_}
 use mathlib.Core.List.{List}
 use mathlib.Core.Path.{_≡_}
 use lib.Dec.{ltb}
 use lib.IntN.{ℤ, pos}
 use lib.Signed.{ltZ}
-use lib.ListN.{getD}
+use lib.ListN.{length, getD}
 use lib.Ieee.{binary64, sub}
 use Rattle.sums.specs.Wide.{wide, valueOf}
 use Rattle.metrics.specs.Double.{zero, one}
@@ -26,11 +26,19 @@ pub record Entered (e : Ends) (r : Entry) : Type 0 where
   pub change : r .change ≡ moved e
   pub fits : r .fits ≡ inI64 (changeOf e)
 
+-- two columns of words, with room for more in each sum
+pub record Room (hi lo : List ℕ) : Type 0 where
+  pub long-hi : length hi ≡ 32
+  pub long-lo : length lo ≡ 32
+  pub low : (i : ℕ) → i < 32 → totalAt hi lo i < 2 ^ 96
+
 -- a part of n accounts with these ends, and each account's total before and after it
 pub record Added (n : ℕ) (ends : ℕ → Ends) (r : Part) (hi₀ lo₀ hi lo : List ℕ) : Type 0 where
   pub fits : r .fits ≡ every n (λ a. inI64 (changeOf (ends a)))
   pub first : r .first ≡ wide (summed n (λ a. raised (firstOf (ends a))))
   pub gain : r .gain ≡ wide (summed n (λ a. moved (ends a)))
+  pub long-hi : length hi ≡ 32
+  pub long-lo : length lo ≡ 32
   pub totals : (i : ℕ) → i < 32 → totalAt hi lo i ≡ totalAt hi₀ lo₀ i + cond (ltb i n) (moved (ends i)) 0
 
 -- the sums of a part as they end
