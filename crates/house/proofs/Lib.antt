@@ -2,3 +2,4 @@
 pub mod Raised
 pub mod Columns
 pub mod Adding
+pub mod Summing

@@ -104,6 +104,11 @@ unfolding sumN
 sumN-cong zero f g e = refl
 sumN-cong (suc n) f g e = omega (arith, sumN-cong n f g (λ a h. e a (omega arith)), e n (omega arith))
 
+pub sumN-most : (n : ℕ) (f : ℕ → ℕ) → ((a : ℕ) → f a < 2 ^ 64) → sumN n f ≤ n * 2 ^ 64
+unfolding sumN
+sumN-most zero f h = omega arith
+sumN-most (suc n) f h = omega (arith, sumN-most n f h, h n)
+
 -- At most i words come to s: shut, since its numbers are too long for what else a loop asks of `omega`.
 unfoldable pub Under : ℕ → ℕ → Type 0
 Under s i = s ≤ i * 2 ^ 64

@@ -3,7 +3,7 @@ ghost use mathlib.Core.Path.{_≡_};
 ghost use Prim.Native.Nat.{_*_, _≤_};
 ghost use lib.ListN.{length};
 ghost use Rattle.house.specs.Places.{groupIn, goodMarks};
-ghost use Rattle.house.specs.House.{earlyAnswer, refusal, houseOfGroup, houseOf};
+ghost use Rattle.house.specs.House.{within, whole, earlyAnswer, refusal, houseOfGroup, houseOf};
 mod entry;
 mod growth;
 mod part;
@@ -58,24 +58,38 @@ fn good_marks(marks: &[u8]) -> bool
     good
 }
 
+fn is_within(n: u64, most: u64) -> bool
+    ensures { λ r. ⌜ r ≡ within n most ⌝ }
+{
+    (0 < n) & (n <= most)
+}
+
+// A mark and an equity for each end.
+fn is_whole(n: u64, m: u64, marks: &[u8], equities: &[i64]) -> bool
+    requires { ⌜ (n ≤ 32) × (m ≤ 64) ⌝ }
+    ensures { λ r. ⌜ r ≡ whole n m (now (marks .entry)) (now (equities .entry)) ⌝ }
+{
+    let ends = 2 * (m * n);
+    (marks.len() as u64 == ends) & (equities.len() as u64 == ends)
+}
+
 // What is asked before any sum.
 fn early(accounts: u64, parts: u64, marks: &[u8], equities: &[i64]) -> Answer
     ensures { λ r. ⌜ r ≡ earlyAnswer accounts parts (now (marks .entry)) (now (equities .entry)) ⌝ }
 {
-    if accounts == 0 || accounts > MOST_ACCOUNTS {
+    if !is_within(accounts, MOST_ACCOUNTS) {
         return Answer::BadGroup;
     }
-    if parts == 0 || parts > MOST_PARTS {
+    if !is_within(parts, MOST_PARTS) {
         return Answer::TooLong;
     }
-    let ends = 2 * (parts * accounts);
-    if marks.len() as u64 != ends || equities.len() as u64 != ends {
+    if !is_whole(accounts, parts, marks, equities) {
         return Answer::TooLong;
     }
-    if good_marks(marks) {
-        return Answer::Done;
+    if !good_marks(marks) {
+        return Answer::BadSetting;
     }
-    Answer::BadSetting
+    Answer::Done
 }
 
 // 15 is told before 14, wherever either stands: all sums are taken before a first sum is asked for.

@@ -85,7 +85,8 @@ pub(crate) fn sum_parts(n: usize, m: usize, marks: &[u8], equities: &[i64]) -> P
         let change = gain.value;
         firsts[p] = first_sum;
         gains[p] = change;
-        fits = fits & part.fits & first.fits & gain.fits;
+        let part_fits = part.fits & (first.fits & gain.fits);
+        fits = fits & part_fits;
         at += n;
         p += 1;
     }
