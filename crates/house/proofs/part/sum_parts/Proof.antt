@@ -1,72 +1,80 @@
+-- The invariant: the sums of the parts before the place, and the accounts' totals over them.
+use Prim.Native.Nat.{_+_, _*_, _≤_, _-_}
+use mathlib.Core.Path.{_≡_, refl, sym, ap, _∙_}
+use native.Mathlib.Omega.{arith}
+use borrow.Author.Needs.{needs}
+use mir.Syntax.{w64}
+use mir.Val.{toZ, ofZ}
+use mir.ValLaws.{toZ-ofZ}
+use Rattle.house.proofs.Summing.{Summing, summing-first, summing-room, part-there, summing-on, summing-last}
 use Rattle.house.proofs.part.sum_parts.Statement.{statement}
 use Rattle.house.proofs.part.sum_parts.Tie as tie
-use Rattle.house.proofs.part.sum_parts.Reads as reads
-use Rattle.house.proofs.part.sum_parts.Lts as lts
-use Rattle.house.proofs.part.sum_part.Reads as sum-part-reads
-use Rattle.house.proofs.sum.finish.Reads as finish-reads
-use Rattle.house.proofs.sum.start.Reads as start-reads
 
 abbrev Inv-loop : tie.InvT-loop
-Inv-loop n m marks equities hi₀ lo₀ firsts₀ gains₀ fits₀ at₀ p₀ hi lo firsts gains fits at p = ?
+Inv-loop n m marks equities hi₀ lo₀ firsts₀ gains₀ fits₀ at₀ p₀ hi lo firsts gains fits at p = Summing n m marks equities hi lo firsts gains fits at p
 
 abbrev μ-loop : tie.MeasureT-loop
-μ-loop n m marks equities hi₀ lo₀ firsts₀ gains₀ fits₀ at₀ p₀ hi lo firsts gains fits at p = ?
+μ-loop n m marks equities hi₀ lo₀ firsts₀ gains₀ fits₀ at₀ p₀ hi lo firsts gains fits at p = m - p
 
--- src/part.rt:72:9
 start-requires : tie.Need-start-requires Inv-loop μ-loop
-start-requires c κs = ?
+start-requires c κs = omega arith
 
--- src/part.rt:80:5
 loop-holds : tie.Need-loop-holds Inv-loop μ-loop
-loop-holds c = ?
+loop-holds c = summing-first _ _ _ _ _ (c .start .ensures)
 
--- src/part.rt:81:13
 sum-part-requires : tie.Need-sum-part-requires Inv-loop μ-loop
-sum-part-requires c κs = ?
+sum-part-requires c κs =
+    let l = c .before .before .before .loop in
+    let s = c .before .before .before .before .before .before in
+    let t = part-there _ _ _ _ _ _ _ _ _ (l .at) (l .p) (l .inv) (c .before .before .loop-test .taken) in
+    ((s .pre .0, omega (arith, t, s .pre .2), omega (arith, t, s .pre .3)), summing-room _ _ _ _ _ _ _ _ _ _ _ (l .inv) (s .pre .1))
 
--- src/part.rt:82:13
 finish-requires : tie.Need-finish-requires Inv-loop μ-loop
-finish-requires c κs = ?
+finish-requires c κs = search needs
 
--- src/part.rt:83:13
 finish-requires-2 : tie.Need-finish-requires-2 Inv-loop μ-loop
-finish-requires-2 c κs = ?
+finish-requires-2 c κs = search needs
 
--- src/part.rt:86:9
 mul-firsts : tie.Need-mul-firsts Inv-loop μ-loop
-mul-firsts c = ?
+mul-firsts c = search needs
 
--- src/part.rt:86:9
 array-set-from-firsts : tie.Need-array-set-from-firsts Inv-loop μ-loop
-array-set-from-firsts c = ?
+array-set-from-firsts c = search needs
 
--- src/part.rt:87:9
 mul-gains : tie.Need-mul-gains Inv-loop μ-loop
-mul-gains c = ?
+mul-gains c = search needs
 
--- src/part.rt:87:9
 array-set-from-gains : tie.Need-array-set-from-gains Inv-loop μ-loop
-array-set-from-gains c = ?
+array-set-from-gains c = search needs
 
--- src/part.rt:89:9
 add-at : tie.Need-add-at Inv-loop μ-loop
-add-at c = ?
+add-at c =
+    let l = c .before .before .before .before .before .before .before .before .before .before .before .loop in
+    let s = c .before .before .before .before .before .before .before .before .before .before .before .before .before .before in
+    let t = part-there _ _ _ _ _ _ _ _ _ (l .at) (l .p) (l .inv) (c .before .before .before .before .before .before .before .before .before .before .loop-test .taken) in
+    record { fits = omega (arith, t, s .pre .2) }
 
--- src/part.rt:90:9
 add-p : tie.Need-add-p Inv-loop μ-loop
-add-p c = ?
+add-p c = search needs
 
--- src/part.rt:80:5
 loop-less : tie.Need-loop-less Inv-loop μ-loop
-loop-less c = ?
+loop-less c = omega arith
 
--- src/part.rt:80:5
 loop-again : tie.Need-loop-again Inv-loop μ-loop
-loop-again c = ?
+loop-again c =
+    let l = c .before .before .before .before .before .before .before .before .before .before .before .loop in
+    let s = c .before .before .before .before .before .before .before .before .before .before .before .before .before .before in
+    let f = c .before .before .before .before .before .before .finish in
+    let g = c .before .before .before .before .before .finish2 in
+    let zf : toZ w64 (ofZ w64 (f .result .value)) ≡ f .result .value = toZ-ofZ w64 (f .result .value) (search needs) in
+    let zg : toZ w64 (ofZ w64 (g .result .value)) ≡ g .result .value = toZ-ofZ w64 (g .result .value) (search needs) in
+    rw (zf, zg) (summing-on _ _ _ _ (l .hi) (l .lo) (l .firsts) (l .gains) (l .fits) (l .at) (l .p) (l .inv) _ _ _ _ _ (s .pre .1) (c .before .before .before .before .before .before .before .before .before .before .loop-test .taken) (c .before .before .before .before .before .before .before .sum-part .ensures) (f .ensures) (g .ensures))
 
--- src/part.rt:68:1
 returns : tie.Need-returns Inv-loop μ-loop
-returns c = ?
+returns c =
+    let l = c .before .loop in
+    let s = c .before .before .before .before in
+    summing-last _ _ _ _ (l .hi) (l .lo) (l .firsts) (l .gains) (l .fits) (l .at) (l .p) (l .inv) (s .pre .0) (c .loop-test .left)
 
 pub sum-parts-spec : {M : Type 1} → statement M
 sum-parts-spec =
