@@ -4,6 +4,7 @@ use mathlib.Core.Path.{_≡_, refl, sym, ap, _∙_}
 use mathlib.Core.Bool.{Bool, true, false, cond, _&&_}
 use mathlib.Core.List.{List}
 use native.Mathlib.Omega.{arith}
+use native.Mathlib.Numerals.{add-one}
 use lib.Dec.{ltb, eqb}
 use lib.ListN.{length, getD, set, length-set}
 use lib.Seq.{getD-set-same, getD-set-other}
@@ -13,11 +14,11 @@ use Rattle.sums.specs.Wide.{valueOf, wide}
 use Rattle.sums.proofs.TwoWords.{valueOf-wide, valueOf-words}
 use Rattle.house.specs.Group.{Ends, firstOf, changeOf, inI64, every}
 use Rattle.house.specs.Inner.Raised.{raised, moved, totalAt}
-use Rattle.house.specs.Inner.Parts.{Entered, Added}
+use Rattle.house.specs.Inner.Parts.{Known, Entered, Added}
 use Rattle.house.specs.declared.entry.Entry.{Entry}
 use Rattle.house.specs.declared.part.Part.{Part}
 use Rattle.house.proofs.Raised.{Holds, holds-first, holds-on, holds-last}
-use Rattle.house.proofs.Columns.{every-on}
+use Rattle.house.proofs.Columns.{every-on, below-or-at}
 
 -- each account's total, with what it has of this part
 abbrev pub Totals : (ℕ → ℕ) → List ℕ → List ℕ → List ℕ → List ℕ → ℕ → Type 0
@@ -64,13 +65,14 @@ pub record Adding (n : ℕ) (ends : ℕ → Ends) (hi₀ lo₀ hi lo : List ℕ)
   pub first : Holds n (λ i. raised (firstOf (ends i))) a f
   pub gain : Holds n (λ i. moved (ends i)) a g
   pub fits : b ≡ every a (λ i. inI64 (changeOf (ends i)))
+  pub known : (i : ℕ) → i < a → Known (ends i)
   pub totals : Totals (λ i. moved (ends i)) hi₀ lo₀ hi lo a
 
 module _ (n : ℕ) (ends : ℕ → Ends) (hi₀ lo₀ : List ℕ) where
   pub adding-first : (w : Wide) → length hi₀ ≡ 32 → length lo₀ ≡ 32 → w ≡ wide ((n + 1) * 9223372036854775808) → Adding n ends hi₀ lo₀ hi₀ lo₀ w w true 0
   unfolding every
   adding-first w lh ll e =
-      record { within = omega arith; long-hi = lh; long-lo = ll; first = holds-first n _ w e; gain = holds-first n _ w e; fits = refl; totals = totals-first _ hi₀ lo₀ }
+      record { within = omega arith; long-hi = lh; long-lo = ll; first = holds-first n _ w e; gain = holds-first n _ w e; fits = refl; known = λ i h. absurd (omega arith); totals = totals-first _ hi₀ lo₀ }
 
   pub adding-on : (hi lo : List ℕ) (first gain : Wide) (fits : Bool) (a : ℕ) (r : Entry) (first' gain' total : Wide)
       → n ≤ 32
@@ -86,6 +88,7 @@ module _ (n : ℕ) (ends : ℕ → Ends) (hi₀ lo₀ : List ℕ) where
         first = holds-on n _ a first first' (r .first) (h .first) (e .first) f p;
         gain = holds-on n _ a gain gain' (r .change) (h .gain) (e .change) c q;
         fits = every-on _ a fits (r .fits) (h .fits) (e .fits);
+        known = λ i g. below-or-at (λ j. Known (ends j)) a i (rw (add-one a) at g) (h .known i) (e .known);
         totals = totals-on _ hi₀ lo₀ hi lo a (h .totals) (omega arith) total (r .change) (h .long-hi) (h .long-lo) t (e .change);
       }
 
@@ -93,4 +96,4 @@ module _ (n : ℕ) (ends : ℕ → Ends) (hi₀ lo₀ : List ℕ) where
       → Adding n ends hi₀ lo₀ hi lo first gain fits a → Added n ends (record { fits = fits; first = first; gain = gain }) hi₀ lo₀ hi lo
   adding-last hi lo first gain fits a l h =
       let e : a ≡ n = omega arith in
-      record { fits = h .fits ∙ rw e; first = h .first .is ∙ rw e; gain = h .gain .is ∙ rw e; long-hi = h .long-hi; long-lo = h .long-lo; totals = λ i g. h .totals i g ∙ rw e }
+      record { fits = h .fits ∙ rw e; first = h .first .is ∙ rw e; gain = h .gain .is ∙ rw e; known = λ i g. h .known i (omega arith); long-hi = h .long-hi; long-lo = h .long-lo; totals = λ i g. h .totals i g ∙ rw e }

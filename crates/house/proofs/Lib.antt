@@ -3,3 +3,4 @@ pub mod Raised
 pub mod Columns
 pub mod Adding
 pub mod Summing
+pub mod Reporting

@@ -16,12 +16,12 @@ use Rattle.sums.proofs.TwoWords.{valueOf-wide, valueOf-words}
 use Rattle.house.specs.Group.{Group, every}
 use Rattle.house.specs.Places.{endsAt, groupIn, column}
 use Rattle.house.specs.Inner.Raised.{moved, sumN, begun, summed, ended, totalAt}
-use Rattle.house.specs.Inner.Parts.{Room, Added, firstEnded, gainEnded, partFits, Summed}
+use Rattle.house.specs.Inner.Parts.{Known, Room, Added, firstEnded, gainEnded, partFits, Summed}
 use Rattle.house.specs.declared.sum.Finished.{Finished}
 use Rattle.house.specs.declared.part.Part.{Part}
 use Rattle.house.specs.declared.part.Parts.{Parts}
 use Rattle.house.proofs.Raised.{sumN-most, between-lt}
-use Rattle.house.proofs.Columns.{every-on, column-first, filled-on}
+use Rattle.house.proofs.Columns.{every-on, below-or-at, column-first, filled-on}
 
 -- the total of account i after p of m parts
 abbrev pub totalAfter : ℕ → ℕ → Group → ℕ → ℕ → ℕ
@@ -57,6 +57,7 @@ module _ (n m : ℕ) (marks : List ℕ) (equities : List ℤ) where
     pub fits : b ≡ every p (partFits n g)
     pub firsts : fs ≡ column 64 (pos 0) p (λ q. firstEnded n g q .value)
     pub gains : gs ≡ column 64 (pos 0) p (λ q. gainEnded n g q .value)
+    pub known : (q a : ℕ) → q < p → a < n → Known (g q a)
     pub totals : (i : ℕ) → i < 32 → totalAt hi lo i ≡ totalAfter n m g p i
 
   pub summing-first : (w : Wide) → w ≡ wide (begun m) → Summing (replicate 32 (w .hi)) (replicate 32 (w .lo)) (replicate 64 (pos 0)) (replicate 64 (pos 0)) true 0 0
@@ -71,6 +72,7 @@ module _ (n m : ℕ) (marks : List ℕ) (equities : List ℤ) where
         fits = refl;
         firsts = column-first 64 (pos 0) _;
         gains = column-first 64 (pos 0) _;
+        known = λ q a h. absurd (omega arith);
         totals = λ i h. rw (getD-replicate 32 i (w .hi) 0 h, getD-replicate 32 i (w .lo) 0 h) (v ∙ none (ltb i n));
       }
     where
@@ -103,6 +105,7 @@ module _ (n m : ℕ) (marks : List ℕ) (equities : List ℤ) where
           fits = every-on (partFits n g) p b _ (s .fits) (rw (d .fits, first, gain));
           firsts = filled-on 64 (pos 0) (λ q. firstEnded n g q .value) p fs _ (omega arith) (s .firsts) (ap (λ (x : Finished). x .value) first);
           gains = filled-on 64 (pos 0) (λ q. gainEnded n g q .value) p gs _ (omega arith) (s .gains) (ap (λ (x : Finished). x .value) gain);
+          known = λ q i x. below-or-at (λ j. i < n → Known (g j i)) p q (rw (add-one p) at x) (λ y. s .known q i y) (d .known i);
           totals = λ i q. d .totals i q ∙ rw (s .totals i q) (total-on n m g p i);
         }
 
@@ -113,5 +116,6 @@ module _ (n m : ℕ) (marks : List ℕ) (equities : List ℤ) where
           fits = s .fits ∙ rw e;
           firsts = s .firsts ∙ rw e;
           gains = s .gains ∙ rw e;
+          known = λ q a x. s .known q a (omega arith);
           totals = λ a q. s .totals a (omega arith) ∙ rw (lt-ltb a n q, e);
         }

@@ -8,11 +8,13 @@ use lib.IntN.{ℤ, pos}
 use lib.Signed.{ltZ}
 use lib.ListN.{length, getD}
 use lib.Ieee.{binary64, sub}
+use mir.Syntax.{w64}
+use mir.Val.{SFits}
 use Rattle.sums.specs.Wide.{wide, valueOf}
 use Rattle.metrics.specs.Double.{zero, one}
 use Rattle.house.specs.Group.{Ends, Group, firstOf, changeOf, inI64, every, growthOf, productTo}
 use Rattle.house.specs.Places.{groupIn, column}
-use Rattle.house.specs.Inner.Raised.{raised, moved, summed, begun, sumN, ended, totalAt}
+use Rattle.house.specs.Inner.Raised.{raised, lastOf, moved, summed, begun, sumN, ended, totalAt}
 use Rattle.house.specs.declared.sum.Finished.{Finished}
 use Rattle.house.specs.declared.entry.Entry.{Entry}
 use Rattle.house.specs.declared.part.Part.{Part}
@@ -20,11 +22,17 @@ use Rattle.house.specs.declared.part.Parts.{Parts}
 use Rattle.house.specs.declared.total.Totals.{Totals}
 use Rattle.house.specs.declared.growth.Growths.{Growths}
 
+-- both ends are numbers of an i64
+pub record Known (e : Ends) : Type 0 where
+  pub first : SFits w64 (firstOf e)
+  pub last : SFits w64 (lastOf e)
+
 -- one account in one part
 pub record Entered (e : Ends) (r : Entry) : Type 0 where
   pub first : r .first ≡ raised (firstOf e)
   pub change : r .change ≡ moved e
   pub fits : r .fits ≡ inI64 (changeOf e)
+  pub known : Known e
 
 -- two columns of words, with room for more in each sum
 pub record Room (hi lo : List ℕ) : Type 0 where
@@ -37,6 +45,7 @@ pub record Added (n : ℕ) (ends : ℕ → Ends) (r : Part) (hi₀ lo₀ hi lo :
   pub fits : r .fits ≡ every n (λ a. inI64 (changeOf (ends a)))
   pub first : r .first ≡ wide (summed n (λ a. raised (firstOf (ends a))))
   pub gain : r .gain ≡ wide (summed n (λ a. moved (ends a)))
+  pub known : (a : ℕ) → a < n → Known (ends a)
   pub long-hi : length hi ≡ 32
   pub long-lo : length lo ≡ 32
   pub totals : (i : ℕ) → i < 32 → totalAt hi lo i ≡ totalAt hi₀ lo₀ i + cond (ltb i n) (moved (ends i)) 0
@@ -55,6 +64,7 @@ pub record Summed (n m : ℕ) (marks : List ℕ) (equities : List ℤ) (r : Part
   pub fits : r .fits ≡ every m (partFits n (groupIn n marks equities))
   pub firsts : r .firsts ≡ column 64 (pos 0) m (λ p. firstEnded n (groupIn n marks equities) p .value)
   pub gains : r .gains ≡ column 64 (pos 0) m (λ p. gainEnded n (groupIn n marks equities) p .value)
+  pub known : (p a : ℕ) → p < m → a < n → Known (groupIn n marks equities p a)
   pub totals : (a : ℕ) → a < n → totalAt (r .hi) (r .lo) a ≡ summed m (λ p. moved (groupIn n marks equities p a))
 
 pub record Totalled (n m : ℕ) (hi lo : List ℕ) (r : Totals) : Type 0 where

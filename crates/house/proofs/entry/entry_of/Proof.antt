@@ -11,7 +11,7 @@ use mir.Val.{SFits, toZ, ofZ}
 use mir.ValLaws.{toZ-ofZ}
 use Rattle.house.specs.Group.{Ends, given, absent, firstOf, changeOf, inI64}
 use Rattle.house.specs.Inner.Raised.{half, raised, between, near, moved, lastOf}
-use Rattle.house.specs.Inner.Parts.{Entered}
+use Rattle.house.specs.Inner.Parts.{Known, Entered}
 use Rattle.house.specs.declared.entry.Entry.{Entry}
 use Rattle.house.proofs.Raised.{raised-zero, near-in}
 use Rattle.house.proofs.entry.entry_of.Statement.{statement}
@@ -38,6 +38,11 @@ module _ (f l : ℤ) (gf : SFits w64 f) (gl : SFits w64 l) where
   near-is true true = near-in f l gf gl
   near-is true false = near-in (pos 0) (pos 0) none none
   near-is false b = near-in (pos 0) (pos 0) none none
+
+  known-is : (a b : Bool) → Known (ends a b f l)
+  known-is true true = record { first = gf; last = gl }
+  known-is true false = record { first = none; last = none }
+  known-is false b = record { first = none; last = none }
 
 present-requires : tie.Need-present-requires
 present-requires c κs = search needs
@@ -70,6 +75,7 @@ returns c =
       first = r .0 ∙ from;
       change = r .1 ∙ rw (from, to);
       fits = r .2 ∙ rw (from, to) (near-is f l gf gl a b);
+      known = known-is f l gf gl a b;
     }
 
 pub entry-of-spec : {M : Type 1} → statement M
