@@ -77,17 +77,17 @@ module _ (f l : ℤ) (gf : SFits w64 f) (gl : SFits w64 l) where
       let d = P-sub l f in
       together _ _
       (λ h.
-        let b = both-true (leb (raised f) (raised l + half)) (ltb (raised l) (raised f + half)) h in
-        let x = leb-true (raised f) (raised l + half) (b .0) in
-        let y = ltb-true (raised l) (raised f + half) (b .1) in
-        in-is (l -ℤ f) (fits-of (l -ℤ f) (omega arith) (omega arith)))
+      let b = both-true (leb (raised f) (raised l + half)) (ltb (raised l) (raised f + half)) h in
+      let x = leb-true (raised f) (raised l + half) (b .0) in
+      let y = ltb-true (raised l) (raised f + half) (b .1) in
+      in-is (l -ℤ f) (fits-of (l -ℤ f) (omega arith) (omega arith)))
       (λ h.
-        let g = in-yes (l -ℤ f) h in
-        let pg = P-fits (l -ℤ f) g in
-        let ng = N-fits (l -ℤ f) g in
-        let x : leb (raised f) (raised l + half) ≡ true = le-leb (raised f) (raised l + half) (omega arith) in
-        let y : ltb (raised l) (raised f + half) ≡ true = lt-ltb (raised l) (raised f + half) (omega arith) in
-        rw (x, y))
+      let g = in-yes (l -ℤ f) h in
+      let pg = P-fits (l -ℤ f) g in
+      let ng = N-fits (l -ℤ f) g in
+      let x : leb (raised f) (raised l + half) ≡ true = le-leb (raised f) (raised l + half) (omega arith) in
+      let y : ltb (raised l) (raised f + half) ≡ true = lt-ltb (raised l) (raised f + half) (omega arith) in
+      rw (x, y))
 
   pub between-raised : SFits w64 (l -ℤ f) → between (raised f) (raised l) ≡ raised (l -ℤ f)
   unfolding between

@@ -1,23 +1,27 @@
 -- What the sums of words are in the paper's terms: tests and values of parts, of accounts and of the group, and so the whole report.
-use Prim.Native.Nat.{ℕ, zero, suc, _+_, _≤_, _<_}
+use Prim.Native.Nat.{ℕ, zero, suc, _+_, _*_, _≤_, _<_}
 use mathlib.Core.Path.{_≡_, refl, sym, ap, _∙_}
 use mathlib.Core.Bool.{Bool, true, false, _&&_}
 use mathlib.Core.List.{List}
 use native.Mathlib.Omega.{arith}
 use lib.IntN.{ℤ, pos, _-ℤ_}
 use lib.Signed.{ltZ}
-use lib.ListN.{getD}
+use lib.ListN.{length, getD}
 use lib.Ieee.{Float, binary64, sub}
 use mir.Syntax.{w64}
 use mir.Val.{SFits}
+use lib.Dec.{eqb, leb, ltb}
+use borrow.Author.Tests.{leb-true, eqb-true}
+use Rattle.answer.specs.Numbers.{isDone}
 use Rattle.answer.proofs.Choice.{both-true}
-use Rattle.answer.specs.declared.Answer.the-variants.{Done, OutOfRange, NoFirstSum}
+use Rattle.answer.proofs.Answers.{passed}
+use Rattle.answer.specs.declared.Answer.the-variants.{Done, TooLong, BadGroup, OutOfRange, NoFirstSum}
 use Rattle.metrics.specs.Double.{one}
 use Rattle.metrics.specs.Double.{zero as none}
 use Rattle.metrics.specs.Curve.{compounded}
 use Rattle.house.specs.Group.{Equity, given, absent, Ends, Group, ofBoth, firstOf, changeOf, every, inI64, firstSum, summedChange, growthOf, growth, productTo, accountChange, groupChange, partInI64, allInI64, allPositive}
 use Rattle.house.specs.Places.{groupIn, column}
-use Rattle.house.specs.House.{refusal, report, houseOfGroup}
+use Rattle.house.specs.House.{mostAccounts, mostParts, within, whole, earlyAnswer, refusal, report, houseOfGroup}
 use Rattle.house.specs.Inner.Raised.{raised, lastOf, moved, sumN, begun, summed, ended, totalAt}
 use Rattle.house.specs.Inner.Parts.{Known, firstEnded, gainEnded, partFits, Summed, Totalled, Grown}
 use Rattle.house.specs.declared.House.{House}
@@ -201,3 +205,15 @@ module _ (n m : ℕ) (marks : List ℕ) (equities : List ℤ) (hn : n ≤ 32) (h
           → record { answer = Done; figure = w .figure; change = c .value; changes = t .changes; firsts = r .firsts; gains = r .gains; growths = w .growths } ≡ houseOfGroup n m g
       unfolding houseOfGroup report
       reported q = rw (e, q, figure-is, change-is, changes-are, firsts-are (tests .0), gains-are (tests .0), growths-are)
+
+-- what an early answer of done tells of the places
+pub early-done : (n m : ℕ) (marks : List ℕ) (equities : List ℤ) → isDone (earlyAnswer n m marks equities) ≡ true
+    → (n ≤ 32) × (m ≤ 64) × (length marks ≡ 2 * (m * n)) × (length equities ≡ 2 * (m * n))
+early-done n m marks equities e =
+    let a = passed (within n mostAccounts) BadGroup _ refl e in
+    let b = passed (within m mostParts && whole n m marks equities) TooLong _ refl (a .1) in
+    let c = both-true (within m mostParts) (whole n m marks equities) (b .0) in
+    let d = both-true (eqb (length marks) (2 * (m * n))) (eqb (length equities) (2 * (m * n))) (c .1) in
+    let x = both-true (ltb 0 n) (leb n 32) (a .0) in
+    let y = both-true (ltb 0 m) (leb m 64) (c .0) in
+    (leb-true n 32 (x .1), leb-true m 64 (y .1), eqb-true (length marks) (2 * (m * n)) (d .0), eqb-true (length equities) (2 * (m * n)) (d .1))

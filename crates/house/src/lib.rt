@@ -4,17 +4,19 @@ ghost use Prim.Native.Nat.{_*_, _≤_};
 ghost use lib.ListN.{length};
 ghost use Rattle.house.specs.Places.{groupIn, goodMarks};
 ghost use Rattle.house.specs.House.{within, whole, earlyAnswer, refusal, houseOfGroup, houseOf};
+
 mod entry;
 mod growth;
 mod part;
 mod sum;
 mod total;
-use answer::Answer;
-use answer::is_done;
+
 use crate::growth::grow;
 use crate::part::sum_parts;
 use crate::total::sum_accounts;
 use crate::total::sum_group;
+use answer::Answer;
+use answer::is_done;
 
 pub const MOST_ACCOUNTS: u64 = 32;
 

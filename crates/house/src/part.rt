@@ -90,5 +90,11 @@ pub(crate) fn sum_parts(n: usize, m: usize, marks: &[u8], equities: &[i64]) -> P
         at += n;
         p += 1;
     }
-    Parts { fits, firsts, gains, hi, lo }
+    Parts {
+        fits,
+        firsts,
+        gains,
+        hi,
+        lo,
+    }
 }

@@ -17,13 +17,21 @@ pub(crate) struct Finished {
 pub(crate) fn raise(x: i64) -> u64
     ensures { λ r. ⌜ r ≡ raised x ⌝ }
 {
-    if x < 0 { 0x7fff_ffff_ffff_ffff - (!x) as u64 } else { x as u64 + HALF }
+    if x < 0 {
+        0x7fff_ffff_ffff_ffff - (!x) as u64
+    } else {
+        x as u64 + HALF
+    }
 }
 
 pub(crate) fn lower(w: u64) -> i64
     ensures { λ r. ⌜ r ≡ lowered w ⌝ }
 {
-    if w < HALF { !((0x7fff_ffff_ffff_ffff - w) as i64) } else { (w - HALF) as i64 }
+    if w < HALF {
+        !((0x7fff_ffff_ffff_ffff - w) as i64)
+    } else {
+        (w - HALF) as i64
+    }
 }
 
 // The start of a sum of n numbers makes up for what they are raised by.

@@ -58,7 +58,7 @@ returns-3 c =
     let q = c .before .before in
     let s = began (q .before .before) in
     let f : whole (s .args .accounts) (s .args .parts) (s .args .marks .now) (s .args .equities .now) ≡ false =
-        sym (c .before .is-whole .ensures) ∙ not-true (c .before .is-whole .result) (c .if3 .taken) in
+    sym (c .before .is-whole .ensures) ∙ not-true (c .before .is-whole .result) (c .if3 .taken) in
     rw (accounts-fit (q .before .before), parts-fit q, f)
 
 good-marks-requires : tie.Need-good-marks-requires

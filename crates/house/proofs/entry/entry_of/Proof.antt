@@ -67,9 +67,9 @@ returns c =
     let gl = s .fits .last in
     let there = c .before .before .before .present .ensures in
     let from : c .before .before .raised-if .result ≡ raised (firstOf (ends a b f l)) =
-        c .before .before .raised-if .ensures ∙ rw (there, toZ-ofZ w64 f gf) (first-is f l gf gl a b) in
+    c .before .before .raised-if .ensures ∙ rw (there, toZ-ofZ w64 f gf) (first-is f l gf gl a b) in
     let to : c .before .raised-if2 .result ≡ raised (lastOf (ends a b f l)) =
-        c .before .raised-if2 .ensures ∙ rw (there, toZ-ofZ w64 l gl) (last-is f l gf gl a b) in
+    c .before .raised-if2 .ensures ∙ rw (there, toZ-ofZ w64 l gl) (last-is f l gf gl a b) in
     let r = c .entry-between .ensures in
     record {
       first = r .0 ∙ from;
