@@ -21,7 +21,7 @@ use Rattle.metrics.specs.Double.{zero as none}
 use Rattle.metrics.specs.Curve.{compounded}
 use Rattle.house.specs.Group.{Equity, given, absent, Ends, Group, ofBoth, firstOf, changeOf, every, inI64, firstSum, summedChange, growthOf, growth, productTo, accountChange, groupChange, partInI64, allInI64, allPositive}
 use Rattle.house.specs.Places.{groupIn, column}
-use Rattle.house.specs.House.{mostAccounts, mostParts, within, whole, earlyAnswer, refusal, report, houseOfGroup}
+use Rattle.house.specs.House.{mostAccounts, mostParts, within, whole, earlyAnswer, refusal, report, houseOfGroup, houseOf}
 use Rattle.house.specs.Inner.Raised.{raised, lastOf, moved, sumN, begun, summed, ended, totalAt}
 use Rattle.house.specs.Inner.Parts.{Known, firstEnded, gainEnded, partFits, Summed, Totalled, Grown}
 use Rattle.house.specs.declared.House.{House}
@@ -217,3 +217,12 @@ early-done n m marks equities e =
     let x = both-true (ltb 0 n) (leb n 32) (a .0) in
     let y = both-true (ltb 0 m) (leb m 64) (c .0) in
     (leb-true n 32 (x .1), leb-true m 64 (y .1), eqb-true (length marks) (2 * (m * n)) (d .0), eqb-true (length equities) (2 * (m * n)) (d .1))
+
+-- so does any answer of done
+pub house-done : (n m : ℕ) (marks : List ℕ) (equities : List ℤ) → isDone (houseOf n m marks equities .answer) ≡ true → isDone (earlyAnswer n m marks equities) ≡ true
+unfolding houseOf refusal
+house-done n m marks equities e = go (isDone (earlyAnswer n m marks equities)) refl
+  where
+    go : (t : Bool) → isDone (earlyAnswer n m marks equities) ≡ t → isDone (earlyAnswer n m marks equities) ≡ true
+    go true q = q
+    go false q = rw q at e

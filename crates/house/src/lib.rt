@@ -3,7 +3,7 @@ ghost use mathlib.Core.Path.{_≡_};
 ghost use Prim.Native.Nat.{_*_, _≤_};
 ghost use lib.ListN.{length};
 ghost use Rattle.house.specs.Places.{groupIn, goodMarks};
-ghost use Rattle.house.specs.House.{within, whole, earlyAnswer, refusal, houseOfGroup, houseOf};
+ghost use Rattle.house.specs.House.{mostAccounts, within, whole, earlyAnswer, refusal, houseOfGroup, houseOf};
 
 mod entry;
 mod growth;
@@ -66,6 +66,13 @@ fn is_within(n: u64, most: u64) -> bool
     (0 < n) & (n <= most)
 }
 
+// Whether a group may have so many accounts.
+pub fn good_group(accounts: u64) -> bool
+    ensures { λ r. ⌜ r ≡ within accounts mostAccounts ⌝ }
+{
+    is_within(accounts, MOST_ACCOUNTS)
+}
+
 // A mark and an equity for each end.
 fn is_whole(n: u64, m: u64, marks: &[u8], equities: &[i64]) -> bool
     requires { ⌜ (n ≤ 32) × (m ≤ 64) ⌝ }
@@ -79,7 +86,7 @@ fn is_whole(n: u64, m: u64, marks: &[u8], equities: &[i64]) -> bool
 fn early(accounts: u64, parts: u64, marks: &[u8], equities: &[i64]) -> Answer
     ensures { λ r. ⌜ r ≡ earlyAnswer accounts parts (now (marks .entry)) (now (equities .entry)) ⌝ }
 {
-    if !is_within(accounts, MOST_ACCOUNTS) {
+    if !good_group(accounts) {
         return Answer::BadGroup;
     }
     if !is_within(parts, MOST_PARTS) {

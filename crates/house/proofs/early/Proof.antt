@@ -16,11 +16,11 @@ module _ (q : tie.Else1) where
   began = q .before .before .before
 
   accounts-fit : within (began .args .accounts) 32 ≡ true
-  accounts-fit = sym (q .before .is-within .ensures) ∙ not-false (q .before .is-within .result) (q .if1 .left)
+  accounts-fit = sym (q .before .good-group .ensures) ∙ not-false (q .before .good-group .result) (q .if1 .left)
 
 module _ (q : tie.Else2) where
   parts-fit : within (began (q .before .before) .args .parts) 64 ≡ true
-  parts-fit = sym (q .before .is-within2 .ensures) ∙ not-false (q .before .is-within2 .result) (q .if2 .left)
+  parts-fit = sym (q .before .is-within .ensures) ∙ not-false (q .before .is-within .result) (q .if2 .left)
 
 module _ (q : tie.Else3) where
   abbrev places : tie.Start
@@ -29,21 +29,21 @@ module _ (q : tie.Else3) where
   long : whole (places .args .accounts) (places .args .parts) (places .args .marks .now) (places .args .equities .now) ≡ true
   long = sym (q .before .is-whole .ensures) ∙ not-false (q .before .is-whole .result) (q .if3 .left)
 
-is-within-requires : tie.Need-is-within-requires
-is-within-requires c κs = search needs
+good-group-requires : tie.Need-good-group-requires
+good-group-requires c κs = search needs
 
 returns : tie.Need-returns
 returns c =
-    let f : within (c .before .before .before .args .accounts) 32 ≡ false = sym (c .before .is-within .ensures) ∙ not-true (c .before .is-within .result) (c .if1 .taken) in
+    let f : within (c .before .before .before .args .accounts) 32 ≡ false = sym (c .before .good-group .ensures) ∙ not-true (c .before .good-group .result) (c .if1 .taken) in
     rw f
 
-is-within-requires-2 : tie.Need-is-within-requires-2
-is-within-requires-2 c κs = search needs
+is-within-requires : tie.Need-is-within-requires
+is-within-requires c κs = search needs
 
 returns-2 : tie.Need-returns-2
 returns-2 c =
     let q = c .before .before in
-    let f : within (began q .args .parts) 64 ≡ false = sym (c .before .is-within2 .ensures) ∙ not-true (c .before .is-within2 .result) (c .if2 .taken) in
+    let f : within (began q .args .parts) 64 ≡ false = sym (c .before .is-within .ensures) ∙ not-true (c .before .is-within .result) (c .if2 .taken) in
     rw (accounts-fit q, f)
 
 is-whole-requires : tie.Need-is-whole-requires
@@ -80,9 +80,9 @@ pub early-spec : {M : Type 1} → statement M
 early-spec =
     tie.close
     (tie.spec
-    is-within-requires
+    good-group-requires
     returns
-    is-within-requires-2
+    is-within-requires
     returns-2
     is-whole-requires
     returns-3

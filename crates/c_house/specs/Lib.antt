@@ -1,0 +1,2 @@
+-- What a C caller is told of a group.
+pub mod Lent

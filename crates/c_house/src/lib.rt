@@ -1,0 +1,120 @@
+// The house return through the C interface: marks as bytes, equities and what is told as plain numbers.
+ghost use mathlib.Core.Path.{_≡_};
+ghost use mathlib.Core.List.{_∷_};
+ghost use Prim.Native.Nat.{_+_, _-_, _≤_};
+ghost use lib.ListN.{length, take};
+ghost use Rattle.c_house.specs.Lent.{lent, places, placed, told, houseTold};
+use answer::is_done;
+use house::House;
+use house::good_group;
+use house::house_return;
+
+// The first numbers of a column, from a place on up to the end.
+fn put_numbers(from: &[i64], at: usize, to: &mut [i64])
+    requires { ⌜ (at ≤ length (now to)) × (length (now to) ≤ at + length (now from)) ⌝ }
+    ensures { λ r. ⌜ now (to .exit) ≡ placed at (now (from .entry)) (now (to .entry)) ⌝ }
+{
+    let n = to.len() - at;
+    let mut i = 0usize;
+    while i < n {
+        let x = from[i];
+        to[at + i] = x;
+        i += 1;
+    }
+}
+
+// The same of doubles.
+fn put_doubles(from: &[f64], at: usize, to: &mut [f64])
+    requires { ⌜ (at ≤ length (now to)) × (length (now to) ≤ at + length (now from)) ⌝ }
+    ensures { λ r. ⌜ now (to .exit) ≡ placed at (now (from .entry)) (now (to .entry)) ⌝ }
+{
+    let n = to.len() - at;
+    let mut i = 0usize;
+    while i < n {
+        to[at + i] = from[i];
+        i += 1;
+    }
+}
+
+fn put_rates(h: House, rates: &mut [f64])
+    requires { ⌜ (1 ≤ length (now rates)) × (length (now rates) ≤ 65) ⌝ }
+    ensures { λ r. ⌜ now (rates .exit) ≡ h .figure ∷ take (length (now (rates .entry)) - 1) (h .growths) ⌝ }
+{
+    let growths = h.growths;
+    rates[0] = h.figure;
+    put_doubles(&growths[..], 1, rates);
+}
+
+fn put_changes(h: House, changes: &mut [i64])
+    requires { ⌜ (1 ≤ length (now changes)) × (length (now changes) ≤ 33) ⌝ }
+    ensures { λ r. ⌜ now (changes .exit) ≡ h .change ∷ take (length (now (changes .entry)) - 1) (h .changes) ⌝ }
+{
+    let of_accounts = h.changes;
+    let of_all = h.change;
+    changes[0] = of_all;
+    put_numbers(&of_accounts[..], 1, changes);
+}
+
+fn put_sums(h: House, firsts: &mut [i64], gains: &mut [i64])
+    requires { ⌜ (length (now firsts) ≤ 64) × (length (now gains) ≤ 64) ⌝ }
+    ensures { λ r. ⌜ now (firsts .exit) ≡ take (length (now (firsts .entry))) (h .firsts) ⌝ }
+    ensures { λ r. ⌜ now (gains .exit) ≡ take (length (now (gains .entry))) (h .gains) ⌝ }
+{
+    let of_firsts = h.firsts;
+    let of_gains = h.gains;
+    put_numbers(&of_firsts[..], 0, firsts);
+    put_numbers(&of_gains[..], 0, gains);
+}
+
+// Whether the places to write are as many as they must be. As many as the parts: so one more is a number too.
+fn has_places(
+    accounts: u64,
+    parts: u64,
+    rates: &[f64],
+    changes: &[i64],
+    firsts: &[i64],
+    gains: &[i64],
+) -> bool
+    requires { ⌜ accounts ≤ 32 ⌝ }
+    ensures { λ r. ⌜ r ≡ places accounts parts (lent (now (rates .entry)) (now (changes .entry)) (now (firsts .entry)) (now (gains .entry))) ⌝ }
+{
+    if firsts.len() as u64 != parts {
+        return false;
+    }
+    if gains.len() as u64 != parts {
+        return false;
+    }
+    (rates.len() as u64 == parts + 1) & (changes.len() as u64 == accounts + 1)
+}
+
+// After 0 the rates are the figure and each part's growth, the changes the group's and each account's, the firsts and the gains each part's first sum and
+// summed change. A refusal leaves all of them as found.
+#[no_mangle]
+pub extern "C" fn tc_house_return(
+    accounts: u64,
+    parts: u64,
+    marks: &[u8],
+    equities: &[i64],
+    rates: &mut [f64],
+    changes: &mut [i64],
+    firsts: &mut [i64],
+    gains: &mut [i64],
+) -> u64
+    ensures { λ r. ⌜ told r (lent (now (rates .exit)) (now (changes .exit)) (now (firsts .exit)) (now (gains .exit))) ≡ houseTold accounts parts (now (marks .entry)) (now (equities .entry)) (lent (now (rates .entry)) (now (changes .entry)) (now (firsts .entry)) (now (gains .entry))) ⌝ }
+{
+    if !good_group(accounts) {
+        return 13;
+    }
+    if !has_places(accounts, parts, rates, changes, firsts, gains) {
+        return 6;
+    }
+    let h = house_return(accounts, parts, marks, equities);
+    let answer = h.answer;
+    if !is_done(answer) {
+        return answer::number(answer);
+    }
+    put_rates(h, rates);
+    put_changes(h, changes);
+    put_sums(h, firsts, gains);
+    0
+}
