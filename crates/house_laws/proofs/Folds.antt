@@ -1,0 +1,166 @@
+-- Sums, tests and products over the numbers below n are folds over a column, and a fold depends on nothing but what stands in it.
+use Prim.Native.Nat.{ℕ, zero, suc, _≤_, _<_}
+use mathlib.Core.Path.{_≡_, refl, sym, ap, _∙_}
+use mathlib.Core.Bool.{Bool, true, false, cond, _&&_}
+use mathlib.Core.List.{List, [], _∷_, map, foldl}
+use native.Mathlib.Omega.{arith}
+use lib.Dec.{ltb, leb, leb·zero, leb·suc-zero, leb·suc-suc}
+use lib.IntN.{ℤ, pos, _+ℤ_, +ℤ-idl, +ℤ-assoc, +ℤ-comm}
+use borrow.Author.Tests.{ltb-true, ltb-false}
+use Rattle.metrics.specs.Double.{one}
+use Rattle.metrics.specs.Curve.{compounded}
+use Rattle.order.specs.Running.{Perm, done, keep, swap, then}
+use Rattle.order.proofs.Perms.{perm-map}
+use Rattle.house.specs.Group.{sumTo, every, productTo}
+use Rattle.house.specs.Places.{each, column}
+use Rattle.house_laws.specs.Groups.{skipping}
+
+-- ---- columns
+pub each-cong : {A : Type 0} (n : ℕ) (f g : ℕ → A) → ((i : ℕ) → i < n → f i ≡ g i) → each n f ≡ each n g
+unfolding each
+each-cong zero f g e = refl
+each-cong (suc n) f g e = simp (e 0 (omega arith), each-cong n (λ i. f (suc i)) (λ i. g (suc i)) (λ i h. e (suc i) (omega arith)))
+
+pub each-map : {A B : Type 0} (n : ℕ) (f : A → B) (s : ℕ → A) → map f (each n s) ≡ each n (λ i. f (s i))
+unfolding each
+each-map zero f s = refl
+each-map (suc n) f s = ap (λ l. f (s 0) ∷ l) (each-map n f (λ i. s (suc i)))
+
+pub column-cong : {A : Type 0} (room : ℕ) (rest : A) (n : ℕ) (f g : ℕ → A) → ((i : ℕ) → i < n → f i ≡ g i) → column room rest n f ≡ column room rest n g
+column-cong room rest n f g e = each-cong room _ _ (λ i h. go i (ltb i n) refl)
+  where
+    go : (i : ℕ) (t : Bool) → ltb i n ≡ t → cond t (f i) rest ≡ cond t (g i) rest
+    go i true l = e i (ltb-true i n l)
+    go i false l = refl
+
+-- ---- all indices but one
+skipping-0 : (i : ℕ) → skipping 0 i ≡ suc i
+skipping-0 i = rw (leb·suc-zero i)
+
+skipping-at-0 : (k : ℕ) → skipping (suc k) 0 ≡ 0
+skipping-at-0 k = rw (leb·suc-suc 0 k, leb·zero k)
+
+skipping-suc : (k i : ℕ) → skipping (suc k) (suc i) ≡ suc (skipping k i)
+skipping-suc k i = rw (leb·suc-suc (suc i) k) (go (ltb i k))
+  where
+    go : (t : Bool) → cond t (suc i) (suc (suc i)) ≡ suc (cond t i (suc i))
+    go true = refl
+    go false = refl
+
+-- ---- folds over columns
+module _ {A B : Type 0} (op : A → B → A) where
+  -- the last member may be taken off
+  foldl-last : (a : A) (n : ℕ) (f : ℕ → B) → foldl op a (each (suc n) f) ≡ op (foldl op a (each n f)) (f n)
+  unfolding each
+  foldl-last a zero f = refl
+  foldl-last a (suc n) f = foldl-last (op a (f 0)) n (λ i. f (suc i))
+
+  -- where the order of two does not matter, no order does
+  foldl-perm : ((a : A) (x y : B) → op (op a x) y ≡ op (op a y) x) → {l r : List B} → Perm B l r → (a : A) → foldl op a l ≡ foldl op a r
+  foldl-perm c done a = refl
+  foldl-perm c (keep {a = x} p) a = foldl-perm c p (op a x)
+  foldl-perm c (swap {a = x} {b = y} {x = l}) a = ap (λ s. foldl op s l) (c a x y)
+  foldl-perm c (then p q) a = foldl-perm c p a ∙ foldl-perm c q a
+
+  -- a member that changes nothing may be left out
+  foldl-skip : (n k : ℕ) (f : ℕ → B) → k ≤ n → ((a : A) → op a (f k) ≡ a) → (a : A) → foldl op a (each (suc n) f) ≡ foldl op a (each n (λ i. f (skipping k i)))
+  unfolding each
+  foldl-skip n zero f h e a = ap (λ s. foldl op s (each n (λ i. f (suc i)))) (e a) ∙ ap (foldl op a) (each-cong n _ _ (λ i l. ap f (sym (skipping-0 i))))
+  foldl-skip zero (suc k) f h e a = absurd (omega arith)
+  foldl-skip (suc n) (suc k) f h e a =
+      foldl-skip n k (λ i. f (suc i)) (omega arith) e (op a (f 0))
+      ∙ ap (λ s. foldl op (op a (f s)) (each n (λ i. f (suc (skipping k i))))) (sym (skipping-at-0 k))
+      ∙ ap (foldl op (op a (f (skipping (suc k) 0)))) (each-cong n _ _ (λ i l. ap f (sym (skipping-suc k i))))
+
+-- ---- what folds numbers below n, the last one last
+pub record Fold {A B : Type 0} (op : A → B → A) (start : A) (F : ℕ → (ℕ → B) → A) : Type 0 where
+  pub none : (f : ℕ → B) → F zero f ≡ start
+  pub more : (n : ℕ) (f : ℕ → B) → F (suc n) f ≡ op (F n f) (f n)
+
+pub sums : Fold _+ℤ_ (pos 0) sumTo
+unfolding sumTo
+sums = record { none = λ f. refl; more = λ n f. refl }
+
+pub tests : Fold _&&_ true every
+unfolding every
+tests = record { none = λ f. refl; more = λ n f. refl }
+
+pub products : Fold compounded one productTo
+unfolding productTo
+products = record { none = λ f. refl; more = λ n f. refl }
+
+module _ {A B : Type 0} {op : A → B → A} {start : A} {F : ℕ → (ℕ → B) → A} (fold : Fold op start F) where
+  pub listed : (n : ℕ) (f : ℕ → B) → F n f ≡ foldl op start (each n f)
+  unfolding each
+  listed zero f = fold .none f
+  listed (suc n) f = fold .more n f ∙ ap (λ a. op a (f n)) (listed n f) ∙ sym (foldl-last op start n f)
+
+  pub cong : (n : ℕ) (f g : ℕ → B) → ((i : ℕ) → i < n → f i ≡ g i) → F n f ≡ F n g
+  cong n f g e = listed n f ∙ ap (foldl op start) (each-cong n f g e) ∙ sym (listed n g)
+
+  pub rearranged : ((a : A) (x y : B) → op (op a x) y ≡ op (op a y) x) → (n : ℕ) (s : ℕ → ℕ) → Perm ℕ (each n s) (each n (λ i. i)) → (f : ℕ → B) → F n (λ i. f (s i)) ≡ F n f
+  rearranged c n s p f =
+      listed n (λ i. f (s i))
+      ∙ ap (foldl op start) (sym (each-map n f s))
+      ∙ foldl-perm op c (perm-map f p) start
+      ∙ ap (foldl op start) (each-map n f (λ i. i))
+      ∙ sym (listed n f)
+
+  pub skipped : (n k : ℕ) (f : ℕ → B) → k ≤ n → ((a : A) → op a (f k) ≡ a) → F (suc n) f ≡ F n (λ i. f (skipping k i))
+  skipped n k f h e = listed (suc n) f ∙ foldl-skip op n k f h e start ∙ sym (listed n (λ i. f (skipping k i)))
+
+-- ---- sums
+pub sum-exchange : (a x y : ℤ) → (a +ℤ x) +ℤ y ≡ (a +ℤ y) +ℤ x
+sum-exchange a x y = +ℤ-assoc a x y ∙ ap (λ z. a +ℤ z) (+ℤ-comm x y) ∙ sym (+ℤ-assoc a y x)
+
+pub sum-of-zeros : (n : ℕ) (f : ℕ → ℤ) → ((i : ℕ) → i < n → f i ≡ pos 0) → sumTo n f ≡ pos 0
+unfolding sumTo
+sum-of-zeros zero f e = refl
+sum-of-zeros (suc n) f e = simp (sum-of-zeros n f (λ i h. e i (omega arith)), e n (omega arith))
+
+pub sum-of-sums : (n : ℕ) (f g : ℕ → ℤ) → sumTo n (λ i. f i +ℤ g i) ≡ sumTo n f +ℤ sumTo n g
+unfolding sumTo
+sum-of-sums zero f g = refl
+sum-of-sums (suc n) f g = ap (λ z. z +ℤ (f n +ℤ g n)) (sum-of-sums n f g) ∙ paired (sumTo n f) (sumTo n g) (f n) (g n)
+  where
+    paired : (a b x y : ℤ) → (a +ℤ b) +ℤ (x +ℤ y) ≡ (a +ℤ x) +ℤ (b +ℤ y)
+    paired a b x y = sym (+ℤ-assoc (a +ℤ b) x y) ∙ ap (λ z. z +ℤ y) (sum-exchange a b x) ∙ +ℤ-assoc (a +ℤ x) b y
+
+-- by columns or by rows
+pub sum-swap : (n m : ℕ) (f : ℕ → ℕ → ℤ) → sumTo n (λ a. sumTo m (λ p. f p a)) ≡ sumTo m (λ p. sumTo n (f p))
+unfolding sumTo
+sum-swap zero m f = sym (sum-of-zeros m (λ p. pos 0) (λ p h. refl))
+sum-swap (suc n) m f = ap (λ z. z +ℤ sumTo m (λ p. f p n)) (sum-swap n m f) ∙ sym (sum-of-sums m (λ p. sumTo n (f p)) (λ p. f p n))
+
+-- ---- tests
+pub and-left : (a b : Bool) → a && b ≡ true → a ≡ true
+and-left true b e = refl
+and-left false b e = e
+
+pub and-right : (a b : Bool) → a && b ≡ true → b ≡ true
+and-right true b e = e
+and-right false b e = cc
+
+pub and-both : (a b : Bool) → a ≡ true → b ≡ true → a && b ≡ true
+and-both a b h g = rw (h, g)
+
+pub test-exchange : (a x y : Bool) → (a && x) && y ≡ (a && y) && x
+test-exchange true true true = refl
+test-exchange true true false = refl
+test-exchange true false true = refl
+test-exchange true false false = refl
+test-exchange false x y = refl
+
+pub every-at : (n : ℕ) (t : ℕ → Bool) → every n t ≡ true → (i : ℕ) → i < n → t i ≡ true
+unfolding every
+every-at zero t e i h = absurd (omega arith)
+every-at (suc n) t e i h = go (ltb i n) refl (every-at n t (and-left (every n t) (t n) e) i)
+  where
+    go : (b : Bool) → ltb i n ≡ b → (i < n → t i ≡ true) → t i ≡ true
+    go true l r = r (ltb-true i n l)
+    go false l r = let z : i ≡ n = omega (arith, ltb-false i n l) in ap t z ∙ and-right (every n t) (t n) e
+
+pub every-of : (n : ℕ) (t : ℕ → Bool) → ((i : ℕ) → i < n → t i ≡ true) → every n t ≡ true
+unfolding every
+every-of zero t e = refl
+every-of (suc n) t e = and-both (every n t) (t n) (every-of n t (λ i h. e i (omega arith))) (e n (omega arith))

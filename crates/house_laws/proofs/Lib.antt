@@ -1,0 +1,3 @@
+-- The laws of the house return.
+pub mod Folds
+pub mod Changes
