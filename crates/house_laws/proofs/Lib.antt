@@ -1,3 +1,5 @@
 -- The laws of the house return.
 pub mod Folds
 pub mod Changes
+pub mod Reports
+pub mod Unread

@@ -1,15 +1,16 @@
 -- Groups and reports beside each other: what the laws of the house return compare. Definitions only.
-use Prim.Native.Nat.{ℕ, suc, _<_}
+use Prim.Native.Nat.{ℕ, suc, _+_, _*_, _<_}
 use mathlib.Core.Path.{_≡_}
 use mathlib.Core.Bool.{true, cond}
 use mathlib.Core.List.{List}
 use mathlib.Core.Logic.{_⊎_}
 use lib.Dec.{ltb}
 use lib.IntN.{ℤ, pos}
+use lib.ListN.{length, getD}
 use lib.Signed.{ltZ}
 use Rattle.order.specs.Running.{Perm}
 use Rattle.house.specs.declared.House.{House}
-use Rattle.house.specs.Group.{absent, Ends, Group, changeOf, firstSum, summedChange, accountChange, groupChange, inI64}
+use Rattle.house.specs.Group.{absent, Ends, Group, firstOf, changeOf, firstSum, summedChange, accountChange, groupChange, inI64}
 use Rattle.house.specs.Places.{each}
 
 -- "An account missing at either end"
@@ -29,6 +30,17 @@ pub record Rearranged (n : ℕ) (g h : Group) : Type 0 where
   pub from : ℕ → ℕ
   pub each-once : Perm ℕ (each n from) (each n (λ a. a))
   pub same : (p a : ℕ) → a < n → h p a ≡ g p (from a)
+
+-- every account adds the same to its part's sums
+pub record AddSame (n m : ℕ) (g h : Group) : Type 0 where
+  pub first : (p a : ℕ) → p < m → a < n → firstOf (g p a) ≡ firstOf (h p a)
+  pub change : (p a : ℕ) → p < m → a < n → changeOf (g p a) ≡ changeOf (h p a)
+
+-- Lists of equities that agree wherever a number is looked at: at both ends of an account whose two marks are 1.
+pub record AgreeIfBoth (marks : List ℕ) (es fs : List ℤ) : Type 0 where
+  pub as-long : length es ≡ length fs
+  pub at-first : (k : ℕ) → getD marks (2 * k) 0 ≡ 1 → getD marks (2 * k + 1) 0 ≡ 1 → getD es (2 * k) (pos 0) ≡ getD fs (2 * k) (pos 0)
+  pub at-last : (k : ℕ) → getD marks (2 * k) 0 ≡ 1 → getD marks (2 * k + 1) 0 ≡ 1 → getD es (2 * k + 1) (pos 0) ≡ getD fs (2 * k + 1) (pos 0)
 
 -- a report with another column of changes
 abbrev pub withChanges : List ℤ → House → House
