@@ -3,3 +3,5 @@ pub mod Folds
 pub mod Changes
 pub mod Reports
 pub mod Unread
+pub mod AccountOrder
+pub mod Absent

@@ -1,17 +1,17 @@
 -- A report depends on a group by its parts' sums and its accounts' changes alone.
 use Prim.Native.Nat.{ℕ, _<_}
 use mathlib.Core.Path.{_≡_, refl, sym, ap, _∙_}
-use mathlib.Core.Bool.{Bool, true, false, cond, _&&_}
-use lib.IntN.{ℤ, pos}
+use mathlib.Core.Bool.{Bool, true, false}
+use lib.IntN.{pos}
 use lib.Signed.{ltZ}
-use lib.Ieee.{Float, binary64, sub}
+use lib.Ieee.{binary64, sub}
 use Rattle.answer.specs.Choice.{pick}
-use Rattle.answer.specs.Numbers.{isDone, unless}
+use Rattle.answer.specs.Numbers.{isDone}
 use Rattle.answer.specs.declared.Answer.{Answer}
-use Rattle.answer.specs.declared.Answer.the-variants.{Done, NoFirstSum, OutOfRange}
+use Rattle.answer.specs.declared.Answer.the-variants.{Done}
 use Rattle.metrics.specs.Double.{zero, one}
 use Rattle.house.specs.declared.House.{House}
-use Rattle.house.specs.Group.{Group, firstOf, changeOf, sumTo, every, productTo, firstSum, summedChange, growthOf, growth, figure, accountChange, groupChange, inI64, partInI64, allInI64, allPositive}
+use Rattle.house.specs.Group.{Group, changeOf, every, firstSum, summedChange, growth, figure, accountChange, groupChange, inI64, partInI64, allInI64, allPositive}
 use Rattle.house.specs.Places.{column}
 use Rattle.house.specs.House.{groupAnswer, report, refusal, houseOfGroup, mostParts, mostAccounts}
 use Rattle.house_laws.specs.Groups.{AddSame, withChanges}
@@ -27,10 +27,10 @@ pub record SameTests (m n : ℕ) (g : Group) (k : ℕ) (h : Group) : Type 0 wher
   pub in-all : every n (λ a. inI64 (accountChange m g a)) ≡ every k (λ a. inI64 (accountChange m h a))
 
 -- a report, or the refusal that stands in its place
-abbrev answered : Answer → House → House
+abbrev pub answered : Answer → House → House
 answered a r = pick (isDone a) r (refusal a)
 
-but-changes : (a b : Answer) (r s : House) → a ≡ b → s ≡ withChanges (s .changes) r → answered b s ≡ withChanges (answered b s .changes) (answered a r)
+pub but-changes : (a b : Answer) (r s : House) → a ≡ b → s ≡ withChanges (s .changes) r → answered b s ≡ withChanges (answered b s .changes) (answered a r)
 but-changes a b r s e d = rw e (go (isDone b))
   where
     go : (t : Bool) → pick t s (refusal b) ≡ withChanges (pick t s (refusal b) .changes) (pick t r (refusal b))

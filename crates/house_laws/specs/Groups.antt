@@ -25,11 +25,11 @@ skipping k i = cond (ltb i k) i (suc i)
 abbrev pub without : ℕ → Group → Group
 without k g p a = g p (skipping k a)
 
--- the same n accounts in another order: at a stands the account `from a`, and each stands once
-pub record Rearranged (n : ℕ) (g h : Group) : Type 0 where
+-- the same n accounts in another order: in each part the account `from a` stands at a, and each stands once
+pub record Rearranged (n m : ℕ) (g h : Group) : Type 0 where
   pub from : ℕ → ℕ
   pub each-once : Perm ℕ (each n from) (each n (λ a. a))
-  pub same : (p a : ℕ) → a < n → h p a ≡ g p (from a)
+  pub same : (p a : ℕ) → p < m → a < n → h p a ≡ g p (from a)
 
 -- every account adds the same to its part's sums
 pub record AddSame (n m : ℕ) (g h : Group) : Type 0 where
