@@ -31,10 +31,10 @@ adds-0 z e a = ap (λ z. a +ℤ z) e ∙ +ℤ-idr a
 -- ---- an account left out of a part, wherever it stands: the part is that of the group without it
 module _ (n k : ℕ) (g : Group) (p : ℕ) (at : k ≤ n) (out : LeftOut (g p k)) where
   pub without-first-sum : firstSum (suc n) g p ≡ firstSum n (without k g) p
-  without-first-sum = skipped sums n k (λ a. firstOf (g p a)) at (adds-0 (firstOf (g p k)) (left-out-first (g p k) out))
+  without-first-sum = skipped sums n k (λ a. firstOf (g p a)) at (adds-0 _ (left-out-first (g p k) out) _)
 
   pub without-summed-change : summedChange (suc n) g p ≡ summedChange n (without k g) p
-  without-summed-change = skipped sums n k (λ a. changeOf (g p a)) at (adds-0 (changeOf (g p k)) (left-out-change (g p k) out))
+  without-summed-change = skipped sums n k (λ a. changeOf (g p a)) at (adds-0 _ (left-out-change (g p k) out) _)
 
   pub without-growth : growth (suc n) g p ≡ growth n (without k g) p
   without-growth = rw (without-first-sum, without-summed-change)
@@ -58,6 +58,6 @@ absent-report n m k g at out = same-report parts same
     same : SameTests m (suc n) g n (without k g)
     same =
         record {
-          in-parts = λ p l. skipped tests n k (λ a. inI64 (changeOf (g p a))) at (tests-nothing (changeOf (g p k)) (left-out-change (g p k) (out p l)));
-          in-all = skipped tests n k (λ a. inI64 (accountChange m g a)) at (tests-nothing (accountChange m g k) (absent-change m g k out));
+          in-parts = λ p l. skipped tests n k (λ a. inI64 (changeOf (g p a))) at (tests-nothing _ (left-out-change (g p k) (out p l)) _);
+          in-all = skipped tests n k (λ a. inI64 (accountChange m g a)) at (tests-nothing _ (absent-change m g k out) _);
         }

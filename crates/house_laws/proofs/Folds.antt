@@ -1,12 +1,12 @@
 -- Sums, tests and products over the numbers below n are folds over a column, and a fold depends on nothing but what stands in it.
 use Prim.Native.Nat.{ℕ, zero, suc, _≤_, _<_}
-use mathlib.Core.Path.{_≡_, refl, sym, ap, _∙_}
+use mathlib.Core.Path.{_≡_, refl, sym, ap, _∙_, subst}
 use mathlib.Core.Bool.{Bool, true, false, cond, _&&_}
 use mathlib.Core.List.{List, _∷_, map, foldl}
 use native.Mathlib.Omega.{arith}
-use lib.Dec.{ltb, leb·zero, leb·suc-zero, leb·suc-suc}
+use lib.Dec.{ltb}
 use lib.IntN.{ℤ, pos, _+ℤ_, +ℤ-assoc, +ℤ-comm}
-use borrow.Author.Tests.{ltb-true, ltb-false}
+use borrow.Author.Tests.{ltb-true, ltb-false, lt-ltb, le-ltb}
 use Rattle.metrics.specs.Double.{one}
 use Rattle.metrics.specs.Curve.{compounded}
 use Rattle.order.specs.Running.{Perm, done, keep, swap, then}
@@ -34,18 +34,11 @@ column-cong room rest n f g e = each-cong room _ _ (λ i h. go i (ltb i n) refl)
     go i false l = refl
 
 -- ---- all indices but one
-skipping-0 : (i : ℕ) → skipping 0 i ≡ suc i
-skipping-0 i = rw (leb·suc-zero i)
+skipping-below : (k i : ℕ) → i < k → skipping k i ≡ i
+skipping-below k i h = rw (lt-ltb i k h)
 
-skipping-at-0 : (k : ℕ) → skipping (suc k) 0 ≡ 0
-skipping-at-0 k = rw (leb·suc-suc 0 k, leb·zero k)
-
-skipping-suc : (k i : ℕ) → skipping (suc k) (suc i) ≡ suc (skipping k i)
-skipping-suc k i = rw (leb·suc-suc (suc i) k) (go (ltb i k))
-  where
-    go : (t : Bool) → cond t (suc i) (suc (suc i)) ≡ suc (cond t i (suc i))
-    go true = refl
-    go false = refl
+skipping-above : (k i : ℕ) → k ≤ i → skipping k i ≡ suc i
+skipping-above k i h = rw (le-ltb i k h)
 
 -- ---- folds over columns
 module _ {A B : Type 0} (op : A → B → A) where
@@ -61,16 +54,6 @@ module _ {A B : Type 0} (op : A → B → A) where
   foldl-perm c (keep {a = x} p) a = foldl-perm c p (op a x)
   foldl-perm c (swap {a = x} {b = y} {x = l}) a = ap (λ s. foldl op s l) (c a x y)
   foldl-perm c (then p q) a = foldl-perm c p a ∙ foldl-perm c q a
-
-  -- a member that changes nothing may be left out
-  foldl-skip : (n k : ℕ) (f : ℕ → B) → k ≤ n → ((a : A) → op a (f k) ≡ a) → (a : A) → foldl op a (each (suc n) f) ≡ foldl op a (each n (λ i. f (skipping k i)))
-  unfolding each
-  foldl-skip n zero f h e a = ap (λ s. foldl op s (each n (λ i. f (suc i)))) (e a) ∙ ap (foldl op a) (each-cong n _ _ (λ i l. ap f (sym (skipping-0 i))))
-  foldl-skip zero (suc k) f h e a = absurd (omega arith)
-  foldl-skip (suc n) (suc k) f h e a =
-      foldl-skip n k (λ i. f (suc i)) (omega arith) e (op a (f 0))
-      ∙ ap (λ s. foldl op (op a (f s)) (each n (λ i. f (suc (skipping k i))))) (sym (skipping-at-0 k))
-      ∙ ap (foldl op (op a (f (skipping (suc k) 0)))) (each-cong n _ _ (λ i l. ap f (sym (skipping-suc k i))))
 
 -- ---- what folds numbers below n, the last one last
 pub record Fold {A B : Type 0} (op : A → B → A) (start : A) (F : ℕ → (ℕ → B) → A) : Type 0 where
@@ -106,8 +89,21 @@ module _ {A B : Type 0} {op : A → B → A} {start : A} {F : ℕ → (ℕ → B
       ∙ ap (foldl op start) (each-map n f (λ i. i))
       ∙ sym (listed n f)
 
-  pub skipped : (n k : ℕ) (f : ℕ → B) → k ≤ n → ((a : A) → op a (f k) ≡ a) → F (suc n) f ≡ F n (λ i. f (skipping k i))
-  skipped n k f h e = listed (suc n) f ∙ foldl-skip op n k f h e start ∙ sym (listed n (λ i. f (skipping k i)))
+  skipped-last : (n k : ℕ) (f : ℕ → B) → k ≡ n → op (F k f) (f k) ≡ F k f → F (suc n) f ≡ F n (λ i. f (skipping k i))
+  skipped-last n k f z e = fold .more n f ∙ subst (λ j. op (F j f) (f j) ≡ F j f) z e ∙ cong n f _ (λ i l. ap f (sym (skipping-below k i (omega arith))))
+
+  -- a number that changes nothing where it stands may be left out
+  pub skipped : (n k : ℕ) (f : ℕ → B) → k ≤ n → op (F k f) (f k) ≡ F k f → F (suc n) f ≡ F n (λ i. f (skipping k i))
+  skipped zero k f h e = skipped-last zero k f (omega arith) e
+  skipped (suc n) k f h e = go (ltb n k) refl (skipped n k f)
+    where
+      go : (t : Bool) → ltb n k ≡ t → (k ≤ n → op (F k f) (f k) ≡ F k f → F (suc n) f ≡ F n (λ i. f (skipping k i))) → F (suc (suc n)) f ≡ F (suc n) (λ i. f (skipping k i))
+      go true l r = skipped-last (suc n) k f (omega (arith, ltb-true n k l)) e
+      go false l r =
+          fold .more (suc n) f
+          ∙ ap (λ a. op a (f (suc n))) (r (ltb-false n k l) e)
+          ∙ ap (λ j. op (F n (λ i. f (skipping k i))) (f j)) (sym (skipping-above k n (ltb-false n k l)))
+          ∙ sym (fold .more n (λ i. f (skipping k i)))
 
 -- ---- sums
 pub sum-exchange : (a x y : ℤ) → (a +ℤ x) +ℤ y ≡ (a +ℤ y) +ℤ x

@@ -5,3 +5,4 @@ pub mod Reports
 pub mod Unread
 pub mod AccountOrder
 pub mod Absent
+pub mod Figure
