@@ -6,3 +6,5 @@ pub mod Unread
 pub mod AccountOrder
 pub mod Absent
 pub mod Figure
+pub mod Answers
+pub mod Alone
