@@ -16,6 +16,7 @@ use Rattle.house.specs.declared.House.{House}
 use Rattle.house.specs.Group.{given, Group, firstOf, changeOf, sumTo, every, firstSum, summedChange, growth, figure, inI64}
 use Rattle.house.specs.Places.{each, groupIn}
 use Rattle.house.specs.House.{groupAnswer, report, houseOf}
+use Rattle.house_laws.specs.Groups.{alone}
 use Rattle.house_laws.proofs.Folds.{and-left}
 use Rattle.house_laws.proofs.Answers.{done-tells, answer-is, done-report}
 use Rattle.house_laws.proofs.Figure.{figure-is}
@@ -48,10 +49,7 @@ module _ (g : Group) (previous equity : ℤ) (there : g 0 0 ≡ record { first =
     unfolding each
     alone-figure = figure-is 1 1 g ∙ ap (λ r. totalReturn (r ∷ [])) alone-growth
 
--- of lists: an account with both its marks, in one part
-abbrev pub alone : ℤ → ℤ → House
-alone previous equity = houseOf 1 1 (1 ∷ 1 ∷ []) (previous ∷ equity ∷ [])
-
+-- the same of lists
 pub alone-in-lists : (previous equity : ℤ) → alone previous equity .answer ≡ Done → alone previous equity .figure ≡ totalReturn (returnOf previous equity ∷ [])
 unfolding houseOf every report
 alone-in-lists previous equity done =

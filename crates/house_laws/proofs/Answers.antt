@@ -1,12 +1,15 @@
 -- What the answer to a group tells.
 use Prim.Native.Nat.{ℕ, _<_}
-use mathlib.Core.Path.{_≡_, refl}
-use mathlib.Core.Bool.{Bool, true, false}
+use mathlib.Core.Path.{_≡_, refl, ap, _∙_}
+use mathlib.Core.Bool.{Bool, true, false, _&&_}
+use mathlib.Core.List.{List}
+use lib.IntN.{ℤ}
 use Rattle.answer.specs.Choice.{pick}
-use Rattle.answer.specs.Numbers.{isDone, unless}
-use Rattle.answer.specs.declared.Answer.the-variants.{Done, NoFirstSum, OutOfRange}
+use Rattle.answer.specs.Numbers.{numberOf, isDone, unless}
+use Rattle.answer.specs.declared.Answer.the-variants.{Done, BadSetting, TooLong, BadGroup, NoFirstSum, OutOfRange}
 use Rattle.house.specs.Group.{Group, changeOf, every, firstSum, accountChange, inI64, partInI64, allInI64, allPositive}
-use Rattle.house.specs.House.{groupAnswer, report, refusal, houseOfGroup}
+use Rattle.house.specs.Places.{groupIn, goodMarks}
+use Rattle.house.specs.House.{mostAccounts, mostParts, within, whole, groupAnswer, report, refusal, houseOfGroup, houseOf}
 use Rattle.house_laws.specs.Groups.{Holds}
 use Rattle.house_laws.proofs.Folds.{and-left, and-right, and-both, every-at, every-of}
 
@@ -65,3 +68,29 @@ module _ (n m : ℕ) (g : Group) where
   pub done-report : groupAnswer n m g ≡ Done → houseOfGroup n m g ≡ report n m g
   unfolding houseOfGroup
   done-report e = rw e
+
+-- "13 group empty or over 32, 6 parts outside 1 to 64, 15 .., 14 ..; in that order", with 6 for lists of another length and 1 for a mark above 1 between them
+pub numbered : (n m : ℕ) (marks : List ℕ) (es : List ℤ)
+    → numberOf (houseOf n m marks es .answer)
+    ≡ pick (within n mostAccounts)
+    (pick (within m mostParts && whole n m marks es)
+    (pick (goodMarks marks) (pick (allInI64 n m (groupIn n marks es)) (pick (allPositive n m (groupIn n marks es)) 0 14) 15) 1)
+    6)
+    13
+unfolding houseOf refusal
+numbered n m marks es = go (within n mostAccounts) (within m mostParts && whole n m marks es) (goodMarks marks)
+  where
+    g : Group
+    g = groupIn n marks es
+
+    late : (s t : Bool) → numberOf (unless s OutOfRange (unless t NoFirstSum Done)) ≡ pick s (pick t 0 14) 15
+    late true true = refl
+    late true false = refl
+    late false t = refl
+
+    go : (a b c : Bool) → numberOf (pick (isDone (unless a BadGroup (unless b TooLong (unless c BadSetting Done)))) (houseOfGroup n m g) (refusal (unless a BadGroup (unless b TooLong (unless c BadSetting Done)))) .answer)
+        ≡ pick a (pick b (pick c (pick (allInI64 n m g) (pick (allPositive n m g) 0 14) 15) 1) 6) 13
+    go true true true = ap numberOf (answer-is n m g) ∙ late (allInI64 n m g) (allPositive n m g)
+    go true true false = refl
+    go true false c = refl
+    go false b c = refl

@@ -2,7 +2,7 @@
 use Prim.Native.Nat.{ℕ, suc, _+_, _*_, _<_}
 use mathlib.Core.Path.{_≡_}
 use mathlib.Core.Bool.{true, cond}
-use mathlib.Core.List.{List}
+use mathlib.Core.List.{List, [], _∷_}
 use mathlib.Core.Logic.{_⊎_}
 use lib.Dec.{ltb}
 use lib.IntN.{ℤ, pos}
@@ -12,6 +12,7 @@ use Rattle.order.specs.Running.{Perm}
 use Rattle.house.specs.declared.House.{House}
 use Rattle.house.specs.Group.{absent, Ends, Group, firstOf, changeOf, firstSum, summedChange, accountChange, groupChange, inI64}
 use Rattle.house.specs.Places.{each}
+use Rattle.house.specs.House.{houseOf}
 
 -- "An account missing at either end"
 abbrev pub LeftOut : Ends → Type 0
@@ -41,6 +42,10 @@ pub record AgreeIfBoth (marks : List ℕ) (es fs : List ℤ) : Type 0 where
   pub as-long : length es ≡ length fs
   pub at-first : (k : ℕ) → getD marks (2 * k) 0 ≡ 1 → getD marks (2 * k + 1) 0 ≡ 1 → getD es (2 * k) (pos 0) ≡ getD fs (2 * k) (pos 0)
   pub at-last : (k : ℕ) → getD marks (2 * k) 0 ≡ 1 → getD marks (2 * k + 1) 0 ≡ 1 → getD es (2 * k + 1) (pos 0) ≡ getD fs (2 * k + 1) (pos 0)
+
+-- the report of one account that is there at both ends of one part
+abbrev pub alone : ℤ → ℤ → House
+alone previous equity = houseOf 1 1 (1 ∷ 1 ∷ []) (previous ∷ equity ∷ [])
 
 -- a report with another column of changes
 abbrev pub withChanges : List ℤ → House → House
