@@ -19,6 +19,7 @@ adds-nothing of e (inr a) = ap (ofBoth of (e .first)) a ∙ no-last (e .first)
     no-last (given f) = refl
     no-last absent = refl
 
+-- neither to the first sum nor to the summed change
 pub left-out-first : (e : Ends) → LeftOut e → firstOf e ≡ pos 0
 left-out-first = adds-nothing (λ f l. f)
 
@@ -30,6 +31,7 @@ adds-0 z e a = ap (λ z. a +ℤ z) e ∙ +ℤ-idr a
 
 -- ---- an account left out of a part, wherever it stands: the part is that of the group without it
 module _ (n k : ℕ) (g : Group) (p : ℕ) (at : k ≤ n) (out : LeftOut (g p k)) where
+  -- its first sum, its summed change and its growth
   pub without-first-sum : firstSum (suc n) g p ≡ firstSum n (without k g) p
   without-first-sum = skipped sums n k (λ a. firstOf (g p a)) at (adds-0 _ (left-out-first (g p k) out) _)
 

@@ -1,4 +1,4 @@
--- "nor on the order of accounts": the report of the same accounts in another order.
+-- "the figure doesn't depend on what stands behind marks of absence, nor on the order of accounts": the report of the same accounts in another order.
 use Prim.Native.Nat.{ℕ, _<_}
 use mathlib.Core.Path.{_≡_, sym, ap, _∙_, subst₂}
 use mathlib.Core.List.{List}
@@ -20,6 +20,7 @@ module _ {n m : ℕ} {g h : Group} (r : Rearranged n m g h) where
   moved fold c u v e = sym (cong fold n v (λ a. u (r .from a)) e ∙ rearranged fold c n (r .from) (r .each-once) u)
 
   -- ---- each part
+  -- its first sum, summed change and growth are the same
   pub order-first-sum : (p : ℕ) → p < m → firstSum n g p ≡ firstSum n h p
   order-first-sum p k = moved sums sum-exchange _ _ (λ a l. ap firstOf (r .same p a k l))
 
@@ -33,10 +34,11 @@ module _ {n m : ℕ} {g h : Group} (r : Rearranged n m g h) where
   order-growth = same-growth same-parts
 
   -- ---- each account
-  -- its change goes with it
+  -- "each account's change, defined over its own parts alone" goes with the account
   pub order-account-change : (a : ℕ) → a < n → accountChange m h a ≡ accountChange m g (r .from a)
   order-account-change a l = cong sums m _ _ (λ p k. ap changeOf (r .same p a k l))
 
+  -- so the changes are the same numbers, each as often
   pub order-account-changes : Perm ℤ (each n (accountChange m h)) (each n (accountChange m g))
   order-account-changes =
       subst₂ (Perm ℤ) (each-map n (accountChange m g) (r .from) ∙ sym (each-cong n _ _ order-account-change)) (each-map n (accountChange m g) (λ a. a))
@@ -50,6 +52,7 @@ module _ {n m : ℕ} {g h : Group} (r : Rearranged n m g h) where
       }
 
   -- ---- the group
+  -- its change, its figure and its answer are the same
   pub order-group-change : groupChange n m g ≡ groupChange n m h
   order-group-change = same-group-change same-parts
 

@@ -19,7 +19,7 @@ both-hold true false e = (refl, cc)
 both-hold false b e = (cc, cc)
 
 module _ (n m : ℕ) (g : Group) where
-  -- "Refusals: .. 15 a change or a finished sum (not a partial one) leaves i64, 14 a part's first sum is not positive": done tells that neither is so of any, and is told wherever neither is
+  -- "Refusals: .. 15 a change or a finished sum (not a partial one) leaves i64, 14 a part's first sum is not positive": done tells that neither is so of any
   pub done-tells : groupAnswer n m g ≡ Done → Holds n m g
   done-tells e =
       let range = both-hold (allInI64 n m g) (allPositive n m g) e .0 in
@@ -35,6 +35,7 @@ module _ (n m : ℕ) (g : Group) where
         positive = every-at m _ positive;
       }
 
+  -- and is told wherever neither is
   pub holds-done : Holds n m g → groupAnswer n m g ≡ Done
   holds-done h = rw (in-range, positive)
     where
@@ -47,7 +48,7 @@ module _ (n m : ℕ) (g : Group) where
       positive : allPositive n m g ≡ true
       positive = every-of m _ (h .positive)
 
-  -- "15 in any part comes before 14 in any part"
+  -- "15 in any part comes before 14 in any part": one part out of range is enough, whatever the others begin with
   pub range-first : (p : ℕ) → p < m → partInI64 n g p ≡ false → groupAnswer n m g ≡ OutOfRange
   range-first p k e = go (allInI64 n m g) refl
     where
@@ -56,6 +57,7 @@ module _ (n m : ℕ) (g : Group) where
       go false r = refl
 
   -- ---- the report
+  -- it has the group's answer
   pub answer-is : houseOfGroup n m g .answer ≡ groupAnswer n m g
   unfolding houseOfGroup report refusal
   answer-is = go (allInI64 n m g) (allPositive n m g)
@@ -65,6 +67,7 @@ module _ (n m : ℕ) (g : Group) where
       go true false = refl
       go false t = refl
 
+  -- and is the report where that is done
   pub done-report : groupAnswer n m g ≡ Done → houseOfGroup n m g ≡ report n m g
   unfolding houseOfGroup
   done-report e = rw e

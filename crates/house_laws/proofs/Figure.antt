@@ -92,6 +92,6 @@ unfolding productTo compounded
 product-fits zero f = unfold fits in tt
 product-fits (suc m) f = mul-fits binary64 _ _
 
--- It may be left out, wherever it stands.
+-- It may be left out, wherever it stands, whatever it begins with.
 pub quiet-part : (n m k : ℕ) (g : Group) → k ≤ m → ltZ (pos 0) (firstSum n g k) ≡ true → summedChange n g k ≡ pos 0 → figure n (suc m) g ≡ figure n m (λ p. g (skipping k p))
 quiet-part n m k g l f c = ap (λ x. sub binary64 x one) (skipped products m k (growth n g) l (ap (compounded _) (ap (λ z. growthOf z (firstSum n g k)) c ∙ no-growth (firstSum n g k) f) ∙ times-one _ (product-fits k (growth n g))))

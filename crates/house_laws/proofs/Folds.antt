@@ -16,16 +16,19 @@ use Rattle.house.specs.Places.{each, column}
 use Rattle.house_laws.specs.Groups.{skipping}
 
 -- ---- columns
+-- a column is what stands at its places
 pub each-cong : {A : Type 0} (n : ℕ) (f g : ℕ → A) → ((i : ℕ) → i < n → f i ≡ g i) → each n f ≡ each n g
 unfolding each
 each-cong zero f g e = refl
 each-cong (suc n) f g e = simp (e 0 (omega arith), each-cong n (λ i. f (suc i)) (λ i. g (suc i)) (λ i h. e (suc i) (omega arith)))
 
+-- a function of the members is one of the places
 pub each-map : {A B : Type 0} (n : ℕ) (f : A → B) (s : ℕ → A) → map f (each n s) ≡ each n (λ i. f (s i))
 unfolding each
 each-map zero f s = refl
 each-map (suc n) f s = ap (λ l. f (s 0) ∷ l) (each-map n f (λ i. s (suc i)))
 
+-- a column is the same where its first n places are
 pub column-cong : {A : Type 0} (room : ℕ) (rest : A) (n : ℕ) (f g : ℕ → A) → ((i : ℕ) → i < n → f i ≡ g i) → column room rest n f ≡ column room rest n g
 column-cong room rest n f g e = each-cong room _ _ (λ i h. go i (ltb i n) refl)
   where
@@ -60,6 +63,7 @@ pub record Fold {A B : Type 0} (op : A → B → A) (start : A) (F : ℕ → (�
   pub none : (f : ℕ → B) → F zero f ≡ start
   pub more : (n : ℕ) (f : ℕ → B) → F (suc n) f ≡ op (F n f) (f n)
 
+-- sums, tests and products are such folds
 pub sums : Fold _+ℤ_ (pos 0) sumTo
 unfolding sumTo
 sums = record { none = λ f. refl; more = λ n f. refl }
@@ -73,14 +77,17 @@ unfolding productTo
 products = record { none = λ f. refl; more = λ n f. refl }
 
 module _ {A B : Type 0} {op : A → B → A} {start : A} {F : ℕ → (ℕ → B) → A} (fold : Fold op start F) where
+  -- it is the fold over the column
   pub listed : (n : ℕ) (f : ℕ → B) → F n f ≡ foldl op start (each n f)
   unfolding each
   listed zero f = fold .none f
   listed (suc n) f = fold .more n f ∙ ap (λ a. op a (f n)) (listed n f) ∙ sym (foldl-last op start n f)
 
+  -- what is the same below n comes to the same
   pub cong : (n : ℕ) (f g : ℕ → B) → ((i : ℕ) → i < n → f i ≡ g i) → F n f ≡ F n g
   cong n f g e = listed n f ∙ ap (foldl op start) (each-cong n f g e) ∙ sym (listed n g)
 
+  -- where the order of two does not matter, numbers each taken once come to the same in any order
   pub rearranged : ((a : A) (x y : B) → op (op a x) y ≡ op (op a y) x) → (n : ℕ) (s : ℕ → ℕ) → Perm ℕ (each n s) (each n (λ i. i)) → (f : ℕ → B) → F n (λ i. f (s i)) ≡ F n f
   rearranged c n s p f =
       listed n (λ i. f (s i))
@@ -89,6 +96,7 @@ module _ {A B : Type 0} {op : A → B → A} {start : A} {F : ℕ → (ℕ → B
       ∙ ap (foldl op start) (each-map n f (λ i. i))
       ∙ sym (listed n f)
 
+  -- the same of the last number
   skipped-last : (n k : ℕ) (f : ℕ → B) → k ≡ n → op (F k f) (f k) ≡ F k f → F (suc n) f ≡ F n (λ i. f (skipping k i))
   skipped-last n k f z e = fold .more n f ∙ subst (λ j. op (F j f) (f j) ≡ F j f) z e ∙ cong n f _ (λ i l. ap f (sym (skipping-below k i (omega arith))))
 
@@ -106,14 +114,17 @@ module _ {A B : Type 0} {op : A → B → A} {start : A} {F : ℕ → (ℕ → B
           ∙ sym (fold .more n (λ i. f (skipping k i)))
 
 -- ---- sums
+-- two that are added may be exchanged
 pub sum-exchange : (a x y : ℤ) → (a +ℤ x) +ℤ y ≡ (a +ℤ y) +ℤ x
 sum-exchange a x y = +ℤ-assoc a x y ∙ ap (λ z. a +ℤ z) (+ℤ-comm x y) ∙ sym (+ℤ-assoc a y x)
 
+-- nothing adds up to nothing
 pub sum-of-zeros : (n : ℕ) (f : ℕ → ℤ) → ((i : ℕ) → i < n → f i ≡ pos 0) → sumTo n f ≡ pos 0
 unfolding sumTo
 sum-of-zeros zero f e = refl
 sum-of-zeros (suc n) f e = simp (sum-of-zeros n f (λ i h. e i (omega arith)), e n (omega arith))
 
+-- the sum of two columns is that of their sums
 pub sum-of-sums : (n : ℕ) (f g : ℕ → ℤ) → sumTo n (λ i. f i +ℤ g i) ≡ sumTo n f +ℤ sumTo n g
 unfolding sumTo
 sum-of-sums zero f g = refl
@@ -122,13 +133,14 @@ sum-of-sums (suc n) f g = ap (λ z. z +ℤ (f n +ℤ g n)) (sum-of-sums n f g) �
     paired : (a b x y : ℤ) → (a +ℤ b) +ℤ (x +ℤ y) ≡ (a +ℤ x) +ℤ (b +ℤ y)
     paired a b x y = sym (+ℤ-assoc (a +ℤ b) x y) ∙ ap (λ z. z +ℤ y) (sum-exchange a b x) ∙ +ℤ-assoc (a +ℤ x) b y
 
--- by columns or by rows
+-- the numbers of a table add up the same by rows and by columns
 pub sum-swap : (n m : ℕ) (f : ℕ → ℕ → ℤ) → sumTo n (λ a. sumTo m (λ p. f p a)) ≡ sumTo m (λ p. sumTo n (f p))
 unfolding sumTo
 sum-swap zero m f = sym (sum-of-zeros m (λ p. pos 0) (λ p h. refl))
 sum-swap (suc n) m f = ap (λ z. z +ℤ sumTo m (λ p. f p n)) (sum-swap n m f) ∙ sym (sum-of-sums m (λ p. sumTo n (f p)) (λ p. f p n))
 
 -- ---- tests
+-- a test of two and the test of each
 pub and-left : (a b : Bool) → a && b ≡ true → a ≡ true
 and-left true b e = refl
 and-left false b e = e
@@ -140,6 +152,7 @@ and-right false b e = cc
 pub and-both : (a b : Bool) → a ≡ true → b ≡ true → a && b ≡ true
 and-both a b h g = rw (h, g)
 
+-- two that are tested may be exchanged
 pub test-exchange : (a x y : Bool) → (a && x) && y ≡ (a && y) && x
 test-exchange true true true = refl
 test-exchange true true false = refl
@@ -147,6 +160,7 @@ test-exchange true false true = refl
 test-exchange true false false = refl
 test-exchange false x y = refl
 
+-- a test of all and the test of each
 pub every-at : (n : ℕ) (t : ℕ → Bool) → every n t ≡ true → (i : ℕ) → i < n → t i ≡ true
 unfolding every
 every-at zero t e i h = absurd (omega arith)

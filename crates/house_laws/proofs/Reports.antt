@@ -17,11 +17,12 @@ use Rattle.house.specs.House.{groupAnswer, report, refusal, houseOfGroup, mostP
 use Rattle.house_laws.specs.Groups.{AddSame, withChanges}
 use Rattle.house_laws.proofs.Folds.{sums, tests, products, cong, column-cong}
 
--- n accounts of one group and k of another, in m parts
+-- n accounts of one group and k of another have the same sums in each of m parts
 pub record SameParts (m n : ℕ) (g : Group) (k : ℕ) (h : Group) : Type 0 where
   pub first : (p : ℕ) → p < m → firstSum n g p ≡ firstSum k h p
   pub change : (p : ℕ) → p < m → summedChange n g p ≡ summedChange k h p
 
+-- what is asked of each account comes to the same
 pub record SameTests (m n : ℕ) (g : Group) (k : ℕ) (h : Group) : Type 0 where
   pub in-parts : (p : ℕ) → p < m → every n (λ a. inI64 (changeOf (g p a))) ≡ every k (λ a. inI64 (changeOf (h p a)))
   pub in-all : every n (λ a. inI64 (accountChange m g a)) ≡ every k (λ a. inI64 (accountChange m h a))
@@ -30,6 +31,7 @@ pub record SameTests (m n : ℕ) (g : Group) (k : ℕ) (h : Group) : Type 0 wher
 abbrev pub answered : Answer → House → House
 answered a r = pick (isDone a) r (refusal a)
 
+-- with the same answer, reports that differ in their changes alone still do
 pub but-changes : (a b : Answer) (r s : House) → a ≡ b → s ≡ withChanges (s .changes) r → answered b s ≡ withChanges (answered b s .changes) (answered a r)
 but-changes a b r s e d = rw e (go (isDone b))
   where
@@ -38,6 +40,7 @@ but-changes a b r s e d = rw e (go (isDone b))
     go false = refl
 
 module _ {m n : ℕ} {g : Group} {k : ℕ} {h : Group} (s : SameParts m n g k h) where
+  -- growths, figure and the group's change are the parts' alone
   pub same-growth : (p : ℕ) → p < m → growth n g p ≡ growth k h p
   same-growth p l = rw (s .first p l, s .change p l)
 
@@ -67,6 +70,7 @@ module _ {m n : ℕ} {g : Group} {k : ℕ} {h : Group} (s : SameParts m n g k h)
     same-range : allInI64 n m g ≡ allInI64 k m h
     same-range = rw (t .in-all, same-group-change, cong tests m (partInI64 n g) (partInI64 k h) (λ p l. rw (t .in-parts p l, s .first p l, s .change p l)))
 
+    -- with the tests of the accounts, so is the answer
     pub same-answer : groupAnswer n m g ≡ groupAnswer k m h
     same-answer = rw (same-range, same-positive)
 

@@ -1,4 +1,4 @@
--- "numbers behind a mark of absence are not read": whatever stands there, the report is the same.
+-- The report is the same whatever stands behind marks of absence.
 use Prim.Native.Nat.{ℕ, _+_, _*_}
 use mathlib.Core.Path.{_≡_, refl}
 use mathlib.Core.Bool.{Bool, true, false, cond}
@@ -26,7 +26,7 @@ added of a b f l f' l' e d = go (eqb a 1) (eqb b 1) refl refl
     go false t p q = refl
 
 module _ (n m : ℕ) (marks : List ℕ) (es fs : List ℤ) where
-  -- Where an account is missing at one end, the number at its other end is not read either.
+  -- "An account missing at either end is left out of that part": where it is missing at one end, the number at its other end is not read either.
   pub unread : AgreeIfBoth marks es fs → houseOf n m marks es ≡ houseOf n m marks fs
   unfolding houseOf
   unread s i = pick (isDone (early i)) (same-house same i) (refusal (early i))
@@ -41,6 +41,6 @@ module _ (n m : ℕ) (marks : List ℕ) (es fs : List ℤ) where
             change = λ p a h l. added (λ f l. l -ℤ f) _ _ _ _ _ _ (s .at-first (p * n + a)) (s .at-last (p * n + a));
           }
 
-  -- Equities that agree wherever their own mark is 1 do so.
+  -- "numbers behind a mark of absence are not read": equities that agree wherever their own mark is 1 have one report.
   pub unread-behind-marks : length es ≡ length fs → ((k : ℕ) → getD marks k 0 ≡ 1 → getD es k (pos 0) ≡ getD fs k (pos 0)) → houseOf n m marks es ≡ houseOf n m marks fs
   unread-behind-marks l e = unread (record { as-long = l; at-first = λ k a b. e (2 * k) a; at-last = λ k a b. e (2 * k + 1) b })
