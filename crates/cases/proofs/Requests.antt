@@ -1,7 +1,7 @@
 -- Every case of document 02 comes out as it says: the definitions are evaluated. Assumes nothing.
 use mathlib.Core.Bool.{true}
 use mathlib.Core.Path.{_≡_, refl}
-use lib.Ieee.{add, mul, div, lt, le, ofInt, toSigned}
+use lib.Ieee.{add, sub, mul, div, lt, le, ofInt, toSigned}
 use Rattle.sums.specs.Sums.{clamp64, satAdd, satSub, satNeg, satAbs, value, notional}
 use Rattle.doubles.specs.Doubles.{roundAway}
 use Rattle.position.specs.Shares.{isZero}
@@ -26,9 +26,14 @@ use Rattle.admission.specs.Admission.{capped, insertBy, added, addedAll, admitt
 use Rattle.admission.specs.Running.{parted, sortedWith, cashFirst, inRunningOrder, notionalFrom, planOf}
 use Rattle.portfolio.specs.Answers.{hasRoom, notHeld, rebalanceAnswer}
 use Rattle.portfolio.specs.Rebalance.{rebalanced, afterRebalance, afterPlan, accountAfter, admittedPlan}
+use Rattle.portfolio.specs.Returns.{returnOf}
+use Rattle.metrics.specs.Curve.{compounded}
+use Rattle.house.specs.Group.{sumTo, every, productTo}
+use Rattle.house.specs.Places.{each}
+use Rattle.house.specs.House.{report, refusal, houseOfGroup, houseOf}
 use Rattle.cases.specs.Rows.{allRight}
 use Rattle.cases.specs.Requests.{requests}
 
 pub requests-hold : allRight requests ≡ true
-unfolding rebalanced afterRebalance afterPlan accountAfter admittedPlan rebalanceAnswer hasRoom notHeld soundAccount soundScalars soundColumns soundPlaces tableOf goodRules goodSettings goodCeiling goodCosts goodRate zipped unused ordered goodSymbol bytesFrom leading zeros padded soundNumbers sound shortEnough listsAnswer among allGood distinct allFinite allPriced priceOf worthFrom equityOf planOf wanted closings closing plannedClose Plan.ordered withinBand underMaximum limited targetings drift capped insertBy added addedAll admittedFrom admitted inRunningOrder cashFirst parted sortedWith cashChange cashTaken notionalFrom fillAll fill fillsWhole settled counted trimmedFill need fits largest affordable above made recordOf paid applied sameSide entered closedBy gain realizedBy closed reduced isZero cost commission atLeast uncapped atMost effective slipped slippageFactor value notional clamp64 satAdd satSub satNeg satAbs roundAway add mul div lt le ofInt toSigned
+unfolding houseOf houseOfGroup report refusal each sumTo every productTo compounded returnOf rebalanced afterRebalance afterPlan accountAfter admittedPlan rebalanceAnswer hasRoom notHeld soundAccount soundScalars soundColumns soundPlaces tableOf goodRules goodSettings goodCeiling goodCosts goodRate zipped unused ordered goodSymbol bytesFrom leading zeros padded soundNumbers sound shortEnough listsAnswer among allGood distinct allFinite allPriced priceOf worthFrom equityOf planOf wanted closings closing plannedClose Plan.ordered withinBand underMaximum limited targetings drift capped insertBy added addedAll admittedFrom admitted inRunningOrder cashFirst parted sortedWith cashChange cashTaken notionalFrom fillAll fill fillsWhole settled counted trimmedFill need fits largest affordable above made recordOf paid applied sameSide entered closedBy gain realizedBy closed reduced isZero cost commission atLeast uncapped atMost effective slipped slippageFactor value notional clamp64 satAdd satSub satNeg satAbs roundAway add sub mul div lt le ofInt toSigned
 requests-hold = refl

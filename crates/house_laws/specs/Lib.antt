@@ -1,0 +1,2 @@
+-- What the laws of the house return speak of.
+pub mod Groups

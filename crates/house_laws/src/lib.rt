@@ -1,0 +1,1 @@
+// What holds of the house return of every group: definitions and laws only.
