@@ -1,6 +1,7 @@
 //! A plan run through the library, period by period.
 
-use crate::plan::{Close, Opening, Period, Plan, Said};
+use crate::lines::Said;
+use crate::plan::{Close, Opening, Period, Plan};
 use std::fmt;
 use threshcoil::{
     Account, Context, CostModel, ExecutionKind, ExecutionRecord, Figures, Position, Price, Refusal, Symbol, Target,

@@ -2,6 +2,8 @@
 
 mod chart;
 mod history;
+mod html;
+mod lines;
 mod page;
 mod plan;
 mod text;
