@@ -4,7 +4,7 @@ use crate::chart::Chart;
 use crate::history::{History, Told};
 use crate::html::{self, escaped};
 use crate::plan::{Plan, Unread};
-use crate::text::{figures, money, percent, shares};
+use crate::text::{count, figures, money, percent, shares};
 use std::fmt::Write;
 use threshcoil::{ExecutionKind, ExecutionRecord, Position};
 
@@ -165,7 +165,7 @@ fn trades(out: &mut String, history: &History) {
             "<details{}>\n<summary>{}: {}{cut}</summary>",
             if k == 0 { " open" } else { "" },
             escaped(&told.label),
-            if told.fills.len() == 1 { "1 fill".into() } else { format!("{} fills", told.fills.len()) }
+            count(told.fills.len(), "fill")
         );
         html::table(out, ["Symbol", "Shares", "Price", "Cost", "Cash after"], told.fills.iter().map(fill));
         out.push_str("</details>\n");
