@@ -9,13 +9,10 @@ const ACCOUNTS: usize = Group::MAX_ACCOUNTS;
 const PARTS: usize = Group::MAX_PARTS;
 const ENDS: usize = 2 * ACCOUNTS * PARTS;
 
-/// An account's equity at the first and the last end of a part; none where it is absent.
-type Ends = [Option<i64>; 2];
-
 /// Accounts, and what each was worth at both ends of each part of a period.
 ///
 /// Accounts and parts are made here and filled in by [`Part::equities`]; too many or too few of either are refused when the
-/// figure is asked for. A group takes 64 KiB, all inside it, and asking for the figure some 40 KiB of stack.
+/// figure is asked for. A group takes 36 KiB, all inside it.
 ///
 /// ```
 /// use threshcoil::Group;
@@ -42,7 +39,9 @@ pub struct Group {
     number: u64,
     accounts: usize,
     parts: usize,
-    ends: [[Ends; ACCOUNTS]; PARTS],
+    /// As the C interface takes them: part by part, in a part account by account, for each its first end and its last.
+    marks: [u8; ENDS],
+    equities: [i64; ENDS],
 }
 
 /// An account of one group. With another group it is refused, by [`AnotherGroup`].
@@ -59,8 +58,9 @@ pub struct AnotherGroup;
 /// A part of the period, to be filled in. A deposit or a withdrawal ends a part.
 pub struct Part<'a> {
     group: u64,
-    /// None of a part over the bound.
-    ends: Option<&'a mut [Ends; ACCOUNTS]>,
+    /// Empty where the part is over the bound.
+    marks: &'a mut [u8],
+    equities: &'a mut [i64],
 }
 
 /// What a group came to.
@@ -98,21 +98,26 @@ impl Group {
     pub fn new() -> Group {
         static MADE: AtomicU64 = AtomicU64::new(0);
         let number = MADE.fetch_add(1, Ordering::Relaxed);
-        Group { number, accounts: 0, parts: 0, ends: [[[None; 2]; ACCOUNTS]; PARTS] }
+        Group { number, accounts: 0, parts: 0, marks: [0; ENDS], equities: [0; ENDS] }
     }
 
     /// One account more, absent in the parts that there are.
     pub fn account(&mut self) -> AccountId {
-        let place = self.accounts;
+        let (place, parts) = (self.accounts, self.parts.min(PARTS));
         self.accounts += 1;
+        if place < ACCOUNTS {
+            widen(&mut self.marks, parts, 2 * place);
+            widen(&mut self.equities, parts, 2 * place);
+        }
         AccountId { group: self.number, place }
     }
 
     /// One part more, behind the others, in which every account is absent.
     pub fn part(&mut self) -> Part<'_> {
-        let place = self.parts;
+        let width = 2 * self.accounts.min(ACCOUNTS);
+        let places = if self.parts < PARTS { self.parts * width..(self.parts + 1) * width } else { 0..0 };
         self.parts += 1;
-        Part { group: self.number, ends: self.ends.get_mut(place) }
+        Part { group: self.number, marks: &mut self.marks[places.clone()], equities: &mut self.equities[places] }
     }
 
     /// The figure, or, in this order: [`Refusal::BadGroup`], [`Refusal::TooLong`], [`Refusal::OutOfRange`] in any part,
@@ -120,18 +125,14 @@ impl Group {
     pub fn house_return(&self) -> Result<HouseReturn, Refusal> {
         // What is over a bound had no room, and the counts, which are told as they are, get it refused.
         let (accounts, part_count) = (self.accounts.min(ACCOUNTS), self.parts.min(PARTS));
-        let (mut marks, mut equities, count) = ([0; ENDS], [0; ENDS], 2 * accounts * part_count);
-        let ends = self.ends[..part_count].iter().flat_map(|part| part[..accounts].as_flattened());
-        for ((mark, equity), end) in marks.iter_mut().zip(&mut equities).zip(ends) {
-            (*mark, *equity) = (u8::from(end.is_some()), end.unwrap_or(0));
-        }
+        let count = 2 * accounts * part_count;
         let (mut rates, mut changes) = ([0.0; 1 + PARTS], [0; 1 + ACCOUNTS]);
         let (mut firsts, mut gains) = ([0; PARTS], [0; PARTS]);
         told(threshcoil_sys::tc_house_return(
             self.accounts as u64,
             self.parts as u64,
-            &marks[..count],
-            &equities[..count],
+            &self.marks[..count],
+            &self.equities[..count],
             &mut rates[..=part_count],
             &mut changes[..=accounts],
             &mut firsts[..part_count],
@@ -156,10 +157,22 @@ impl Part<'_> {
         if account.group != self.group {
             return Err(AnotherGroup);
         }
-        if let Some(place) = self.ends.as_mut().and_then(|ends| ends.get_mut(account.place)) {
-            *place = [first, last];
+        let places = 2 * account.place..2 * account.place + 2;
+        for (place, end) in places.zip([first, last]) {
+            if let (Some(mark), Some(equity)) = (self.marks.get_mut(place), self.equities.get_mut(place)) {
+                (*mark, *equity) = (u8::from(end.is_some()), end.unwrap_or(0));
+            }
         }
         Ok(self)
+    }
+}
+
+/// Each row gets two places more, of 0. The last is moved first, since the others take its place.
+fn widen<T: Copy + Default>(places: &mut [T], rows: usize, width: usize) {
+    for row in (0..rows).rev() {
+        let from = row * (width + 2);
+        places.copy_within(row * width..(row + 1) * width, from);
+        places[from + width..from + width + 2].fill(T::default());
     }
 }
 

@@ -194,6 +194,30 @@ fn an_account_that_is_made_later_is_absent_before() {
     assert_eq!(house.change_of(later), None, "made after the figure was asked for");
 }
 
+/// One account more before every second part, up to 32 and 64: as if all had been made at first.
+#[test]
+fn accounts_are_made_between_parts() {
+    let ends = |part: i64| (0..=part / 2).map(move |k| both(100 + 7 * k + part, 90 + (11 + k) * (part + 3) % 57));
+    let (mut between, mut ids) = (Group::new(), Vec::new());
+    for part in 0..64 {
+        if part % 2 == 0 {
+            ids.push(between.account());
+        }
+        let mut filled = between.part();
+        for (id, (first, last)) in ids.iter().zip(ends(part)) {
+            filled.equities(*id, first, last).expect("of the group");
+        }
+    }
+    let parts: Vec<Vec<Ends>> = (0..64).map(|part| ends(part).collect()).collect();
+    let (first, changes) = told(32, &parts.iter().map(Vec::as_slice).collect::<Vec<_>>()).expect("a figure");
+    let between = between.house_return().expect("a figure");
+    assert_eq!((between.figure, between.change, between.parts()), (first.figure, first.change, first.parts()));
+    assert_eq!(
+        ids.iter().map(|id| between.change_of(*id)).collect::<Vec<_>>(),
+        changes.into_iter().map(Some).collect::<Vec<_>>()
+    );
+}
+
 #[test]
 fn an_account_of_another_group_is_not_taken() {
     let (mut first, ours) = group(1, &[]);
