@@ -1,5 +1,5 @@
-/* Compiled with the header and linked with the archive: some of document 01's cases, document 02's of request 1, and a ceiling
- * of its request 3, asked from C. */
+/* Compiled with the header and linked with the archive: some of document 01's cases, document 02's of request 1, a ceiling of
+ * its request 3, and a group of its request 2, asked from C. */
 #include "threshcoil.h"
 
 #include <stdio.h>
@@ -187,6 +187,44 @@ static void ceiling_of_an_account(void)
     held("ceiling, an account with a bad one", (int64_t)r, TC_UNSOUND);
 }
 
+/* Two accounts over two parts. The first: 100 to 150 and 300 to 350, so 100 over 400. The second: 500 to 375, and one that is
+ * absent at its last end, whatever stands there. So 1.25 times 0.75 less 1, in 10,000ths. */
+static void house_return(void)
+{
+    uint8_t marks[8] = {1, 1, 1, 1, 1, 1, 1, 0};
+    int64_t equities[8] = {100, 150, 300, 350, 500, 375, 350, INT64_MIN};
+    double rates[3] = {7, 7, 7};
+    int64_t changes[3] = {7, 7, 7}, firsts[2] = {7, 7}, gains[2] = {7, 7};
+    uint64_t r = tc_house_return(2, 2, marks, 8, equities, 8, rates, 3, changes, 2, firsts, 2, gains, 2);
+    held("house, a place too few", (int64_t)r, TC_TOO_LONG);
+    marks[7] = 2;
+    r = tc_house_return(2, 2, marks, 8, equities, 8, rates, 3, changes, 3, firsts, 2, gains, 2);
+    held("house, a mark above 1", (int64_t)r, TC_BAD_SETTING);
+    marks[7] = 1;
+    r = tc_house_return(2, 2, marks, 8, equities, 8, rates, 3, changes, 3, firsts, 2, gains, 2);
+    held("house, a change out of range", (int64_t)r, TC_OUT_OF_RANGE);
+    marks[7] = marks[4] = 0;
+    r = tc_house_return(2, 2, marks, 8, equities, 8, rates, 3, changes, 3, firsts, 2, gains, 2);
+    held("house, a part of nobody", (int64_t)r, TC_NO_FIRST_SUM);
+    r = tc_house_return(TC_MAX_ACCOUNTS + 1, 2, marks, 8, equities, 8, rates, 3, changes, 3, firsts, 2, gains, 2);
+    held("house, an account too many", (int64_t)r, TC_BAD_GROUP);
+    held("house, refused", rates[0] == 7 && rates[2] == 7 && changes[0] == 7 && firsts[1] == 7 && gains[1] == 7, true);
+
+    marks[4] = 1;
+    r = tc_house_return(2, 2, marks, 8, equities, 8, rates, 3, changes, 3, firsts, 2, gains, 2);
+    held("house, answer", (int64_t)r, TC_DONE);
+    held("house, figure", (int64_t)(10000 * rates[0]), -625);
+    held("house, growth", (int64_t)(10000 * rates[1]), 2500);
+    held("house, growth of the second part", (int64_t)(10000 * rates[2]), -2500);
+    held("house, change", changes[0], -25);
+    held("house, change of an account", changes[1], -75);
+    held("house, change of the other", changes[2], 50);
+    held("house, first sum", firsts[0], 400);
+    held("house, first sum of the second part", firsts[1], 500);
+    held("house, change of a part", gains[0], 100);
+    held("house, change of the second part", gains[1], -125);
+}
+
 int main(void)
 {
     leaves();
@@ -194,6 +232,7 @@ int main(void)
     case_of_cash_first();
     ceiling_of_a_fill();
     ceiling_of_an_account();
+    house_return();
     if (failures == 0)
         printf("header: the cases asked from C are as documents 01 and 02 say\n");
     return failures != 0;

@@ -1,5 +1,6 @@
 //! Line charts as SVG, drawn for reading without a script.
 
+use crate::html::escaped;
 use std::fmt::Write;
 
 const WIDTH: f64 = 760.0;
@@ -94,7 +95,7 @@ impl Chart<'_> {
                 "<text class=\"date\" x=\"{:.1}\" y=\"{}\" text-anchor=\"{anchor}\">{}</text>",
                 x(k),
                 self.height - 6.0,
-                crate::page::escaped(label)
+                escaped(label)
             );
         }
     }

@@ -1,6 +1,8 @@
 //! A plan run through the library, period by period.
 
-use crate::plan::{Close, Opening, Period, Plan, Said};
+use crate::lines::Said;
+use crate::plan::{Close, Opening, Period, Plan};
+use crate::text::refused;
 use std::fmt;
 use threshcoil::{
     Account, Context, CostModel, ExecutionKind, ExecutionRecord, Figures, Position, Price, Refusal, Symbol, Target,
@@ -28,11 +30,10 @@ pub enum Why {
 
 impl fmt::Display for Refused {
     fn fmt(&self, f: &mut fmt::Formatter<'_>) -> fmt::Result {
-        let refused = |refusal: Refusal| format!("{} was refused, {}: {refusal}", self.what, refusal.number());
         match self.why {
-            Why::Library(refusal) => write!(f, "{}", refused(refusal)),
+            Why::Library(refusal) => write!(f, "{}", refused(&self.what, refusal)),
             Why::CeilingBelowFloor(refusal) => {
-                write!(f, "{}: max_commission is below min_commission", refused(refusal))
+                write!(f, "{}: max_commission is below min_commission", refused(&self.what, refusal))
             }
             Why::NoPrice => write!(f, "{} has no price: the period lists none, nor does the line give one", self.what),
             Why::Unpriced => write!(f, "{} is held and the period has no price of it: it counts 0", self.what),

@@ -1,7 +1,10 @@
-//! Runs a model portfolio from a text file and writes its page. README.md describes the file.
+//! Runs a model portfolio, or a group of accounts, from a text file and writes its page. README.md describes the files.
 
 mod chart;
 mod history;
+mod house;
+mod html;
+mod lines;
 mod page;
 mod plan;
 mod text;
@@ -9,7 +12,7 @@ mod text;
 use history::History;
 use plan::{Plan, Unread};
 use std::io::{self, IsTerminal, Write};
-use std::path::PathBuf;
+use std::path::{Path, PathBuf};
 use std::process::ExitCode;
 
 const EXAMPLE: &str = include_str!("../example.txt");
@@ -17,7 +20,31 @@ const EXAMPLE: &str = include_str!("../example.txt");
 // tools/threshcoil prints it too, before anything is proved.
 const USAGE: &str = include_str!("../usage.txt");
 
+/// What the file has: a model portfolio, or a group of accounts.
+#[derive(Clone, Copy, PartialEq)]
+enum Kind {
+    Model,
+    House,
+}
+
+impl Kind {
+    fn example(self) -> &'static str {
+        match self {
+            Kind::Model => EXAMPLE,
+            Kind::House => house::EXAMPLE,
+        }
+    }
+
+    fn page(self) -> &'static str {
+        match self {
+            Kind::Model => "target/model.html",
+            Kind::House => "target/house.html",
+        }
+    }
+}
+
 struct Asked {
+    kind: Kind,
     file: Option<PathBuf>,
     page: PathBuf,
     stop: bool,
@@ -26,13 +53,14 @@ struct Asked {
 }
 
 fn asked() -> Result<Asked, String> {
-    let mut asked = Asked { file: None, page: "target/model.html".into(), stop: false, text: None };
-    let mut words = std::env::args_os().skip(1);
+    let mut words = std::env::args_os().skip(1).peekable();
+    let kind = words.next_if(|word| word == "house").map_or(Kind::Model, |_| Kind::House);
+    let mut asked = Asked { kind, file: None, page: kind.page().into(), stop: false, text: None };
     while let Some(word) = words.next() {
         match word.to_str() {
             Some("--page") => asked.page = words.next().ok_or("--page names a file")?.into(),
-            Some("--stop") => asked.stop = true,
-            Some("--example") => asked.text = Some(EXAMPLE),
+            Some("--stop") if kind == Kind::Model => asked.stop = true,
+            Some("--example") => asked.text = Some(kind.example()),
             Some("--help" | "-h") => asked.text = Some(USAGE),
             Some(other) if other.starts_with('-') => return Err(format!("'{other}' is not known")),
             _ if asked.file.is_some() => return Err("one file is run at a time".into()),
@@ -58,7 +86,7 @@ fn fault(why: &str) -> ExitCode {
     ExitCode::from(2)
 }
 
-/// Whether every line of the file counted.
+/// Whether all of the file counted.
 fn run(asked: Asked) -> io::Result<bool> {
     let mut out = io::stdout().lock();
     if let Some(text) = asked.text {
@@ -67,42 +95,57 @@ fn run(asked: Asked) -> io::Result<bool> {
     }
     let (name, text) = match &asked.file {
         Some(file) => (file.display().to_string(), read(file)?),
-        None => ("example".into(), EXAMPLE.into()),
+        None => ("example".into(), asked.kind.example().into()),
     };
-    let (plan, unread) = plan::read(&text);
+    match asked.kind {
+        Kind::Model => run_model(&mut out, &asked, &name, &text),
+        Kind::House => house::run(&mut out, &asked.page, &name, &text),
+    }
+}
+
+fn run_model(out: &mut impl Write, asked: &Asked, name: &str, text: &str) -> io::Result<bool> {
+    let (plan, unread) = plan::read(text);
     for u in &unread {
         eprintln!("{name}:{}: {}", u.line, u.why);
     }
     if unread.iter().any(|u| u.opening || asked.stop) {
-        eprintln!("threshcoil: nothing is run or written");
-        return Ok(false);
+        return nothing_written();
     }
     let progress = Progress::new(plan.periods.len());
     let mut written = Ok(());
     let history = history::run(&plan, asked.stop, |k, told| {
         progress.show(k);
-        written = std::mem::replace(&mut written, Ok(())).and_then(|()| text::period(&mut out, &name, told));
+        written = std::mem::replace(&mut written, Ok(())).and_then(|()| text::period(out, name, told));
     });
     progress.end();
     written?;
     let history = match history {
         Ok(history) => history,
         Err(refused) => {
-            eprintln!("{}\nthreshcoil: nothing is run or written", text::refusal(&name, &refused));
-            return Ok(false);
+            eprintln!("{}", text::refusal(name, &refused));
+            return nothing_written();
         }
     };
-    text::summary(&mut out, &plan, &history)?;
-    publish(&mut out, &asked, &plan, &unread, &history)
+    text::summary(out, &plan, &history)?;
+    publish(out, asked, &plan, &unread, &history)
+}
+
+fn nothing_written() -> io::Result<bool> {
+    eprintln!("threshcoil: nothing is run or written");
+    Ok(false)
+}
+
+fn write_page(out: &mut impl Write, page: &Path, html: &str) -> io::Result<()> {
+    if let Some(folder) = page.parent() {
+        std::fs::create_dir_all(folder)?;
+    }
+    std::fs::write(page, html)?;
+    writeln!(out, "page: {}", page.display())
 }
 
 /// Writes the page. Whether every line of the file counted.
 fn publish(out: &mut impl Write, asked: &Asked, plan: &Plan, unread: &[Unread], history: &History) -> io::Result<bool> {
-    if let Some(folder) = asked.page.parent() {
-        std::fs::create_dir_all(folder)?;
-    }
-    std::fs::write(&asked.page, page::page(plan, unread, history))?;
-    writeln!(out, "page: {}", asked.page.display())?;
+    write_page(out, &asked.page, &page::page(plan, unread, history))?;
     let left_out = unread.len() + history.refusals().count();
     if left_out > 0 {
         eprintln!("threshcoil: {left_out} refused, unreadable or without a price; the page tells each");

@@ -1,36 +1,25 @@
-//! The page of a run: one file that stands alone, without a script or the network.
+//! The page of a run.
 
 use crate::chart::Chart;
 use crate::history::{History, Told};
+use crate::html::{self, escaped};
 use crate::plan::{Plan, Unread};
-use crate::text::{figures, money, percent, shares};
+use crate::text::{count, figures, money, percent, shares};
 use std::fmt::Write;
-use threshcoil::{ExecutionKind, Position};
+use threshcoil::{ExecutionKind, ExecutionRecord, Position};
 
-const STYLE: &str = include_str!("page.css");
-
-pub fn escaped(text: &str) -> String {
-    text.replace('&', "&amp;").replace('<', "&lt;").replace('>', "&gt;").replace('"', "&quot;")
-}
+const FOOTER: &str = "Equity, fills, holdings, weights and figures come from code that is proved to meet its definition; the curves \
+     are drawn from them. A model portfolio is no advice, and past returns promise nothing.";
 
 pub fn page(plan: &Plan, unread: &[Unread], history: &History) -> String {
-    let name = escaped(&plan.name);
-    let mut out = format!(
-        "<!doctype html>\n<html lang=\"en\">\n<head>\n<meta charset=\"utf-8\">\n\
-         <meta name=\"viewport\" content=\"width=device-width, initial-scale=1\">\n<title>{name}</title>\n\
-         <style>\n{STYLE}</style>\n</head>\n<body>\n<main>\n"
-    );
-    head(&mut out, &name, history);
-    left_out(&mut out, unread, history);
-    tiles(&mut out, history);
-    curves(&mut out, history);
-    holdings(&mut out, history);
-    trades(&mut out, history);
-    out.push_str(
-        "<footer>Equity, fills, holdings, weights and figures come from code that is proved to meet its definition; the curves \
-         are drawn from them. A model portfolio is no advice, and past returns promise nothing.</footer>\n</main>\n</body>\n</html>\n",
-    );
-    out
+    html::page(&plan.name, FOOTER, |out| {
+        head(out, &plan.name, history);
+        left_out(out, unread, history);
+        tiles(out, history);
+        curves(out, history);
+        holdings(out, history);
+        trades(out, history);
+    })
 }
 
 fn head(out: &mut String, name: &str, history: &History) {
@@ -40,8 +29,9 @@ fn head(out: &mut String, name: &str, history: &History) {
     let opening = history.equities.first().copied().unwrap_or(0);
     let _ = write!(
         out,
-        "<header>\n<h1>{name}</h1>\n<p class=\"span\">{first} to {last}, {} periods</p>\n\
+        "<header>\n<h1>{}</h1>\n<p class=\"span\">{first} to {last}, {} periods</p>\n\
          <p class=\"equity\">{}</p>\n<p class=\"span\">from {} at opening; cash {}</p>\n</header>\n",
+        escaped(name),
         history.periods.len(),
         money(equity),
         money(opening),
@@ -170,27 +160,21 @@ fn trades(out: &mut String, history: &History) {
     }
     for (k, told) in history.periods.iter().rev().filter(|t| !t.fills.is_empty()).enumerate() {
         let cut = if told.trimmed > 0 { format!(", {} cut to the cash at hand", told.trimmed) } else { String::new() };
-        let _ = write!(
+        let _ = writeln!(
             out,
-            "<details{}>\n<summary>{}: {}{cut}</summary>\n<div class=\"scroll\"><table>\n\
-             <tr><th>Symbol</th><th>Shares</th><th>Price</th><th>Cost</th><th>Cash after</th></tr>\n",
+            "<details{}>\n<summary>{}: {}{cut}</summary>",
             if k == 0 { " open" } else { "" },
             escaped(&told.label),
-            if told.fills.len() == 1 { "1 fill".into() } else { format!("{} fills", told.fills.len()) }
+            count(told.fills.len(), "fill")
         );
-        for r in &told.fills {
-            let exit = if r.kind == ExecutionKind::StopExit { " <em>stop exit</em>" } else { "" };
-            let _ = writeln!(
-                out,
-                "<tr><td>{}{exit}</td><td>{}</td><td>{}</td><td>{}</td><td>{}</td></tr>",
-                escaped(&r.symbol.to_string()),
-                shares(r.quantity),
-                money(r.price),
-                money(r.cost),
-                money(r.cash_after)
-            );
-        }
-        out.push_str("</table></div>\n</details>\n");
+        html::table(out, ["Symbol", "Shares", "Price", "Cost", "Cash after"], told.fills.iter().map(fill));
+        out.push_str("</details>\n");
     }
     out.push_str("</section>\n");
+}
+
+fn fill(r: &ExecutionRecord) -> [String; 5] {
+    let exit = if r.kind == ExecutionKind::StopExit { " <em>stop exit</em>" } else { "" };
+    let symbol = escaped(&r.symbol.to_string()) + exit;
+    [symbol, shares(r.quantity), money(r.price), money(r.cost), money(r.cash_after)]
 }

@@ -1,13 +1,7 @@
 //! A model portfolio as a text file has it: the opening, the settings, and what each period asks for.
 
+use crate::lines::{Said, cents, lines, scaled};
 use threshcoil::{CostModel, Price, Settings, Shares, Symbol, Target};
-
-/// Something said on a line of the file.
-#[derive(Clone, Debug)]
-pub struct Said<T> {
-    pub line: usize,
-    pub what: T,
-}
 
 #[derive(Clone, Debug)]
 pub struct Close {
@@ -81,14 +75,8 @@ impl Plan {
 pub fn read(text: &str) -> (Plan, Vec<Unread>) {
     let mut plan = Plan::new();
     let mut unread = Vec::new();
-    for (k, raw) in text.lines().enumerate() {
-        let line = k + 1;
-        let said = raw.split('#').next().unwrap_or("").trim();
-        if said.is_empty() {
-            continue;
-        }
-        let (word, rest) = said.split_once(char::is_whitespace).unwrap_or((said, ""));
-        if let Err(why) = take(&mut plan, line, word, rest.trim()) {
+    for (line, word, rest) in lines(text) {
+        if let Err(why) = take(&mut plan, line, word, rest) {
             unread.push(Unread { line, why, opening: plan.periods.is_empty() || is_setting(word) });
         }
     }
@@ -192,23 +180,6 @@ fn number(text: &str) -> Result<f64, String> {
     text.parse().map_err(|_| format!("'{text}' is no number"))
 }
 
-fn cents(text: &str) -> Result<i64, String> {
-    scaled(text, 2)
-}
-
-/// A decimal number as an integer of so many places.
-fn scaled(text: &str, places: usize) -> Result<i64, String> {
-    let bad = || format!("'{text}' is no number of at most {places} decimals");
-    let (digits, negative) = text.strip_prefix('-').map_or((text, false), |rest| (rest, true));
-    let (whole, part) = digits.split_once('.').unwrap_or((digits, ""));
-    let plain = |s: &str| s.bytes().all(|b| b.is_ascii_digit());
-    if whole.is_empty() || !plain(whole) || !plain(part) || part.len() > places {
-        return Err(bad());
-    }
-    let magnitude: i64 = format!("{whole}{part:0<places$}").parse().map_err(|_| bad())?;
-    Ok(if negative { -magnitude } else { magnitude })
-}
-
 fn cap(text: &str) -> Result<Option<u64>, String> {
     if text == "none" {
         return Ok(None);
@@ -230,17 +201,6 @@ pub const SHARE: i64 = Shares::SCALE;
 #[cfg(test)]
 mod tests {
     use super::*;
-
-    #[test]
-    fn amounts_are_exact() {
-        assert_eq!(cents("182.45"), Ok(18_245));
-        assert_eq!(cents("-0.5"), Ok(-50));
-        assert_eq!(cents("92233720368547758.07"), Ok(i64::MAX));
-        assert_eq!(scaled("0.000001", 6), Ok(1));
-        for bad in ["", ".", "1.234", "1,000", "1e3", "92233720368547758.08", "--1"] {
-            assert!(cents(bad).is_err(), "{bad}");
-        }
-    }
 
     #[test]
     fn a_bad_line_is_told_and_the_rest_counts() {

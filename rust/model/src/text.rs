@@ -3,7 +3,7 @@
 use crate::history::{History, Refused, Told};
 use crate::plan::{Plan, SHARE};
 use std::io::{self, Write};
-use threshcoil::{ExecutionKind, ExecutionRecord, Figures, Shares};
+use threshcoil::{ExecutionKind, ExecutionRecord, Figures, Refusal, Shares};
 
 /// Cents as units with two decimals and grouped thousands.
 pub fn money(cents: i64) -> String {
@@ -45,6 +45,15 @@ pub fn percent(x: f64) -> String {
 /// A ratio, or words where there is no number to show.
 pub fn ratio(x: f64) -> String {
     if x.is_infinite() { "no losses".into() } else { format!("{x:.2}") }
+}
+
+/// `1 fill`, `2 fills`.
+pub fn count(n: usize, noun: &str) -> String {
+    format!("{n} {noun}{}", if n == 1 { "" } else { "s" })
+}
+
+pub fn refused(what: &str, refusal: Refusal) -> String {
+    format!("{what} was refused, {}: {refusal}", refusal.number())
 }
 
 pub fn refusal(file: &str, r: &Refused) -> String {

@@ -1,29 +1,13 @@
 //! The command as it is run: the built-in example, files with bad lines, and where it stops.
 
-use std::path::PathBuf;
-use std::process::{Command, Output};
+mod command;
 
-fn place(name: &str) -> PathBuf {
-    let folder = PathBuf::from(env!("CARGO_TARGET_TMPDIR"));
-    folder.join(name)
-}
+use command::{place, said, stands_alone};
+use std::process::{Command, Output};
 
 /// A run by its name, the text of its file (none: the built-in example) and further words; and its page, if it wrote one.
 fn model(name: &str, text: Option<&str>, more: &[&str]) -> (Output, Option<String>) {
-    let page = place(&format!("{name}.html"));
-    let _ = std::fs::remove_file(&page);
-    let mut command = Command::new(env!("CARGO_BIN_EXE_model"));
-    if let Some(text) = text {
-        let file = place(&format!("{name}.txt"));
-        std::fs::write(&file, text).unwrap();
-        command.arg(file);
-    }
-    let out = command.arg("--page").arg(&page).args(more).output().unwrap();
-    (out, std::fs::read_to_string(page).ok())
-}
-
-fn said(out: &Output) -> String {
-    String::from_utf8_lossy(&out.stdout).into_owned() + &String::from_utf8_lossy(&out.stderr)
+    command::run(&[], name, text, more)
 }
 
 const BOX: &str = "<section class=\"left-out\">";
@@ -38,9 +22,7 @@ fn the_example_runs_to_its_end() {
         assert!(said.contains(expected), "{expected}");
     }
     let page = page.unwrap();
-    for alone in ["http", "<script", "<link", "@import", "url("] {
-        assert!(!page.contains(alone), "the page stands alone, without {alone}");
-    }
+    stands_alone(&page);
     for shown in ["<h2>Equity", "<h2>Drawdown", "<h2>Holdings", "<h2>Trades", "Kelly fraction"] {
         assert!(page.contains(shown), "{shown}");
     }

@@ -1,9 +1,10 @@
-//! A portfolio account whose every call is proved: rebalancing to target weights, closing positions, recording returns.
+//! A portfolio account whose every call is proved: rebalancing to target weights, closing positions, recording returns; and
+//! the house return of a [`Group`] of accounts.
 //!
 //! The work is done by proved Rattle crates, reached through their C interface; here it has the names and types
-//! that Rust callers expect. An [`Account`] owns its bytes, and everything else that a call fills is lent by the caller:
-//! nothing allocates, and no input makes a call panic. What a call does not accept it refuses, by a [`Refusal`], and then
-//! the account and every lent place are as they were.
+//! that Rust callers expect. An [`Account`] owns its bytes and a [`Group`] its equities, and everything else that a call fills
+//! is lent by the caller: nothing allocates, and no input makes a call panic. What a call does not accept it refuses, by a
+//! [`Refusal`], and then the account and every lent place are as they were.
 //!
 //! Money is in cents, quantities are micro-shares (see [`Shares`]), rates are basis points.
 //!
@@ -36,6 +37,7 @@
 mod account;
 mod bytes;
 mod figures;
+mod house;
 mod list;
 mod record;
 mod refusal;
@@ -43,6 +45,7 @@ mod settings;
 
 pub use account::{Account, Position, Snapshot};
 pub use figures::{Figures, figures};
+pub use house::{AccountId, AnotherGroup, Group, HouseReturn, Part, PartReturn};
 pub use list::{Price, Shares, Symbol, Target, Weight, Weights};
 pub use record::{Context, ExecutionKind, ExecutionRecord};
 pub use refusal::Refusal;

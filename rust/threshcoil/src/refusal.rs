@@ -55,7 +55,7 @@ const ALL: [(Refusal, &str); 15] = [
     (Twice, "a symbol stands twice in one list"),
     (BadPrice, "a price is below 1"),
     (BadWeight, "a weight is not finite"),
-    (TooLong, "a list or return series is over its bound"),
+    (TooLong, "a list or return series is over its bound, or parts are not 1 to 64"),
     (TooMany, "held and target symbols together exceed 64"),
     (NoRecordRoom, "recording is on and the record buffer has too few places"),
     (NotHeld, "a close names an absent or flat position"),
