@@ -227,3 +227,35 @@ fn queries_tell_what_the_document_has() {
     assert_eq!(*weight, row("Lists", "weight"));
     assert!(rest.iter().all(|b| *b == 0xaa));
 }
+
+/// The cells of a row of the group's table, 'any' as a number that must not matter.
+fn group_row(begins: &str) -> Vec<i64> {
+    let start = format!("| {begins} |");
+    let line = section("A group").lines().find(|l| l.starts_with(&start)).unwrap_or_else(|| panic!("a row {begins}"));
+    let number = |cell: &str| if cell == "any" { i64::MIN } else { cell.replace(',', "").parse().expect("a number") };
+    line[start.len()..].trim_end_matches('|').split('|').map(|cell| number(cell.trim())).collect()
+}
+
+/// The numbers that the section gives for a slice.
+fn group_told(slice: &str) -> Vec<f64> {
+    let text = section("A group");
+    let from = text.find("After 0:").expect("what is left");
+    let told = text[from..].split(&format!("`{slice}`")).nth(1).expect("the slice");
+    let numbers = told.trim_start().split(['(', 'a', '\n', '`']).next().expect("numbers");
+    let cells = numbers.trim().trim_end_matches(['.', ',']).split(", ");
+    cells.map(|n| n.replace(',', "").trim_end_matches('.').parse().expect("a number")).collect()
+}
+
+#[test]
+fn a_group_comes_to_what_the_page_says() {
+    let marks: Vec<u8> = group_row("mark").iter().map(|m| *m as u8).collect();
+    let equities = group_row("equity");
+    let (mut rates, mut changes, mut firsts, mut gains) = ([9.0; 3], [9; 3], [9; 2], [9; 2]);
+    let answer = port::tc_house_return(2, 2, &marks, &equities, &mut rates, &mut changes, &mut firsts, &mut gains);
+    let whole = |numbers: &[i64]| numbers.iter().map(|n| *n as f64).collect::<Vec<_>>();
+    assert_eq!(answer, 0);
+    assert_eq!(rates.to_vec(), group_told("rates"));
+    assert_eq!(whole(&changes), group_told("changes"));
+    assert_eq!(whole(&firsts), group_told("firsts"));
+    assert_eq!(whole(&gains), group_told("gains"));
+}
