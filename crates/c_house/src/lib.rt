@@ -5,7 +5,6 @@ ghost use Prim.Native.Nat.{_+_, _-_, _≤_};
 ghost use lib.ListN.{length, take};
 ghost use Rattle.c_house.specs.Lent.{lent, places, placed, told, houseTold};
 use answer::is_done;
-use house::House;
 use house::good_group;
 use house::house_return;
 
@@ -36,34 +35,27 @@ fn put_doubles(from: &[f64], at: usize, to: &mut [f64])
     }
 }
 
-fn put_rates(h: House, rates: &mut [f64])
+fn put_rates(figure: f64, growths: &[f64; 64], rates: &mut [f64])
     requires { ⌜ (1 ≤ length (now rates)) × (length (now rates) ≤ 65) ⌝ }
-    ensures { λ r. ⌜ now (rates .exit) ≡ h .figure ∷ take (length (now (rates .entry)) - 1) (h .growths) ⌝ }
+    ensures { λ r. ⌜ now (rates .exit) ≡ figure ∷ take (length (now (rates .entry)) - 1) (now (growths .entry)) ⌝ }
 {
-    let growths = h.growths;
-    rates[0] = h.figure;
+    rates[0] = figure;
     put_doubles(&growths[..], 1, rates);
 }
 
-fn put_changes(h: House, changes: &mut [i64])
+fn put_changes(group: i64, accounts: &[i64; 32], changes: &mut [i64])
     requires { ⌜ (1 ≤ length (now changes)) × (length (now changes) ≤ 33) ⌝ }
-    ensures { λ r. ⌜ now (changes .exit) ≡ h .change ∷ take (length (now (changes .entry)) - 1) (h .changes) ⌝ }
+    ensures { λ r. ⌜ now (changes .exit) ≡ group ∷ take (length (now (changes .entry)) - 1) (now (accounts .entry)) ⌝ }
 {
-    let of_accounts = h.changes;
-    let of_all = h.change;
-    changes[0] = of_all;
-    put_numbers(&of_accounts[..], 1, changes);
+    changes[0] = group;
+    put_numbers(&accounts[..], 1, changes);
 }
 
-fn put_sums(h: House, firsts: &mut [i64], gains: &mut [i64])
-    requires { ⌜ (length (now firsts) ≤ 64) × (length (now gains) ≤ 64) ⌝ }
-    ensures { λ r. ⌜ now (firsts .exit) ≡ take (length (now (firsts .entry))) (h .firsts) ⌝ }
-    ensures { λ r. ⌜ now (gains .exit) ≡ take (length (now (gains .entry))) (h .gains) ⌝ }
+fn put_sums(sums: &[i64; 64], places: &mut [i64])
+    requires { ⌜ length (now places) ≤ 64 ⌝ }
+    ensures { λ r. ⌜ now (places .exit) ≡ take (length (now (places .entry))) (now (sums .entry)) ⌝ }
 {
-    let of_firsts = h.firsts;
-    let of_gains = h.gains;
-    put_numbers(&of_firsts[..], 0, firsts);
-    put_numbers(&of_gains[..], 0, gains);
+    put_numbers(&sums[..], 0, places);
 }
 
 // Whether the places to write are as many as they must be. As many as the parts: so one more is a number too.
@@ -113,8 +105,11 @@ pub extern "C" fn tc_house_return(
     if !is_done(answer) {
         return answer::number(answer);
     }
-    put_rates(h, rates);
-    put_changes(h, changes);
-    put_sums(h, firsts, gains);
+    let figure = h.figure;
+    let change = h.change;
+    put_rates(figure, &h.growths, rates);
+    put_changes(change, &h.changes, changes);
+    put_sums(&h.firsts, firsts);
+    put_sums(&h.gains, gains);
     0
 }

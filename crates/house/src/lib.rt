@@ -107,21 +107,19 @@ fn report_of(n: usize, m: usize, marks: &[u8], equities: &[i64]) -> House
     ensures { λ r. ⌜ r ≡ houseOfGroup n m (groupIn n (now (marks .entry)) (now (equities .entry))) ⌝ }
 {
     let sums = sum_parts(n, m, marks, equities);
-    let hi = sums.hi;
-    let lo = sums.lo;
-    let firsts = sums.firsts;
-    let gains = sums.gains;
-    let totals = sum_accounts(n, m, &hi, &lo);
-    let group = sum_group(m, &gains);
+    let totals = sum_accounts(n, m, &sums.hi, &sums.lo);
+    let group = sum_group(m, &sums.gains);
     let fits = sums.fits & totals.fits & group.fits;
     if !fits {
         return refused(Answer::OutOfRange);
     }
-    let grown = grow(m, &firsts, &gains);
+    let grown = grow(m, &sums.firsts, &sums.gains);
     if !grown.positive {
         return refused(Answer::NoFirstSum);
     }
     let changes = totals.changes;
+    let firsts = sums.firsts;
+    let gains = sums.gains;
     let growths = grown.growths;
     House {
         answer: Answer::Done,

@@ -1,10 +1,14 @@
 -- By the count of accounts, by the places, then by the answer: after 0 all four are written whole, else nothing is.
-use Prim.Native.Nat.{_≤_}
+use Prim.Native.Nat.{_-_, _≤_}
 use mathlib.Core.Path.{_≡_, sym, ap, _∙_}
 use mathlib.Core.Bool.{true, false}
+use mathlib.Core.List.{_∷_}
 use native.Mathlib.Omega.{arith}
 use borrow.Author.Tests.{not-true, not-false}
-use lib.ListN.{length}
+use lib.ListN.{length, take}
+use mir.Syntax.{w64}
+use mir.Val.{toZ, ofZ}
+use mir.ValLaws.{toZ-ofZ}
 use Rattle.answer.specs.Numbers.{numberOf, isDone}
 use Rattle.house.specs.House.{within, houseOf}
 use Rattle.house.specs.declared.House.{House}
@@ -109,19 +113,20 @@ returns-3 c =
     ∙ refused (s .args .accounts) (s .args .parts) _ _ (placesOf s) (group-good (asked (h .before))) (places-there (h .before)) d
 
 put-rates-requires : tie.Need-put-rates-requires
-put-rates-requires c κs = let k = places-counted (c .before) in (omega (arith, k .rates), omega (arith, k .rates, k .few))
+put-rates-requires c κs = let k = places-counted (c .before .before .before .before) in (omega (arith, k .rates), omega (arith, k .rates, k .few))
 
 put-changes-requires : tie.Need-put-changes-requires
 put-changes-requires c κs =
-    let q = c .before .before .before .before .before in
+    let q = c .before .before .before .before .before .before .before .before .before .before in
     let k = places-counted q in
     let n = few-accounts (caller q .args .accounts) (caller q .args .parts) (caller q .args .marks .now) (caller q .args .equities .now) (placesOf (caller q)) (group-good (asked (housed q .before))) in
     (omega (arith, k .changes), omega (arith, k .changes, n))
 
 put-sums-requires : tie.Need-put-sums-requires
-put-sums-requires c κs =
-    let k = places-counted (c .before .before .before .before .before .before .before .before .before) in
-    (omega (arith, k .firsts, k .few), omega (arith, k .gains, k .few))
+put-sums-requires c κs = let k = places-counted (c .before .before .before .before .before .before .before .before .before .before .before .before .before .before .before) in omega (arith, k .firsts, k .few)
+
+put-sums-requires-2 : tie.Need-put-sums-requires-2
+put-sums-requires-2 c κs = let k = places-counted (c .before .before .before .before .before .before .before .before .before .before .before .before .before .before .before .before .before .before .before .before) in omega (arith, k .gains, k .few)
 
 same-length-9 : tie.Need-same-length-9
 same-length-9 c = search needs
@@ -137,11 +142,12 @@ same-length-12 c = search needs
 
 returns-4 : tie.Need-returns-4
 returns-4 c =
-    let q = c .before .before .before .before .before .before .before .before .before .before .before .before in
+    let q = c .before .before .before .before .before .before .before .before .before .before .before .before .before .before .before .before .before .before .before .before .before .before in
     let s = caller q in
+    let z : toZ w64 (ofZ w64 (housed q .house-return .result .change)) ≡ housed q .house-return .result .change = toZ-ofZ w64 _ (search needs) in
     ap (told 0)
     (all-written (s .args .accounts) (s .args .parts) (placesOf s) (housed q .house-return .result) _ _ _ _ (places-counted q)
-    (c .before .before .before .before .before .before .before .before .before .before .put-rates .ensures) (c .before .before .before .before .before .before .put-changes .ensures) (c .before .before .put-sums .ensures .0) (c .before .before .put-sums .ensures .1)
+    (c .before .before .before .before .before .before .before .before .before .before .before .before .before .before .before .before .before .put-rates .ensures) (c .before .before .before .before .before .before .before .before .before .before .before .put-changes .ensures ∙ ap (λ z. z ∷ take (length (s .args .changes .now) - 1) (housed q .house-return .result .changes)) z) (c .before .before .before .before .before .before .put-sums .ensures) (c .before .put-sums2 .ensures)
     ∙ ap (reportIn (s .args .accounts) (s .args .parts)) (is q))
     ∙ reported (s .args .accounts) (s .args .parts) _ _ (placesOf s) (group-good (asked (housed q .before))) (places-there (housed q .before)) (done q)
 
@@ -168,6 +174,7 @@ tc-house-return-spec =
     put-rates-requires
     put-changes-requires
     put-sums-requires
+    put-sums-requires-2
     same-length-9
     same-length-10
     same-length-11

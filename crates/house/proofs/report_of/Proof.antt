@@ -13,15 +13,15 @@ use Rattle.house.proofs.Reporting.{all-fit, out-of-range, positive-is, 
 use Rattle.house.proofs.report_of.Statement.{statement}
 use Rattle.house.proofs.report_of.Tie as tie
 
-module _ (q : tie.After-struct-known3) where
+module _ (q : tie.After-struct-known2) where
   abbrev grouped : tie.After-sum-group
-  grouped = q .before .before .before
+  grouped = q .before .before
 
   abbrev totalled : tie.After-sum-accounts
-  totalled = grouped .before .before
+  totalled = grouped .before .before .before
 
   abbrev parted : tie.After-sum-parts
-  parted = totalled .before .before .before .before .before .before .before
+  parted = totalled .before .before .before .before
 
   abbrev began : tie.Start
   began = parted .before .before
@@ -60,9 +60,9 @@ refused-requires-2 c κs = search needs
 
 returns-2 : tie.Need-returns-2
 returns-2 c =
-    let q = c .before .before .before .before .before .before .before in
+    let q = c .before .before .before .before .before .before .before .before in
     let grown = c .before .before .before .grow in
-    let e = sym (inside q) ∙ not-false _ (c .before .before .before .before .before .before .if1 .left) in
+    let e = sym (inside q) ∙ not-false _ (c .before .before .before .before .before .before .before .if1 .left) in
     let w = positive-is (began q .args .n) (began q .args .m) _ _ (began q .pre .0) (began q .pre .1) (parted q .sum-parts .result) (parted q .sum-parts .ensures)
     (totalled q .sum-accounts .result) (totalled q .sum-accounts .ensures) (grouped q .sum-group .result) (grouped q .sum-group .ensures) e (grown .result) (grown .ensures) in
     c .refused2 .ensures
@@ -72,16 +72,16 @@ returns-2 c =
 
 returns-3 : tie.Need-returns-3
 returns-3 c =
-    let q = c .before .before .before .before .before .before .before .before .before in
-    let grown = c .before .before .before .before .before .grow in
+    let q = c .before .before .before .before .before .before .before .before .before .before .before .before in
+    let grown = c .before .before .before .before .before .before .before .grow in
     let z : toZ w64 (ofZ w64 (grouped q .sum-group .result .value)) ≡ grouped q .sum-group .result .value = toZ-ofZ w64 _ (search needs) in
-    let e = sym (inside q) ∙ not-false _ (c .before .before .before .before .before .before .before .before .if1 .left) in
+    let e = sym (inside q) ∙ not-false _ (c .before .before .before .before .before .before .before .before .before .before .before .if1 .left) in
     let w = positive-is (began q .args .n) (began q .args .m) _ _ (began q .pre .0) (began q .pre .1) (parted q .sum-parts .result) (parted q .sum-parts .ensures)
     (totalled q .sum-accounts .result) (totalled q .sum-accounts .ensures) (grouped q .sum-group .result) (grouped q .sum-group .ensures) e (grown .result) (grown .ensures) in
     rw z
     (reported (began q .args .n) (began q .args .m) _ _ (began q .pre .0) (began q .pre .1) (parted q .sum-parts .result) (parted q .sum-parts .ensures)
     (totalled q .sum-accounts .result) (totalled q .sum-accounts .ensures) (grouped q .sum-group .result) (grouped q .sum-group .ensures) e (grown .result) (grown .ensures)
-    (sym w ∙ not-false _ (c .before .before .before .if2 .left)))
+    (sym w ∙ not-false _ (c .before .before .before .before .before .if2 .left)))
 
 pub report-of-spec : {M : Type 1} → statement M
 report-of-spec =
