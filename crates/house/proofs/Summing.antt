@@ -90,10 +90,10 @@ module _ (n m : ℕ) (marks : List ℕ) (equities : List ℤ) where
         let e = mul-le-mul {n₁ = suc p} {m₁ = n} {n₂ = m} {m₂ = n} h (omega arith) in
         omega (arith, e, s .place)
 
-    pub summing-on : (r : Part) (hi' lo' : List ℕ) (f c : Finished) → m ≤ 64 → p < m
-        → Added n (λ a. endsAt marks equities (at + a)) r hi lo hi' lo' → f ≡ ended n (valueOf (r .first)) → c ≡ ended n (valueOf (r .gain))
-        → Summing hi' lo' (set fs p (f .value)) (set gs p (c .value)) (b && (r .fits && (f .fits && c .fits))) (at + n) (p + 1)
-    summing-on r hi' lo' f c h l a ef ec =
+    pub summing-on : (r : Part) (hi' lo' : List ℕ) (f c : Finished) (x y : ℤ) → m ≤ 64 → p < m
+        → Added n (λ a. endsAt marks equities (at + a)) r hi lo hi' lo' → f ≡ ended n (valueOf (r .first)) → c ≡ ended n (valueOf (r .gain)) → x ≡ f .value → y ≡ c .value
+        → Summing hi' lo' (set fs p x) (set gs p y) (b && (r .fits && (f .fits && c .fits))) (at + n) (p + 1)
+    summing-on r hi' lo' f c x y h l a ef ec ex ey =
         let d : Added n (g p) r hi lo hi' lo' = subst (λ (x : ℕ). Added n (λ i. endsAt marks equities (x + i)) r hi lo hi' lo') (s .place) a in
         let first : f ≡ firstEnded n g p = ef ∙ ap (ended n) (ap valueOf (d .first) ∙ valueOf-wide _) in
         let gain : c ≡ gainEnded n g p = ec ∙ ap (ended n) (ap valueOf (d .gain) ∙ valueOf-wide _) in
@@ -103,8 +103,8 @@ module _ (n m : ℕ) (marks : List ℕ) (equities : List ℤ) where
           long-hi = d .long-hi;
           long-lo = d .long-lo;
           fits = every-on (partFits n g) p b _ (s .fits) (rw (d .fits, first, gain));
-          firsts = filled-on 64 (pos 0) (λ q. firstEnded n g q .value) p fs _ (omega arith) (s .firsts) (ap (λ (x : Finished). x .value) first);
-          gains = filled-on 64 (pos 0) (λ q. gainEnded n g q .value) p gs _ (omega arith) (s .gains) (ap (λ (x : Finished). x .value) gain);
+          firsts = filled-on 64 (pos 0) (λ q. firstEnded n g q .value) p fs _ (omega arith) (s .firsts) (ex ∙ ap (λ (w : Finished). w .value) first);
+          gains = filled-on 64 (pos 0) (λ q. gainEnded n g q .value) p gs _ (omega arith) (s .gains) (ey ∙ ap (λ (w : Finished). w .value) gain);
           known = λ q i x. below-or-at (λ j. i < n → Known (g j i)) p q (rw (add-one p) at x) (λ y. s .known q i y) (d .known i);
           totals = λ i q. d .totals i q ∙ rw (s .totals i q) (total-on n m g p i);
         }

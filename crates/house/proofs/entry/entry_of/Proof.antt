@@ -66,10 +66,12 @@ returns c =
     let gf = s .fits .first in
     let gl = s .fits .last in
     let there = c .before .before .before .present .ensures in
+    let told-first : c .before .before .raised-if .result ≡ cond (c .before .before .before .present .result) (raised (toZ w64 (ofZ w64 f))) half = c .before .before .raised-if .ensures in
+    let told-last : c .before .raised-if2 .result ≡ cond (c .before .before .before .present .result) (raised (toZ w64 (ofZ w64 l))) half = c .before .raised-if2 .ensures in
     let from : c .before .before .raised-if .result ≡ raised (firstOf (ends a b f l)) =
-    c .before .before .raised-if .ensures ∙ rw (there, toZ-ofZ w64 f gf) (first-is f l gf gl a b) in
+    told-first ∙ rw (there, toZ-ofZ w64 f gf) (first-is f l gf gl a b) in
     let to : c .before .raised-if2 .result ≡ raised (lastOf (ends a b f l)) =
-    c .before .raised-if2 .ensures ∙ rw (there, toZ-ofZ w64 l gl) (last-is f l gf gl a b) in
+    told-last ∙ rw (there, toZ-ofZ w64 l gl) (last-is f l gf gl a b) in
     let r = c .entry-between .ensures in
     record {
       first = r .0 ∙ from;

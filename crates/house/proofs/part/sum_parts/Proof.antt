@@ -68,7 +68,7 @@ loop-again c =
     let g = c .before .before .before .before .before .finish2 in
     let zf : toZ w64 (ofZ w64 (f .result .value)) ≡ f .result .value = toZ-ofZ w64 (f .result .value) (search needs) in
     let zg : toZ w64 (ofZ w64 (g .result .value)) ≡ g .result .value = toZ-ofZ w64 (g .result .value) (search needs) in
-    rw (zf, zg) (summing-on _ _ _ _ (l .hi) (l .lo) (l .firsts) (l .gains) (l .fits) (l .at) (l .p) (l .inv) _ _ _ _ _ (s .pre .1) (c .before .before .before .before .before .before .before .before .before .before .loop-test .taken) (c .before .before .before .before .before .before .before .sum-part .ensures) (f .ensures) (g .ensures))
+    summing-on _ _ _ _ (l .hi) (l .lo) (l .firsts) (l .gains) (l .fits) (l .at) (l .p) (l .inv) _ _ _ _ _ _ _ (s .pre .1) (c .before .before .before .before .before .before .before .before .before .before .loop-test .taken) (c .before .before .before .before .before .before .before .sum-part .ensures) (f .ensures) (g .ensures) zf zg
 
 returns : tie.Need-returns Inv-loop μ-loop
 returns c =
