@@ -148,8 +148,9 @@ fn enter(
     total: &mut [i64; 64],
     p: Position,
 ) -> usize
-    ensures { λ r. ⌜ counted r (cols (now (symbol .exit)) (now (quantity .exit)) (now (average .exit)) (now (realized .exit)) (now (total .exit)))
-        ≡ enteredIn p (cols (now (symbol .entry)) (now (quantity .entry)) (now (average .entry)) (now (realized .entry)) (now (total .entry))) ⌝ }
+    ensures { λ r. ⌜ (let c = cols (now (symbol .entry)) (now (quantity .entry)) (now (average .entry)) (now (realized .entry)) (now (total .entry)) in
+        let d = cols (now (symbol .exit)) (now (quantity .exit)) (now (average .exit)) (now (realized .exit)) (now (total .exit)) in
+        counted r d ≡ enteredIn p c) ⌝ }
 {
     if is_none(p) {
         return 0;
@@ -260,8 +261,9 @@ fn fill_asked(
     words: &mut [u64],
     ints: &mut [i64],
 ) -> u64
-    ensures { λ r. ⌜ fillTold r (slots (now (money .exit)) (now (tallies .exit)) (now (words .exit)) (now (ints .exit)))
-        ≡ fillOne a (slots (now (money .entry)) (now (tallies .entry)) (now (words .entry)) (now (ints .entry))) ⌝ }
+    ensures { λ r. ⌜ (let lent = slots (now (money .entry)) (now (tallies .entry)) (now (words .entry)) (now (ints .entry)) in
+        let left = slots (now (money .exit)) (now (tallies .exit)) (now (words .exit)) (now (ints .exit)) in
+        fillTold r left ≡ fillOne a lent) ⌝ }
 {
     if money.len() != 6 {
         return 11;
@@ -302,9 +304,9 @@ pub extern "C" fn tc_fill(
     words: &mut [u64],
     ints: &mut [i64],
 ) -> u64
-    ensures { λ r. ⌜ fillTold r (slots (now (money .exit)) (now (tallies .exit)) (now (words .exit)) (now (ints .exit)))
-        ≡ fillOne (asked (model «commission_bps» «slippage_bps» «min_commission») «quantity_step» period kind symbol quantity price)
-        (slots (now (money .entry)) (now (tallies .entry)) (now (words .entry)) (now (ints .entry))) ⌝ }
+    ensures { λ r. ⌜ (let lent = slots (now (money .entry)) (now (tallies .entry)) (now (words .entry)) (now (ints .entry)) in
+        let left = slots (now (money .exit)) (now (tallies .exit)) (now (words .exit)) (now (ints .exit)) in
+        fillTold r left ≡ fillOne (asked (model «commission_bps» «slippage_bps» «min_commission») «quantity_step» period kind symbol quantity price) lent) ⌝ }
 {
     tc_fill_with_ceiling(
         commission_bps,
@@ -342,9 +344,9 @@ pub extern "C" fn tc_fill_with_ceiling(
     words: &mut [u64],
     ints: &mut [i64],
 ) -> u64
-    ensures { λ r. ⌜ fillTold r (slots (now (money .exit)) (now (tallies .exit)) (now (words .exit)) (now (ints .exit)))
-        ≡ fillOne (asked (withCeiling «max_commission» (model «commission_bps» «slippage_bps» «min_commission»)) «quantity_step» period kind symbol quantity price)
-        (slots (now (money .entry)) (now (tallies .entry)) (now (words .entry)) (now (ints .entry))) ⌝ }
+    ensures { λ r. ⌜ (let lent = slots (now (money .entry)) (now (tallies .entry)) (now (words .entry)) (now (ints .entry)) in
+        let left = slots (now (money .exit)) (now (tallies .exit)) (now (words .exit)) (now (ints .exit)) in
+        fillTold r left ≡ fillOne (asked (withCeiling «max_commission» (model «commission_bps» «slippage_bps» «min_commission»)) «quantity_step» period kind symbol quantity price) lent) ⌝ }
 {
     let costs = CostModel {
         commission_bps,
