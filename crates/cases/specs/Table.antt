@@ -140,13 +140,13 @@ case-k =
     (pos 1 ∷ pos 0 ∷ [])
 
 -- l. No costs, cash 50, buy worth 100, sale worth 80: sale first fills both, cash 30.
-abbrev pub saleFirst : State
-saleFirst =
+abbrev pub afterSaleFirst : State
+afterSaleFirst =
     fillAll (termsAt free (whole (pos 1))) (order 2 (whole (negsuc 0)) (pos 80) ∷ order 1 (whole (pos 1)) (pos 100) ∷ []) (cashOnly (pos 50))
 
 abbrev pub case-l : Row
 case-l =
-    says (amount 1 saleFirst ∷ amount 2 saleFirst ∷ pos (saleFirst .trimmed) ∷ saleFirst .cash ∷ [])
+    says (amount 1 afterSaleFirst ∷ amount 2 afterSaleFirst ∷ pos (afterSaleFirst .trimmed) ∷ afterSaleFirst .cash ∷ [])
     (whole (pos 1) ∷ whole (negsuc 0) ∷ pos 0 ∷ pos 30 ∷ [])
 
 abbrev pub table : List Row

@@ -2,7 +2,7 @@
 ghost use mathlib.Core.Path.{_≡_};
 ghost use Prim.Native.Nat.{_-_, _≤_, _<_};
 ghost use Rattle.table.specs.Rows.{cols, emptyTable};
-ghost use Rattle.table.specs.Inner.Rows.{counted, heldAt, setAll, openAll, posted};
+ghost use Rattle.table.specs.Inner.Rows.{countedCols, heldAt, setAll, openAll, posted};
 use crate::column::open_number;
 use crate::column::open_symbol;
 use crate::found::Found;
@@ -137,7 +137,7 @@ pub fn post(
 ) -> usize
     ensures { λ r. ⌜ (let c = cols (now (symbol .entry)) (now (quantity .entry)) (now (average .entry)) (now (realized .entry)) (now (total .entry)) in
         let d = cols (now (symbol .exit)) (now (quantity .exit)) (now (average .exit)) (now (realized .exit)) (now (total .exit)) in
-        counted r d ≡ posted f p (counted n c)) ⌝ }
+        countedCols r d ≡ posted f p (countedCols n c)) ⌝ }
 {
     match f {
         Found::At(i) => {
