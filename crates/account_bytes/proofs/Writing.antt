@@ -1,11 +1,12 @@
 -- Runs of words that are written one after the other, and the bytes that they leave.
 use mathlib.Core.Path.{_≡_, refl, sym, _∙_, ap}
-use Prim.Native.Nat.{ℕ, suc, _+_, _*_, _/_}
+use Prim.Native.Nat.{ℕ, _*_, _/_}
 use native.Mathlib.Omega.{arith}
-use mathlib.Core.List.{List, [], _∷_, _++_, map, append-nil}
-use lib.ListN.{length, set, length-append, length-map, drop-of-length-le}
-use lib.Seq.{sets, sets-eq}
+use mathlib.Core.List.{List, _++_, map}
+use lib.ListN.{length, set, length-append, length-map}
+use lib.Seq.{sets}
 use Rattle.table.specs.Rows.{Cols, Full, columnsOf}
+use Rattle.table.proofs.Stores.{sets-append, sets-all}
 use Rattle.account.specs.declared.settings.Settings.{Settings}
 use Rattle.account.specs.declared.account.Account.{Account}
 use Rattle.account.specs.declared.account.Counters.{Counters}
@@ -16,18 +17,6 @@ use Rattle.word_bytes.proofs.Words.{Octets, bytes-words}
 use Rattle.account_bytes.specs.Sizes.{settingsSize, settingsFrom, countersFrom, countsSize, columnSize, symbolsFrom, quantitiesFrom, averagesFrom, realizedFrom, totalsFrom, accountSize}
 use Rattle.account_bytes.specs.Settings.{settingsWords}
 use Rattle.account_bytes.specs.Account.{countWords, columnWords, accountWords}
-
--- a run after a run that ends where it begins
-pub sets-append : {A : Type 0} (l : List A) (i : ℕ) (x y : List A) (j : ℕ) → j ≡ i + length x → sets (sets l i x) j y ≡ sets l i (x ++ y)
-sets-append l i [] y j e = let z : j ≡ i = omega arith in ap (λ (k : ℕ). sets l k y) z
-sets-append l i (v ∷ x) y j e = sets-append (set l i v) (suc i) x y j (omega arith)
-
--- a run over all places
-pub sets-all : {A : Type 0} (l vs : List A) → length l ≡ length vs → sets l 0 vs ≡ vs
-sets-all l vs e =
-    sets-eq vs l 0 (omega arith)
-    ∙ ap (λ (r : List _). vs ++ r) (drop-of-length-le l {i = 0 + length vs} (omega arith))
-    ∙ append-nil vs
 
 -- bytes that hold words and nothing else are the bytes of these words
 pub bytes-are : (n : ℕ) (l ws : List ℕ) → Octets l → length l ≡ 8 * n → wordsOf l ≡ ws → l ≡ bytesOf ws

@@ -25,8 +25,9 @@ pub fn read_columns(
     realized: &mut [i64; 64],
     total: &mut [i64; 64],
 )
-    ensures { λ _. ⌜ cols (now (symbol .exit)) (now (quantity .exit)) (now (average .exit)) (now (realized .exit)) (now (total .exit))
-        ≡ readColumns (now (bytes .entry)) (cols (now (symbol .entry)) (now (quantity .entry)) (now (average .entry)) (now (realized .entry)) (now (total .entry))) ⌝ }
+    ensures { λ _. ⌜ (let c = cols (now (symbol .entry)) (now (quantity .entry)) (now (average .entry)) (now (realized .entry)) (now (total .entry)) in
+        let d = cols (now (symbol .exit)) (now (quantity .exit)) (now (average .exit)) (now (realized .exit)) (now (total .exit)) in
+        d ≡ readColumns (now (bytes .entry)) c) ⌝ }
 {
     if bytes.len() != ACCOUNT_BYTES {
         return;
@@ -47,8 +48,8 @@ pub(crate) fn put_columns<'a>(
     realized: &'a [i64; 64],
     total: &'a [i64; 64],
 )
-    ensures { λ _. ⌜ (Full (cols (now (symbol .entry)) (now (quantity .entry)) (now (average .entry)) (now (realized .entry)) (now (total .entry))))
-        × (wordsOf (now (bytes .exit)) ≡ sets (wordsOf (now (bytes .entry))) symbolsFrom (columnWords (cols (now (symbol .entry)) (now (quantity .entry)) (now (average .entry)) (now (realized .entry)) (now (total .entry))))) ⌝ }
+    ensures { λ _. ⌜ (let c = cols (now (symbol .entry)) (now (quantity .entry)) (now (average .entry)) (now (realized .entry)) (now (total .entry)) in
+        (Full c) × (wordsOf (now (bytes .exit)) ≡ sets (wordsOf (now (bytes .entry))) symbolsFrom (columnWords c))) ⌝ }
 {
     put_symbols(bytes, SYMBOLS_AT, symbol);
     put_numbers(bytes, QUANTITIES_AT, quantity);

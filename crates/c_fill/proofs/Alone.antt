@@ -18,7 +18,7 @@ use Rattle.table.specs.declared.found.Found.the-variants.{Absent}
 use Rattle.table.specs.Keyed.{pick}
 use Rattle.table.specs.Inner.Places.{Finds}
 use Rattle.table.specs.Rows.{Cols, cols, zipped, rows}
-use Rattle.table.specs.Inner.Rows.{Counted, counted, Ordered, posted, heldAt}
+use Rattle.table.specs.Inner.Rows.{Counted, countedCols, Ordered, posted, heldAt}
 use Rattle.table.proofs.Keyed.{both-true}
 use Rattle.table.proofs.Posting.{held-is-holding, posted-puts}
 use Rattle.fills.specs.declared.fill.Filled.{Filled}
@@ -29,7 +29,7 @@ use Rattle.fills.specs.Inner.Runs.{recordsOf, Fills}
 use Rattle.fills.proofs.Storing.{keeps-one}
 use Rattle.fills.proofs.Fronts.{stored-fronts}
 use Rattle.c_fill.specs.declared.Ask.{Ask}
-use Rattle.c_fill.specs.Single.{termsOf, orderOf, Slots, slots, heldOf, isNone, stateIn, positionIn, soundIn, goodAsk, roomForOne, refusalOf, answerTo, FillTold, fillTold, counting, doneIn, fillOne}
+use Rattle.c_fill.specs.Single.{askedTerms, askedOrder, Slots, slots, heldOf, isNone, stateIn, positionIn, soundAlone, goodAsk, roomForOne, refusalOf, answerTo, FillTold, fillTold, counting, doneIn, fillOne}
 use Rattle.c_fill.specs.Inner.Single.{bookOf, enteredIn, Sight, seenBy, seenIn, seenAfter}
 
 -- ---- the table of the position
@@ -49,7 +49,7 @@ pub record Holds (ps : List Position) (t : Counted) : Type 0 where
   pub ordered : Ordered (t .count) (t .columns)
   pub same : rows (t .count) (t .columns) ≡ ps
 
-entered-by : (p : Position) (b : Bool) → Holds (pick b [] (p ∷ [])) (pick b (counted 0 empty) (posted (Absent 0) p (counted 0 empty)))
+entered-by : (p : Position) (b : Bool) → Holds (pick b [] (p ∷ [])) (pick b (countedCols 0 empty) (posted (Absent 0) p (countedCols 0 empty)))
 entered-by p true = record { ordered = empty-ordered; same = refl }
 entered-by p false = let h = posted-puts 0 empty (Absent 0) p empty-ordered refl in record { ordered = h .ordered; same = h .same }
 
@@ -60,8 +60,8 @@ entered-holds p t e = subst (Holds (heldOf p)) (sym e) (entered-by p (isNone p))
 abbrev pub withCount : ℕ → Book → Book
 withCount n b = record { cash = b .cash; count = n; trimmed = b .trimmed; shortfall = b .shortfall; sequence = b .sequence; written = b .written; hint = b .hint }
 
-module _ (a : Ask) (b : Book) (p : Position) (n : ℕ) (c d : Cols) (f : Filled) (h : Holds (heldOf p) (counted n c))
-    (hf : Ordered n c → Fills (termsOf a) (orderOf a) (withCount n b) c f d) where
+module _ (a : Ask) (b : Book) (p : Position) (n : ℕ) (c d : Cols) (f : Filled) (h : Holds (heldOf p) (countedCols n c))
+    (hf : Ordered n c → Fills (askedTerms a) (askedOrder a) (withCount n b) c f d) where
   pub filled-ordered : Ordered (f .book .count) d
   filled-ordered = hf (h .ordered) .ordered
 
@@ -72,7 +72,7 @@ module _ (a : Ask) (b : Book) (p : Position) (n : ℕ) (c d : Cols) (f : Filled)
       let e = hz ∙ held-is-holding m (a .symbol) d w filled-ordered (hw .settled (filled-ordered .rising)) in
       ap (λ x. seenBy (record { filled = f; position = x })) e
       ∙ ap (seenIn (a .symbol)) (hf (h .ordered) .done [])
-      ∙ ap (λ (ps : List Position). seenIn (a .symbol) (fill (termsOf a) (orderOf a) (record { cash = b .cash; held = ps; trimmed = b .trimmed; shortfall = b .shortfall; sequence = b .sequence; records = [] }))) (h .same)
+      ∙ ap (λ (ps : List Position). seenIn (a .symbol) (fill (askedTerms a) (askedOrder a) (record { cash = b .cash; held = ps; trimmed = b .trimmed; shortfall = b .shortfall; sequence = b .sequence; records = [] }))) (h .same)
 
 -- ---- the record of a fill
 module _ (f : Filled) (ws : List ℕ) (is : List ℤ) where
@@ -97,7 +97,7 @@ room-by false g p r h = absurd (omega (arith, h))
 pub done-has-room : (a : Ask) (cash : ℤ) (p : Position) (ws is : ℕ) → numberOf (refusalOf a cash p ws is) ≡ 0 → (4 ≤ ws) × (8 ≤ is)
 unfolding refusalOf
 done-has-room a cash p ws is h =
-    let r = both-true (leb 4 ws) (leb 8 is) (room-by (soundIn cash p) (goodAsk a) (leZ (pos 1) (a .price)) (roomForOne ws is) h) in
+    let r = both-true (leb 4 ws) (leb 8 is) (room-by (soundAlone cash p) (goodAsk a) (leZ (pos 1) (a .price)) (roomForOne ws is) h) in
     (leb-true 4 ws (r .0), leb-true 8 is (r .1))
 
 module _ (a : Ask) (l : Slots) where
@@ -120,9 +120,9 @@ module _ (a : Ask) (l : Slots) where
       unfolding fillOne
       refused-as-found h =
           ap (λ x. fillTold x l) answer-is
-          ∙ sym (ap (λ x. pick x (doneIn (a .symbol) (fill (termsOf a) (orderOf a) (stateIn a l)) l) (fillTold (numberOf (answerTo a l)) l)) (ap (λ x. eqb x 0) (sym answer-is) ∙ ne-eqb n 0 h))
+          ∙ sym (ap (λ x. pick x (doneIn (a .symbol) (fill (askedTerms a) (askedOrder a) (stateIn a l)) l) (fillTold (numberOf (answerTo a l)) l)) (ap (λ x. eqb x 0) (sym answer-is) ∙ ne-eqb n 0 h))
 
-      pub done-as-filled : n ≡ 0 → doneIn (a .symbol) (fill (termsOf a) (orderOf a) (stateIn a l)) l ≡ fillOne a l
+      pub done-as-filled : n ≡ 0 → doneIn (a .symbol) (fill (askedTerms a) (askedOrder a) (stateIn a l)) l ≡ fillOne a l
       unfolding fillOne
       done-as-filled h = let z : numberOf (answerTo a l) ≡ 0 = sym answer-is ∙ h in simp z
 

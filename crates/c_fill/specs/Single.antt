@@ -27,15 +27,15 @@ use Rattle.fills.specs.Fill.{fill}
 use Rattle.c_fill.specs.declared.Ask.{Ask}
 
 -- ---- what is asked
-abbrev pub asked : CostModel → ℤ → ℕ → ℕ → ℕ → ℤ → ℤ → Ask
-asked m step period kind s q price = record { costs = m; «quantity_step» = step; period = period; kind = kind; symbol = s; quantity = q; price = price }
+abbrev pub askOf : CostModel → ℤ → ℕ → ℕ → ℕ → ℤ → ℤ → Ask
+askOf m step period kind s q price = record { costs = m; «quantity_step» = step; period = period; kind = kind; symbol = s; quantity = q; price = price }
 
 -- every fill is recorded
-abbrev pub termsOf : Ask → Terms
-termsOf a = record { costs = a .costs; «quantity_step» = a .«quantity_step»; recording = true; «period_index» = a .period; kind = kindOf (a .kind) }
+abbrev pub askedTerms : Ask → Terms
+askedTerms a = record { costs = a .costs; «quantity_step» = a .«quantity_step»; recording = true; «period_index» = a .period; kind = kindOf (a .kind) }
 
-abbrev pub orderOf : Ask → Order
-orderOf a = record { symbol = symbol (a .symbol); quantity = shares (a .quantity); price = a .price }
+abbrev pub askedOrder : Ask → Order
+askedOrder a = record { symbol = symbol (a .symbol); quantity = shares (a .quantity); price = a .price }
 
 -- ---- the lent places: cash, shortfall, and the position's quantity, average, realized profit and total cost; the counts of trimmed fills and of records;
 -- and room for records, four words and eight numbers each
@@ -81,8 +81,8 @@ slotsOf s x l = slots
 
 -- ---- the answer: "Check order where several apply: 11, 1, 6, 2, 3, 5, 4, 8"
 -- "A sound account has .. cash at least 0, positions with good symbols"
-abbrev pub soundIn : ℤ → Position → Bool
-soundIn cash p = both (leZ (pos 0) cash) (sound p)
+abbrev pub soundAlone : ℤ → Position → Bool
+soundAlone cash p = both (leZ (pos 0) cash) (sound p)
 
 -- "`quantity_step` at least 1"
 abbrev pub goodAsk : Ask → Bool
@@ -94,7 +94,7 @@ roomForOne words ints = both (leb 4 words) (leb 8 ints)
 
 unfoldable pub refusalOf : Ask → ℤ → Position → ℕ → ℕ → Answer
 refusalOf a cash p words ints =
-    unless (soundIn cash p) Unsound
+    unless (soundAlone cash p) Unsound
     (unless (goodAsk a) BadSetting
     (unless (leZ (pos 1) (a .price)) BadPrice
     (unless (roomForOne words ints) NoRecordRoom
@@ -124,5 +124,5 @@ doneIn s x l = fillTold (counting (x .records)) (slotsOf s x l)
 unfoldable pub fillOne : Ask → Slots → FillTold
 fillOne a l =
     pick (eqb (numberOf (answerTo a l)) 0)
-    (doneIn (a .symbol) (fill (termsOf a) (orderOf a) (stateIn a l)) l)
+    (doneIn (a .symbol) (fill (askedTerms a) (askedOrder a) (stateIn a l)) l)
     (fillTold (numberOf (answerTo a l)) l)

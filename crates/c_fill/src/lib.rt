@@ -4,10 +4,10 @@ ghost use Prim.Native.Nat.{_≤_};
 ghost use lib.ListN.{length};
 ghost use Rattle.cost_model.specs.Costs.{model, withCeiling};
 ghost use Rattle.table.specs.Rows.{cols};
-ghost use Rattle.table.specs.Inner.Rows.{counted};
+ghost use Rattle.table.specs.Inner.Rows.{countedCols};
 ghost use Rattle.fills.specs.Records.{allWords, allInts, fronted};
 ghost use Rattle.fills.specs.Inner.Runs.{recordsOf};
-ghost use Rattle.c_fill.specs.Single.{asked, termsOf, positionIn, isNone, soundIn, goodAsk, refusalOf, counting, slots, fillTold, fillOne};
+ghost use Rattle.c_fill.specs.Single.{askOf, askedTerms, positionIn, isNone, soundAlone, goodAsk, refusalOf, counting, slots, fillTold, fillOne};
 ghost use Rattle.c_fill.specs.Inner.Single.{bookOf, enteredIn, seenBy, seenAfter, moneyOf, talliesOf};
 use answer::Answer;
 use cost_model::CostModel;
@@ -38,7 +38,7 @@ struct Seen {
 }
 
 fn terms_of(a: Ask) -> Terms
-    ensures { λ r. ⌜ r ≡ termsOf a ⌝ }
+    ensures { λ r. ⌜ r ≡ askedTerms a ⌝ }
 {
     let costs = a.costs;
     let kind = fills::kind_of(a.kind);
@@ -89,7 +89,7 @@ fn position_in(symbol: u64, money: &[i64]) -> Position
 }
 
 fn is_sound(cash: i64, p: Position) -> bool
-    ensures { λ r. ⌜ r ≡ soundIn cash p ⌝ }
+    ensures { λ r. ⌜ r ≡ soundAlone cash p ⌝ }
 {
     if cash < 0 {
         return false;
@@ -148,8 +148,9 @@ fn enter(
     total: &mut [i64; 64],
     p: Position,
 ) -> usize
-    ensures { λ r. ⌜ counted r (cols (now (symbol .exit)) (now (quantity .exit)) (now (average .exit)) (now (realized .exit)) (now (total .exit)))
-        ≡ enteredIn p (cols (now (symbol .entry)) (now (quantity .entry)) (now (average .entry)) (now (realized .entry)) (now (total .entry))) ⌝ }
+    ensures { λ r. ⌜ (let c = cols (now (symbol .entry)) (now (quantity .entry)) (now (average .entry)) (now (realized .entry)) (now (total .entry)) in
+        let d = cols (now (symbol .exit)) (now (quantity .exit)) (now (average .exit)) (now (realized .exit)) (now (total .exit)) in
+        countedCols r d ≡ enteredIn p c) ⌝ }
 {
     if is_none(p) {
         return 0;
@@ -260,8 +261,9 @@ fn fill_asked(
     words: &mut [u64],
     ints: &mut [i64],
 ) -> u64
-    ensures { λ r. ⌜ fillTold r (slots (now (money .exit)) (now (tallies .exit)) (now (words .exit)) (now (ints .exit)))
-        ≡ fillOne a (slots (now (money .entry)) (now (tallies .entry)) (now (words .entry)) (now (ints .entry))) ⌝ }
+    ensures { λ r. ⌜ (let lent = slots (now (money .entry)) (now (tallies .entry)) (now (words .entry)) (now (ints .entry)) in
+        let left = slots (now (money .exit)) (now (tallies .exit)) (now (words .exit)) (now (ints .exit)) in
+        fillTold r left ≡ fillOne a lent) ⌝ }
 {
     if money.len() != 6 {
         return 11;
@@ -302,9 +304,9 @@ pub extern "C" fn tc_fill(
     words: &mut [u64],
     ints: &mut [i64],
 ) -> u64
-    ensures { λ r. ⌜ fillTold r (slots (now (money .exit)) (now (tallies .exit)) (now (words .exit)) (now (ints .exit)))
-        ≡ fillOne (asked (model «commission_bps» «slippage_bps» «min_commission») «quantity_step» period kind symbol quantity price)
-        (slots (now (money .entry)) (now (tallies .entry)) (now (words .entry)) (now (ints .entry))) ⌝ }
+    ensures { λ r. ⌜ (let lent = slots (now (money .entry)) (now (tallies .entry)) (now (words .entry)) (now (ints .entry)) in
+        let left = slots (now (money .exit)) (now (tallies .exit)) (now (words .exit)) (now (ints .exit)) in
+        fillTold r left ≡ fillOne (askOf (model «commission_bps» «slippage_bps» «min_commission») «quantity_step» period kind symbol quantity price) lent) ⌝ }
 {
     tc_fill_with_ceiling(
         commission_bps,
@@ -342,9 +344,9 @@ pub extern "C" fn tc_fill_with_ceiling(
     words: &mut [u64],
     ints: &mut [i64],
 ) -> u64
-    ensures { λ r. ⌜ fillTold r (slots (now (money .exit)) (now (tallies .exit)) (now (words .exit)) (now (ints .exit)))
-        ≡ fillOne (asked (withCeiling «max_commission» (model «commission_bps» «slippage_bps» «min_commission»)) «quantity_step» period kind symbol quantity price)
-        (slots (now (money .entry)) (now (tallies .entry)) (now (words .entry)) (now (ints .entry))) ⌝ }
+    ensures { λ r. ⌜ (let lent = slots (now (money .entry)) (now (tallies .entry)) (now (words .entry)) (now (ints .entry)) in
+        let left = slots (now (money .exit)) (now (tallies .exit)) (now (words .exit)) (now (ints .exit)) in
+        fillTold r left ≡ fillOne (askOf (withCeiling «max_commission» (model «commission_bps» «slippage_bps» «min_commission»)) «quantity_step» period kind symbol quantity price) lent) ⌝ }
 {
     let costs = CostModel {
         commission_bps,

@@ -1,3 +1,2 @@
--- Laws of lent places.
-pub mod Places
+-- Laws of refusals.
 pub mod Refusals

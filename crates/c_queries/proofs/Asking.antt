@@ -26,7 +26,7 @@ use Rattle.list_bytes.specs.Inner.Lists.{pricesOf}
 use Rattle.list_bytes.proofs.Columns.{count-small}
 use Rattle.list_bytes.proofs.Lists.{price-symbols, price-prices}
 use Rattle.portfolio.specs.Answers.{isDone}
-use Rattle.c_queries.specs.Asked.{accountIn, soundIn, asked}
+use Rattle.c_queries.specs.Asked.{accountIn, soundIn, askedAtPrices}
 use Rattle.c_queries.specs.Inner.Asked.{early}
 
 -- ---- by soundness, and by the lengths
@@ -110,17 +110,17 @@ module _ {X Y : Type 0} (q : Query X Y) (r : Read) {t : Bool} (d : t ≡ isDone 
   abbrev call : Y
   call = q .tells (q .gives (accountIn (r .bytes)) (symbolsIn (r .list)) (pricesIn (r .list)))
 
-  all-tests : pick t call (refuse (r .answer)) ≡ asked refuse (r .bytes) (r .list) (r .fits) call
-  unfolding asked
+  all-tests : pick t call (refuse (r .answer)) ≡ askedAtPrices refuse (r .bytes) (r .list) (r .fits) call
+  unfolding askedAtPrices
   all-tests =
       ap (λ (k : Bool). pick k call (refuse (r .answer))) d
       ∙ ap (λ (k : Answer). pick (isDone k) call (refuse k)) (answer-by r)
       ∙ rw (sound-in (r .bytes)) (by-tests refuse call (soundAccount (accountIn (r .bytes))) (tests r) (q .unsound (accountIn (r .bytes)) (symbolsIn (r .list)) (pricesIn (r .list))))
 
-  pub refused-query : not t ≡ true → {n : ℕ} → n ≡ numberOf (r .answer) → q .leaves n ≡ asked refuse (r .bytes) (r .list) (r .fits) call
+  pub refused-query : not t ≡ true → {n : ℕ} → n ≡ numberOf (r .answer) → q .leaves n ≡ askedAtPrices refuse (r .bytes) (r .list) (r .fits) call
   refused-query n e = ap (q .leaves) e ∙ sym (ap (λ (k : Bool). pick k call (refuse (r .answer))) (not-true t n)) ∙ all-tests
 
-  pub made-query : not t ≡ false → {x : X} → x ≡ q .gives (r .account) (take (r .prices .count) (r .prices .symbol)) (take (r .prices .count) (r .prices .price)) → q .tells x ≡ asked refuse (r .bytes) (r .list) (r .fits) call
+  pub made-query : not t ≡ false → {x : X} → x ≡ q .gives (r .account) (take (r .prices .count) (r .prices .symbol)) (take (r .prices .count) (r .prices .price)) → q .tells x ≡ askedAtPrices refuse (r .bytes) (r .list) (r .fits) call
   made-query n e =
       let w = both-true (wholeList 128 (r .list)) (r .fits) (tests-hold r (sym d ∙ not-false t n)) .0 in
       let ss : take (r .prices .count) (r .prices .symbol) ≡ symbolsIn (r .list) = ap (λ (k : Prices). take (k .count) (k .symbol)) (r .prices-are) ∙ price-symbols (r .list) w in

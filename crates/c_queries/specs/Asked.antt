@@ -10,5 +10,5 @@ unfoldable pub use Rattle.account_bytes.specs.Account.{soundIn}
 use Rattle.list_bytes.specs.Entries.{wholeList}
 
 -- the query of an account at prices, unless its bytes are not sound, the prices no list within the bound, or what is lent has another length
-unfoldable pub asked : {X : Type 0} → (Answer → X) → List ℕ → List ℕ → Bool → X → X
-asked refuse b ps fits call = pick (soundIn b) (pick (both (wholeList 128 ps) fits) call (refuse TooLong)) (refuse Unsound)
+unfoldable pub askedAtPrices : {X : Type 0} → (Answer → X) → List ℕ → List ℕ → Bool → X → X
+askedAtPrices refuse b ps fits call = pick (soundIn b) (pick (both (wholeList 128 ps) fits) call (refuse TooLong)) (refuse Unsound)

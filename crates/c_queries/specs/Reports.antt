@@ -16,7 +16,7 @@ use Rattle.queries.specs.declared.answered.Snapshot.{Snapshot}
 use Rattle.queries.specs.declared.answered.Weights.{Weights}
 use Rattle.queries.specs.declared.answered.Unpriced.{Unpriced}
 use Rattle.queries.specs.Answers.{toldUnpriced, toldWeights, toldSnapshot}
-use Rattle.c_queries.specs.Asked.{accountIn, asked}
+use Rattle.c_queries.specs.Asked.{accountIn, askedAtPrices}
 use Rattle.c_queries.specs.Told.{QueryTold, tellQuery, refusing, ToldBoth, tellBoth, refusingBoth}
 
 -- ---- what is left of each answer: its words where it is done, what was found where it is a refusal
@@ -48,16 +48,16 @@ snapshotTold s figures weights =
 
 -- ---- the queries, of an account's bytes and those of its prices, with what is lent to be written
 unfoldable pub equityIn : List ℕ → List ℕ → List ℕ → QueryTold
-equityIn b ps out = asked (refusing out) b ps (eqb (length out) 8) (equityTold (toldEquity (accountIn b) (symbolsIn ps) (pricesIn ps)) out)
+equityIn b ps out = askedAtPrices (refusing out) b ps (eqb (length out) 8) (equityTold (toldEquity (accountIn b) (symbolsIn ps) (pricesIn ps)) out)
 
 unfoldable pub unpricedIn : List ℕ → List ℕ → List ℕ → QueryTold
-unpricedIn b ps out = asked (refusing out) b ps (eqb (length out) 16) (unpricedTold (toldUnpriced (accountIn b) (symbolsIn ps) (pricesIn ps)) out)
+unpricedIn b ps out = askedAtPrices (refusing out) b ps (eqb (length out) 16) (unpricedTold (toldUnpriced (accountIn b) (symbolsIn ps) (pricesIn ps)) out)
 
 -- room for 64 weights of 16 bytes
 unfoldable pub currentWeightsIn : List ℕ → List ℕ → List ℕ → QueryTold
-currentWeightsIn b ps out = asked (refusing out) b ps (eqb (length out) 1024) (weightsTold (toldWeights (accountIn b) (symbolsIn ps) (pricesIn ps)) out)
+currentWeightsIn b ps out = askedAtPrices (refusing out) b ps (eqb (length out) 1024) (weightsTold (toldWeights (accountIn b) (symbolsIn ps) (pricesIn ps)) out)
 
 unfoldable pub snapshotIn : List ℕ → List ℕ → List ℕ → List ℕ → ToldBoth
 snapshotIn b ps figures weights =
-    asked (refusingBoth figures weights) b ps (both (eqb (length figures) 40) (eqb (length weights) 1024))
+    askedAtPrices (refusingBoth figures weights) b ps (both (eqb (length figures) 40) (eqb (length weights) 1024))
     (snapshotTold (toldSnapshot (accountIn b) (symbolsIn ps) (pricesIn ps)) figures weights)

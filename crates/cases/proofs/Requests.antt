@@ -19,8 +19,7 @@ use Rattle.account.specs.Settings.{goodRules, goodSettings}
 use Rattle.account.specs.Account.{soundAccount, soundScalars, soundColumns, soundPlaces, tableOf}
 use Rattle.call_lists.specs.Lists.{among, allGood, distinct, allFinite, allPriced, priceOf}
 use Rattle.call_lists.specs.Checks.{shortEnough, listsAnswer}
-use Rattle.wanted.specs.Plan as Plan
-use Rattle.wanted.specs.Plan.{withinBand, underMaximum, limited, plannedClose, closing, closings, targetings, wanted}
+use Rattle.wanted.specs.Plan.{withinBand, underMaximum, limited, allowedOrder, plannedClose, closing, closings, targetings, wanted}
 use Rattle.wanted.specs.Equity.{worthFrom, equityOf}
 use Rattle.admission.specs.Admission.{capped, insertBy, added, addedAll, admittedFrom, admitted}
 use Rattle.admission.specs.Running.{parted, sortedWith, cashFirst, inRunningOrder, notionalFrom, planOf}
@@ -35,5 +34,5 @@ use Rattle.cases.specs.Rows.{allRight}
 use Rattle.cases.specs.Requests.{requests}
 
 pub requests-hold : allRight requests ≡ true
-unfolding houseOf houseOfGroup report refusal each sumTo every productTo compounded returnOf rebalanced afterRebalance afterPlan accountAfter admittedPlan rebalanceAnswer hasRoom notHeld soundAccount soundScalars soundColumns soundPlaces tableOf goodRules goodSettings goodCeiling goodCosts goodRate zipped unused ordered goodSymbol bytesFrom leading zeros padded soundNumbers sound shortEnough listsAnswer among allGood distinct allFinite allPriced priceOf worthFrom equityOf planOf wanted closings closing plannedClose Plan.ordered withinBand underMaximum limited targetings drift capped insertBy added addedAll admittedFrom admitted inRunningOrder cashFirst parted sortedWith cashChange cashTaken notionalFrom fillAll fill fillsWhole settled counted trimmedFill need fits largest affordable above made recordOf paid applied sameSide entered closedBy gain realizedBy closed reduced isZero cost commission atLeast uncapped atMost effective slipped slippageFactor value notional clamp64 satAdd satSub satNeg satAbs roundAway add sub mul div lt le ofInt toSigned
+unfolding houseOf houseOfGroup report refusal each sumTo every productTo compounded returnOf rebalanced afterRebalance afterPlan accountAfter admittedPlan rebalanceAnswer hasRoom notHeld soundAccount soundScalars soundColumns soundPlaces tableOf goodRules goodSettings goodCeiling goodCosts goodRate zipped unused ordered goodSymbol bytesFrom leading zeros padded soundNumbers sound shortEnough listsAnswer among allGood distinct allFinite allPriced priceOf worthFrom equityOf planOf wanted closings closing plannedClose allowedOrder withinBand underMaximum limited targetings drift capped insertBy added addedAll admittedFrom admitted inRunningOrder cashFirst parted sortedWith cashChange cashTaken notionalFrom fillAll fill fillsWhole settled counted trimmedFill need fits largest affordable above made recordOf paid applied sameSide entered closedBy gain realizedBy closed reduced isZero cost commission atLeast uncapped atMost effective slipped slippageFactor value notional clamp64 satAdd satSub satNeg satAbs roundAway add sub mul div lt le ofInt toSigned
 requests-hold = refl

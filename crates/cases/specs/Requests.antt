@@ -53,16 +53,16 @@ abbrev pub soldBoth : Bool → Outcome
 soldBoth mode = rebalanced (holdsBoth mode) [] [] (nameA ∷ nameB ∷ []) (pos 10 ∷ pos 25 ∷ []) 0 Rebalance 64
 
 -- answer, cash, what is held of each, and the symbols of the fills in their order
-abbrev pub told : Outcome → List ℤ
-told o = pos (numberOf (o .answer)) ∷ o .account .cash ∷ (map held (heldIn (o .account .positions)) ++ map (λ r. pos (r .symbol .0)) (o .records))
+abbrev pub leftBy : Outcome → List ℤ
+leftBy o = pos (numberOf (o .answer)) ∷ o .account .cash ∷ (map held (heldIn (o .account .positions)) ++ map (λ r. pos (r .symbol .0)) (o .records))
 
 -- "the new one fills B, then A, and ends at 5"
 abbrev pub case-1 : Row
-case-1 = says (told (soldBoth true)) (pos 0 ∷ pos 5 ∷ pos 0 ∷ pos 0 ∷ pos nameB ∷ pos nameA ∷ [])
+case-1 = says (leftBy (soldBoth true)) (pos 0 ∷ pos 5 ∷ pos 0 ∷ pos 0 ∷ pos nameB ∷ pos nameA ∷ [])
 
 -- as planned, "run early it is skipped": A is kept, and cash ends at 10
 abbrev pub case-1-as-planned : Row
-case-1-as-planned = says (told (soldBoth false)) (pos 0 ∷ pos 10 ∷ whole (pos 1) ∷ pos 0 ∷ pos nameB ∷ [])
+case-1-as-planned = says (leftBy (soldBoth false)) (pos 0 ∷ pos 10 ∷ whole (pos 1) ∷ pos 0 ∷ pos nameB ∷ [])
 
 -- "those that lower no cash": an order that changes none stands in the first group
 abbrev pub runOf : CostModel → List PlannedOrder → List ℤ

@@ -1,6 +1,6 @@
 -- The constants of the code, from their patterns.
 use mathlib.Core.Path.{_≡_, refl}
-use lib.Ieee.{binary64, ofBits, neg}
+use lib.Ieee.{Float, binary64, ofBits, neg}
 use Rattle.cost_model.specs.Costs.{zero, one, tenThousand, sign}
 use mathlib.Core.Bool.{false}
 
@@ -16,6 +16,10 @@ pub minus-one-is : neg one ≡ sign false
 unfolding neg
 minus-one-is = refl
 
-pub ten-thousand-is : ofBits binary64 4666723172467343360 ≡ tenThousand
+-- 10,000 as the code has it
+abbrev pub readTenThousand : Float
+readTenThousand = ofBits binary64 4666723172467343360
+
+pub ten-thousand-is : readTenThousand ≡ tenThousand
 unfolding ofBits
 ten-thousand-is = refl

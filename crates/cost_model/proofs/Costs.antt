@@ -1,16 +1,19 @@
 -- What callers need of costs: at least the floor and at most the ceiling, never falling as the notional rises, and the bounds of an effective price.
 use Prim.Native.Nat.{ℕ, zero, _≤_, _<_, _^_}
 use mathlib.Core.Path.{_≡_, refl, sym, _∙_, subst}
-use mathlib.Core.Bool.{Bool, true, false, cond, _&&_, _||_}
+use mathlib.Core.Bool.{Bool, true, false, cond, _||_}
 use native.Mathlib.Omega.{arith}
 use lib.IntN.{ℤ, pos, negsuc, natAbs}
 use lib.Signed.{ltZ, leZ}
 use lib.Dec.{T}
 use lib.Ieee.{Float, nan, inf, fin, le}
+use lib.Ieee.Bits.{is-true}
 use borrow.Author.Tests.{leb-true}
 use mir.Syntax.{w64}
 use mir.Val.{SFits}
+use Rattle.answer.proofs.Choice.{both-true}
 use Rattle.doubles.specs.Doubles.{finite}
+use Rattle.doubles.proofs.Fields.{yes}
 use Rattle.doubles.proofs.Laws.{toI64-fits}
 use Rattle.doubles.proofs.Chain.{buy-price-above-zero, sell-price-not-negative}
 use Rattle.doubles.proofs.Chain as Chain
@@ -19,24 +22,6 @@ use Rattle.position.specs.Shares.{isZero}
 use Rattle.cost_model.specs.Costs as Costs
 use Rattle.cost_model.specs.Costs.{tenThousand, commission, atLeast, uncapped, atMost, cost, slippageFactor, slipped, effective, goodRate, goodCeiling, goodCosts}
 use Rattle.cost_model.specs.declared.CostModel.{CostModel}
-
--- ---- tests
-holds : (t : Bool) → t ≡ true → T t
-holds true e = tt
-holds false e = let z : _≡_ {A = ℕ} 0 1 = cc in absurd (omega arith)
-
-told : (t : Bool) → T t → t ≡ true
-told true h = refl
-told false h = absurd h
-
-and-left : (a b : Bool) → a && b ≡ true → a ≡ true
-and-left true b e = refl
-and-left false b e = e
-
-and-right : (a b : Bool) → a && b ≡ true → b ≡ true
-and-right true b e = e
-and-right false true e = refl
-and-right false false e = e
 
 -- ---- good settings, part by part
 pub record Good (m : CostModel) : Type 0 where
@@ -50,18 +35,12 @@ pub record Good (m : CostModel) : Type 0 where
 pub good-parts : (m : CostModel) → goodCosts m ≡ true → Good m
 unfolding goodCosts goodRate
 good-parts m g =
-    let r = and-left (goodRate (m .«commission_bps»)) _ g in
-    let s = and-right (goodRate (m .«commission_bps»)) _ g in
-    let t = and-right (le Costs.zero (m .«slippage_bps»)) _ s in
-    let u = and-right (le (m .«slippage_bps») tenThousand) _ t in
-    record {
-      finite-rate = holds (finite (m .«commission_bps»)) (and-left (finite (m .«commission_bps»)) _ r);
-      rate = holds (le Costs.zero (m .«commission_bps»)) (and-right (finite (m .«commission_bps»)) _ r);
-      slippage-low = holds (le Costs.zero (m .«slippage_bps»)) (and-left (le Costs.zero (m .«slippage_bps»)) _ s);
-      slippage-high = holds (le (m .«slippage_bps») tenThousand) (and-left (le (m .«slippage_bps») tenThousand) _ t);
-      floor = and-left (leZ (pos 0) (m .«min_commission»)) _ u;
-      ceiling = and-right (leZ (pos 0) (m .«min_commission»)) _ u;
-    }
+    let a = both-true (goodRate (m .«commission_bps»)) _ g in
+    let r = both-true (finite (m .«commission_bps»)) _ (a .0) in
+    let s = both-true (le Costs.zero (m .«slippage_bps»)) _ (a .1) in
+    let t = both-true (le (m .«slippage_bps») tenThousand) _ (s .1) in
+    let u = both-true (leZ (pos 0) (m .«min_commission»)) _ (t .1) in
+    record { finite-rate = yes (r .0); rate = yes (r .1); slippage-low = yes (s .0); slippage-high = yes (t .0); floor = u .0; ceiling = u .1 }
 
 -- ---- the larger of two
 floor-or-more : (f c : ℤ) → leZ f (atLeast f c) ≡ true
@@ -213,7 +192,7 @@ pub cost-mono-size : (m : CostModel) (n k : ℤ) → goodCosts m ≡ true → SF
 unfolding cost uncapped commission
 cost-mono-size m n k g f h =
     let p = good-parts m g in
-    at-most-mono (m .«max_commission») _ _ (at-least-mono (m .«min_commission») _ _ (told _ (Chain.cost-mono (m .«commission_bps») (natAbs n) (natAbs k) (p .finite-rate) (p .rate) h (size-fits k f))))
+    at-most-mono (m .«max_commission») _ _ (at-least-mono (m .«min_commission») _ _ (is-true _ (Chain.cost-mono (m .«commission_bps») (natAbs n) (natAbs k) (p .finite-rate) (p .rate) h (size-fits k f))))
 
 pub cost-mono : (m : CostModel) (n k : ℤ) → goodCosts m ≡ true → SFits w64 k → leZ (pos 0) n ≡ true → leZ n k ≡ true → leZ (cost m n) (cost m k) ≡ true
 cost-mono m (pos n) (pos k) g f z h = cost-mono-size m (pos n) (pos k) g f (leb-true n k h)
@@ -240,14 +219,14 @@ pub buy-price-at-least-1 : (m : CostModel) (price : ℤ) → goodCosts m ≡ tru
 unfolding effective slipped slippageFactor
 buy-price-at-least-1 m (pos n) g h =
     let p = good-parts m g in
-    told _ (buy-price-above-zero n (m .«slippage_bps») (leb-true 1 n h) (within-finite _ (p .slippage-low) (p .slippage-high)) (p .slippage-low))
+    is-true _ (buy-price-above-zero n (m .«slippage_bps») (leb-true 1 n h) (within-finite _ (p .slippage-low) (p .slippage-high)) (p .slippage-low))
 buy-price-at-least-1 m (negsuc n) g h = let z : _≡_ {A = ℕ} 0 1 = cc in absurd (omega arith)
 
 pub sale-price-nonneg : (m : CostModel) (price : ℤ) → goodCosts m ≡ true → SFits w64 price → leZ (pos 0) price ≡ true → leZ (pos 0) (effective m false price) ≡ true
 unfolding effective slipped slippageFactor
 sale-price-nonneg m (pos n) g f h =
     let p = good-parts m g in
-    told _ (sell-price-not-negative n (m .«slippage_bps») (omega (arith, f .sfits)) (p .slippage-low) (p .slippage-high))
+    is-true _ (sell-price-not-negative n (m .«slippage_bps») (omega (arith, f .sfits)) (p .slippage-low) (p .slippage-high))
 sale-price-nonneg m (negsuc n) g f h = let z : _≡_ {A = ℕ} 0 1 = cc in absurd (omega arith)
 
 -- either way a fill's price is one that a position takes

@@ -8,17 +8,16 @@ use lib.IntN.{ℤ, pos, _-ℤ_}
 use lib.Signed.{ltZ, leZ}
 use mir.Syntax.{w64}
 use mir.Val.{SFits}
-use Rattle.sums.specs.Sums.{satAdd, satSub, notional}
-use Rattle.sums.proofs.Ints.{P, N, one-sided, P-sub, P-clamp, N-clamp, satSub-clamp, satSub-plain, le-yes, le-no, le-is, gt-is, lt-yes, lt-is, lt-le, N-zero}
-use Rattle.sums.proofs.Laws.{notional-is-value}
+use Rattle.sums.specs.Sums.{satSub}
+use Rattle.sums.proofs.Ints.{P, N, one-sided, P-sub, P-clamp, N-clamp, satSub-clamp, satSub-plain, le-yes, le-no, le-is, gt-is, lt-is, N-zero}
 use Rattle.position.specs.Shares.{isZero}
 use Rattle.position.proofs.Fills.{short-parts}
-use Rattle.cost_model.specs.Costs.{cost, goodCosts}
+use Rattle.cost_model.specs.Costs.{goodCosts}
 use Rattle.cost_model.proofs.Costs.{buy-price-at-least-1}
 use Rattle.sizing.specs.Afford.{need, affordable}
 use Rattle.sizing.specs.Cash.{cashTaken}
 use Rattle.sizing.proofs.Buys.{affordable-nonneg, affordable-fits}
-use Rattle.sizing.proofs.Cash.{need-is-taken}
+use Rattle.sizing.proofs.Cash.{agree, need-is-taken}
 use Rattle.table.specs.Keyed.{pick}
 use Rattle.fills.specs.declared.order.Order.{Order}
 use Rattle.fills.specs.declared.order.Terms.{Terms}
@@ -47,10 +46,6 @@ module _ (Q : State → Type 0) (t : Terms) (o : Order) (s : State) where
       go false false false g ez ew eb eg = same
 
 -- ---- a sale: its cash afterwards is at least 0 exactly when it takes at most the cash
-agree : (a b : Bool) → (a ≡ true → b ≡ true) → (a ≡ false → b ≡ false) → a ≡ b
-agree true b f g = sym (f refl)
-agree false b f g = sym (g refl)
-
 pub left-is-taken : (c d : ℤ) → leZ (pos 0) (satSub c d) ≡ leZ d c
 unfolding P N
 left-is-taken c d =

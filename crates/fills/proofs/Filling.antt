@@ -19,8 +19,7 @@ use Rattle.table.specs.declared.found.Found.{Found}
 use Rattle.table.specs.Keyed.{pick, orElse, seek, put64}
 use Rattle.table.specs.Inner.Places.{Finds, found}
 use Rattle.table.specs.Rows.{Cols, rows, holding}
-use Rattle.table.specs.Inner.Rows.{Counted, Ordered, Puts, heldAt, posted}
-use Rattle.table.specs.Inner.Rows as Rows
+use Rattle.table.specs.Inner.Rows.{Counted, countedCols, Ordered, Puts, heldAt, posted}
 use Rattle.table.proofs.Keyed.{seek-key}
 use Rattle.table.proofs.Posting.{held-is-holding, posted-puts}
 use Rattle.fills.specs.declared.deal.Deal.{Deal}
@@ -138,7 +137,7 @@ module _ (t : Terms) (o : Order) (b : Book) (c : Cols) (d : Deal) (e : d ≡ dea
 
   module _ (z : isZero (d .quantity .0) ≡ false) (f : Found) (p w : Position) (m h : ℕ) (c′ : Cols)
       (hf : Finds (o .symbol .0) (take (b .count) (c .symbol)) f) (hp : p ≡ heldAt f (o .symbol .0) c) (hw : w ≡ applied p (d .quantity .0) (d .price))
-      (hn : Rows.counted m c′ ≡ posted f w (Rows.counted (b .count) c)) where
+      (hn : countedCols m c′ ≡ posted f w (countedCols (b .count) c)) where
     found-is : f ≡ found (o .symbol .0) (take (b .count) (c .symbol))
     found-is = hf .settled (s .rising)
 

@@ -5,10 +5,11 @@ use mathlib.Core.List.{List, [], _∷_, _++_}
 use mathlib.Core.Path.{_≡_, refl, ap, _∙_}
 use native.Mathlib.Omega.{arith}
 use lib.IntN.{ℤ}
-use lib.ListN.{length, drop, set, length-append}
+use lib.ListN.{length, drop, length-append}
 use lib.Seq.{sets, sets-eq, length-sets}
 use Rattle.table.specs.Keyed.{pick}
 use Rattle.table.specs.Rows.{Cols}
+use Rattle.table.proofs.Stores.{sets-append}
 use Rattle.fills.specs.declared.order.Book.{Book}
 use Rattle.fills.specs.declared.order.Order.{Order}
 use Rattle.fills.specs.declared.order.Terms.{Terms}
@@ -19,10 +20,6 @@ use Rattle.fills.specs.Fill.{counted, settled, fill, fillAll}
 use Rattle.fills.specs.Inner.Runs.{state, Runs}
 use Rattle.fills.proofs.Cash.{by-outcome}
 use Rattle.fills.proofs.Storing.{with-room}
-
-sets-on : {A : Type 0} (a b l : List A) (i j : ℕ) → j ≡ i + length a → sets (sets l i a) j b ≡ sets l i (a ++ b)
-sets-on [] b l i j e = let q : j ≡ i = omega arith in ap (λ k. sets l k b) q
-sets-on (x ∷ a) b l i j e = sets-on a b (set l i x) (suc i) j (omega arith)
 
 -- from any place with room for all
 pub stored-from : (rs : List ExecutionRecord) (ws : List ℕ) (is : List ℤ) (n : ℕ) → (n + length rs) * 4 ≤ length ws → (n + length rs) * 8 ≤ length is
@@ -37,8 +34,8 @@ stored-from (r ∷ rs) ws is n h g =
     let lw : length ws′ ≡ length ws = length-sets ws (n * 4) (wordsOfRecord r) in
     let li : length is′ ≡ length is = length-sets is (n * 8) (intsOfRecord r) in
     let e : n + 1 + length rs ≡ n + suc (length rs) = omega arith in
-    let ew = sets-on (wordsOfRecord r) (allWords rs) ws (n * 4) ((n + 1) * 4) (omega arith) in
-    let ei = sets-on (intsOfRecord r) (allInts rs) is (n * 8) ((n + 1) * 8) (omega arith) in
+    let ew = sets-append ws (n * 4) (wordsOfRecord r) (allWords rs) ((n + 1) * 4) (omega arith) in
+    let ei = sets-append is (n * 8) (intsOfRecord r) (allInts rs) ((n + 1) * 8) (omega arith) in
     ap (storedAll rs) (with-room r ws is n a b)
     ∙ stored-from rs ws′ is′ (n + 1) (omega (arith, lw, h)) (omega (arith, li, g))
     ∙ ap (λ x. buffers (sets ws′ ((n + 1) * 4) (allWords rs)) (sets is′ ((n + 1) * 8) (allInts rs)) x) e

@@ -24,8 +24,7 @@ use Rattle.account.specs.Account.{soundAccount, soundScalars, soundColumns, sou
 use Rattle.account.specs.Calls.{zeroAccount}
 use Rattle.call_lists.specs.Lists.{among, allGood, distinct, allFinite, allPriced, priceOf}
 use Rattle.call_lists.specs.Checks.{shortEnough, listsAnswer}
-use Rattle.wanted.specs.Plan as Plan
-use Rattle.wanted.specs.Plan.{withinBand, underMaximum, limited, plannedClose, closing, closings, targetings, wanted}
+use Rattle.wanted.specs.Plan.{withinBand, underMaximum, limited, allowedOrder, plannedClose, closing, closings, targetings, wanted}
 use Rattle.wanted.specs.Equity.{worthFrom, equityOf}
 use Rattle.admission.specs.Admission.{capped, insertBy, added, addedAll, admittedFrom, admitted}
 use Rattle.admission.specs.Running.{planOf}
@@ -63,7 +62,7 @@ case = record {
 }
 
 pub asked : InCashFirst case
-unfolding total cashRaised above admittedPlan rebalanceAnswer hasRoom notHeld soundAccount soundScalars soundColumns soundPlaces tableOf goodRules goodSettings goodCeiling goodCosts goodRate zipped unused ordered goodSymbol bytesFrom leading zeros padded soundNumbers sound shortEnough listsAnswer among allGood distinct allFinite allPriced priceOf worthFrom equityOf planOf wanted closings closing plannedClose Plan.ordered withinBand underMaximum limited targetings drift capped insertBy added addedAll admittedFrom admitted cashChange cashTaken cost commission atLeast uncapped atMost effective slipped slippageFactor value notional clamp64 satAdd satSub satNeg satAbs roundAway add mul div lt le ofInt toSigned isZero
+unfolding total cashRaised above admittedPlan rebalanceAnswer hasRoom notHeld soundAccount soundScalars soundColumns soundPlaces tableOf goodRules goodSettings goodCeiling goodCosts goodRate zipped unused ordered goodSymbol bytesFrom leading zeros padded soundNumbers sound shortEnough listsAnswer among allGood distinct allFinite allPriced priceOf worthFrom equityOf planOf wanted closings closing plannedClose allowedOrder withinBand underMaximum limited targetings drift capped insertBy added addedAll admittedFrom admitted cashChange cashTaken cost commission atLeast uncapped atMost effective slipped slippageFactor value notional clamp64 satAdd satSub satNeg satAbs roundAway add mul div lt le ofInt toSigned isZero
 asked = record {
   columns = record { symbol = refl; quantity = refl; average = refl; realized = refl; total = refl };
   mode = refl;
@@ -72,7 +71,7 @@ asked = record {
 }
 
 pub b-then-a : FillsAll case (sell B (pos 25) ∷ sell A (pos 10) ∷ [])
-unfolding allWhole admittedPlan tableOf zipped listsAnswer among priceOf worthFrom equityOf planOf wanted closings closing plannedClose Plan.ordered withinBand underMaximum limited targetings drift capped insertBy added addedAll admittedFrom admitted cashTaken fill fillsWhole settled made recordOf paid applied sameSide closedBy gain realizedBy closed reduced isZero cost commission atLeast uncapped atMost effective slipped slippageFactor value notional clamp64 satAdd satSub satNeg satAbs roundAway add mul div lt le ofInt toSigned
+unfolding allWhole admittedPlan tableOf zipped listsAnswer among priceOf worthFrom equityOf planOf wanted closings closing plannedClose allowedOrder withinBand underMaximum limited targetings drift capped insertBy added addedAll admittedFrom admitted cashTaken fill fillsWhole settled made recordOf paid applied sameSide closedBy gain realizedBy closed reduced isZero cost commission atLeast uncapped atMost effective slipped slippageFactor value notional clamp64 satAdd satSub satNeg satAbs roundAway add mul div lt le ofInt toSigned
 b-then-a = record { runs = swap; whole = refl }
 
 pub ends-at-5 : left case .cash ≡ pos 5

@@ -32,9 +32,10 @@ pub fn admit_plan<'a>(
     price: &mut [i64; 64],
     drift: &mut [f64; 64],
 ) -> usize
-    ensures { λ r. ⌜ Makes s equity (now (key .entry)) (now (held .entry)) n (now (targets .entry)) (now (weights .entry)) (now (symbols .entry)) (now (prices .entry))
-        (countedPlan 0 (planCols (now (symbol .entry)) (now (quantity .entry)) (now (price .entry)) (now (drift .entry))))
-        (countedPlan r (planCols (now (symbol .exit)) (now (quantity .exit)) (now (price .exit)) (now (drift .exit)))) ⌝ }
+    ensures { λ r. ⌜ (let c = planCols (now (symbol .entry)) (now (quantity .entry)) (now (price .entry)) (now (drift .entry)) in
+        let d = planCols (now (symbol .exit)) (now (quantity .exit)) (now (price .exit)) (now (drift .exit)) in
+        Makes s equity (now (key .entry)) (now (held .entry)) n (now (targets .entry)) (now (weights .entry)) (now (symbols .entry)) (now (prices .entry))
+        (countedPlan 0 c) (countedPlan r d)) ⌝ }
 {
     let closes = plan_closes(
         key,
@@ -86,9 +87,10 @@ pub fn make_plan<'a>(
     price: &mut [i64; 64],
     drift: &mut [f64; 64],
 ) -> Planned
-    ensures { λ r. ⌜ Plans s equity (now (key .entry)) (now (held .entry)) n (now (targets .entry)) (now (weights .entry)) (now (symbols .entry)) (now (prices .entry))
-        (planCols (now (symbol .entry)) (now (quantity .entry)) (now (price .entry)) (now (drift .entry)))
-        (planCols (now (symbol .exit)) (now (quantity .exit)) (now (price .exit)) (now (drift .exit))) r ⌝ }
+    ensures { λ r. ⌜ (let c = planCols (now (symbol .entry)) (now (quantity .entry)) (now (price .entry)) (now (drift .entry)) in
+        let d = planCols (now (symbol .exit)) (now (quantity .exit)) (now (price .exit)) (now (drift .exit)) in
+        Plans s equity (now (key .entry)) (now (held .entry)) n (now (targets .entry)) (now (weights .entry)) (now (symbols .entry)) (now (prices .entry))
+        c d r) ⌝ }
 {
     let count = admit_plan(
         key,

@@ -60,9 +60,10 @@ pub fn plan_targets<'a>(
     drift: &mut [f64; 64],
     m: usize,
 ) -> usize
-    ensures { λ r. ⌜ PlansTargets s equity (now (key .entry)) (now (held .entry)) n (now (targets .entry)) (now (weights .entry)) (now (symbols .entry)) (now (prices .entry))
-        (countedPlan m (planCols (now (symbol .entry)) (now (quantity .entry)) (now (price .entry)) (now (drift .entry))))
-        (countedPlan r (planCols (now (symbol .exit)) (now (quantity .exit)) (now (price .exit)) (now (drift .exit)))) ⌝ }
+    ensures { λ r. ⌜ (let c = planCols (now (symbol .entry)) (now (quantity .entry)) (now (price .entry)) (now (drift .entry)) in
+        let d = planCols (now (symbol .exit)) (now (quantity .exit)) (now (price .exit)) (now (drift .exit)) in
+        PlansTargets s equity (now (key .entry)) (now (held .entry)) n (now (targets .entry)) (now (weights .entry)) (now (symbols .entry)) (now (prices .entry))
+        (countedPlan m c) (countedPlan r d)) ⌝ }
 {
     let places = used(targets.len(), weights.len());
     let capped = is_capped(s);

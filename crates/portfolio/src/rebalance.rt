@@ -46,9 +46,10 @@ fn plan_on<'a>(
     price: &mut [i64; 64],
     drift: &mut [f64; 64],
 ) -> Planned
-    ensures { λ r. ⌜ PlansFromCash s cash (now (key .entry)) (now (held .entry)) n (now (targets .entry)) (now (weights .entry)) (now (symbols .entry)) (now (prices .entry))
-        (planCols (now (symbol .entry)) (now (quantity .entry)) (now (price .entry)) (now (drift .entry)))
-        (planCols (now (symbol .exit)) (now (quantity .exit)) (now (price .exit)) (now (drift .exit))) r ⌝ }
+    ensures { λ r. ⌜ (let c = planCols (now (symbol .entry)) (now (quantity .entry)) (now (price .entry)) (now (drift .entry)) in
+        let d = planCols (now (symbol .exit)) (now (quantity .exit)) (now (price .exit)) (now (drift .exit)) in
+        PlansFromCash s cash (now (key .entry)) (now (held .entry)) n (now (targets .entry)) (now (weights .entry)) (now (symbols .entry)) (now (prices .entry))
+        c d r) ⌝ }
 {
     let equity = sums::saturating_add(cash, total_worth(key, held, n, symbols, prices));
     if equity <= 0 {

@@ -69,7 +69,8 @@ pub(crate) fn traded_on<'a>(
     realized: &'a [i64; 64],
     total: &'a [i64; 64],
 ) -> Traded
-    ensures { λ x. ⌜ x ≡ tradedOn r (cols (now (symbol .entry)) (now (quantity .entry)) (now (average .entry)) (now (realized .entry)) (now (total .entry))) ⌝ }
+    ensures { λ x. ⌜ (let c = cols (now (symbol .entry)) (now (quantity .entry)) (now (average .entry)) (now (realized .entry)) (now (total .entry)) in
+        x ≡ tradedOn r c) ⌝ }
 {
     let answer = r.answer;
     let h = r.ledger;

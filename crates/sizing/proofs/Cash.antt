@@ -17,7 +17,8 @@ use Rattle.sizing.specs.Afford.{need}
 use Rattle.sizing.specs.Cash.{cashTaken, cashChange, lowersCash}
 
 -- ---- signs
-agree : (a b : Bool) → (a ≡ true → b ≡ true) → (a ≡ false → b ≡ false) → a ≡ b
+-- tests that hold together and fail together are one
+pub agree : (a b : Bool) → (a ≡ true → b ≡ true) → (a ≡ false → b ≡ false) → a ≡ b
 agree true b f g = sym (f refl)
 agree false b f g = sym (g refl)
 

@@ -2,6 +2,7 @@
 pub mod Keyed
 pub mod Places
 pub mod Columns
+pub mod Stores
 pub mod Zipped
 pub mod Posting
 pub mod Ordering

@@ -17,7 +17,7 @@ use Rattle.table.specs.Keyed.{pick, both, there, orElse, seek, put, put6
 use Rattle.table.specs.Inner.Keyed.{Rising}
 use Rattle.table.specs.Inner.Places.{foundFrom, found}
 use Rattle.table.specs.Rows.{zip2, give, Cols, cols, zipped, rows, Full, holding, rowAt}
-use Rattle.table.specs.Inner.Rows.{Ordered, Puts, Counted, counted, opened, setAll, openAll, heldAt, posted}
+use Rattle.table.specs.Inner.Rows.{Ordered, Puts, Counted, countedCols, opened, setAll, openAll, heldAt, posted}
 use Rattle.table.specs.declared.found.Found.{Found}
 use Rattle.table.specs.declared.found.Found.the-variants.{At, Absent}
 use Rattle.table.proofs.Keyed.{put64-rises}
@@ -124,7 +124,7 @@ abbrev PutsTo : Position → ℕ → Cols → Counted → Type 0
 PutsTo p n c t = Puts p n c (t .count) (t .columns)
 
 -- posting at the place that was found puts the position into the list
-pub posted-puts : (n : ℕ) (c : Cols) (f : Found) (p : Position) → Ordered n c → f ≡ found (keyOf p) (take n (c .symbol)) → PutsTo p n c (posted f p (counted n c))
+pub posted-puts : (n : ℕ) (c : Cols) (f : Found) (p : Position) → Ordered n c → f ≡ found (keyOf p) (take n (c .symbol)) → PutsTo p n c (posted f p (countedCols n c))
 posted-puts n c (At i) p o e =
     let b = place-below n i p c o (sym e) in
     let l : i < 64 = omega (arith, o .small) in
@@ -134,6 +134,6 @@ posted-puts n c (Absent i) p o e = go (ltb n 64) refl
     b : leb i n ≡ true
     b = le-leb _ _ (gap-below n i p c o (sym e))
 
-    go : (r : Bool) → ltb n 64 ≡ r → PutsTo p n c (pick (both r (leb i n)) (counted (n + 1) (openAll i (n - i) p c)) (counted n c))
+    go : (r : Bool) → ltb n 64 ≡ r → PutsTo p n c (pick (both r (leb i n)) (countedCols (n + 1) (openAll i (n - i) p c)) (countedCols n c))
     go true h = simp b (open-puts n i p c o (sym e) (ltb-true _ _ h))
     go false h = full-puts n i p c o (sym e) (ltb-false _ _ h)

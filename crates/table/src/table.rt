@@ -2,7 +2,7 @@
 ghost use mathlib.Core.Path.{_≡_};
 ghost use Prim.Native.Nat.{_-_, _≤_, _<_};
 ghost use Rattle.table.specs.Rows.{cols, emptyTable};
-ghost use Rattle.table.specs.Inner.Rows.{counted, heldAt, setAll, openAll, posted};
+ghost use Rattle.table.specs.Inner.Rows.{countedCols, heldAt, setAll, openAll, posted};
 use crate::column::open_number;
 use crate::column::open_symbol;
 use crate::found::Found;
@@ -51,7 +51,8 @@ pub fn held<'a>(
     f: Found,
     s: u64,
 ) -> Position
-    ensures { λ r. ⌜ r ≡ heldAt f s (cols (now (symbol .entry)) (now (quantity .entry)) (now (average .entry)) (now (realized .entry)) (now (total .entry))) ⌝ }
+    ensures { λ r. ⌜ (let c = cols (now (symbol .entry)) (now (quantity .entry)) (now (average .entry)) (now (realized .entry)) (now (total .entry)) in
+        r ≡ heldAt f s c) ⌝ }
 {
     if let Found::At(i) = f {
         if i < 64 {
@@ -83,8 +84,9 @@ fn replace(
     p: Position,
 )
     requires { ⌜ i < 64 ⌝ }
-    ensures { λ r. ⌜ cols (now (symbol .exit)) (now (quantity .exit)) (now (average .exit)) (now (realized .exit)) (now (total .exit))
-        ≡ setAll i p (cols (now (symbol .entry)) (now (quantity .entry)) (now (average .entry)) (now (realized .entry)) (now (total .entry))) ⌝ }
+    ensures { λ r. ⌜ (let c = cols (now (symbol .entry)) (now (quantity .entry)) (now (average .entry)) (now (realized .entry)) (now (total .entry)) in
+        let d = cols (now (symbol .exit)) (now (quantity .exit)) (now (average .exit)) (now (realized .exit)) (now (total .exit)) in
+        d ≡ setAll i p c) ⌝ }
 {
     let s = p.symbol.0;
     let q = p.quantity.raw();
@@ -110,8 +112,9 @@ fn insert(
     p: Position,
 )
     requires { ⌜ (i ≤ n) × (n < 64) ⌝ }
-    ensures { λ r. ⌜ cols (now (symbol .exit)) (now (quantity .exit)) (now (average .exit)) (now (realized .exit)) (now (total .exit))
-        ≡ openAll i (n - i) p (cols (now (symbol .entry)) (now (quantity .entry)) (now (average .entry)) (now (realized .entry)) (now (total .entry))) ⌝ }
+    ensures { λ r. ⌜ (let c = cols (now (symbol .entry)) (now (quantity .entry)) (now (average .entry)) (now (realized .entry)) (now (total .entry)) in
+        let d = cols (now (symbol .exit)) (now (quantity .exit)) (now (average .exit)) (now (realized .exit)) (now (total .exit)) in
+        d ≡ openAll i (n - i) p c) ⌝ }
 {
     open_symbol(symbol, i, n, p.symbol.0);
     open_number(quantity, i, n, p.quantity.raw());
@@ -132,8 +135,9 @@ pub fn post(
     f: Found,
     p: Position,
 ) -> usize
-    ensures { λ r. ⌜ counted r (cols (now (symbol .exit)) (now (quantity .exit)) (now (average .exit)) (now (realized .exit)) (now (total .exit)))
-        ≡ posted f p (counted n (cols (now (symbol .entry)) (now (quantity .entry)) (now (average .entry)) (now (realized .entry)) (now (total .entry)))) ⌝ }
+    ensures { λ r. ⌜ (let c = cols (now (symbol .entry)) (now (quantity .entry)) (now (average .entry)) (now (realized .entry)) (now (total .entry)) in
+        let d = cols (now (symbol .exit)) (now (quantity .exit)) (now (average .exit)) (now (realized .exit)) (now (total .exit)) in
+        countedCols r d ≡ posted f p (countedCols n c)) ⌝ }
 {
     match f {
         Found::At(i) => {

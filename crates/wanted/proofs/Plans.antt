@@ -27,7 +27,7 @@ use Rattle.sizing.specs.Sizing.{sized, cutTo, drift}
 use Rattle.sizing.proofs.Sizes.{sized-fits, cutTo-fits}
 use Rattle.account.specs.declared.settings.Settings.{Settings}
 use Rattle.wanted.specs.declared.plan.PlannedOrder.{PlannedOrder}
-use Rattle.wanted.specs.Plan.{passedOver, withinBand, underMaximum, limited, ordered, plannedClose, closing, gapOf, plannedTarget, targeting, closings, targetings}
+use Rattle.wanted.specs.Plan.{passedOver, withinBand, underMaximum, limited, allowedOrder, plannedClose, closing, gapOf, plannedTarget, targeting, closings, targetings}
 use Rattle.wanted.proofs.Drifts.{drift-clear}
 
 -- ---- an order: of this symbol, at this price, which is 0 only where the quantity is 0; what it holds fits
@@ -66,9 +66,9 @@ module _ (s : Settings) (q p : ℤ) (f : SFits w64 q) where
       go true = zero-fits
       go false = under-fits
 
-  ordered-order : (k : ℕ) (d : Float) → leZ (pos 1) p ≡ true → OrderFor k p (ordered s k q p d)
-  unfolding ordered
-  ordered-order k d h = record {
+  allowed-is-order : (k : ℕ) (d : Float) → leZ (pos 1) p ≡ true → OrderFor k p (allowedOrder s k q p d)
+  unfolding allowedOrder
+  allowed-is-order k d h = record {
     symbol = refl;
     priced = λ e. (refl, h);
     quantity-fits = go (withinBand s d);
@@ -79,9 +79,9 @@ module _ (s : Settings) (q p : ℤ) (f : SFits w64 q) where
       go true = zero-fits
       go false = limited-fits
 
-  ordered-drift : (k : ℕ) (d : Float) → ordered s k q p d .«drift_bps» ≡ d
-  unfolding ordered
-  ordered-drift k d = refl
+  allowed-drift : (k : ℕ) (d : Float) → allowedOrder s k q p d .«drift_bps» ≡ d
+  unfolding allowedOrder
+  allowed-drift k d = refl
 
 -- ---- closes and targets
 module _ (s : Settings) (equity : ℤ) (k : ℕ) (q p : ℤ) where
@@ -90,8 +90,8 @@ module _ (s : Settings) (equity : ℤ) (k : ℕ) (q p : ℤ) where
   close-order true = over-order k p
   close-order false = go (leZ (pos 1) p) refl
     where
-      go : (b : Bool) → leZ (pos 1) p ≡ b → OrderFor k p (pick b (ordered s k (satNeg q) p (drift (value q p) equity)) (passedOver k))
-      go true h = ordered-order s (satNeg q) p (satNeg-fits q) k _ h
+      go : (b : Bool) → leZ (pos 1) p ≡ b → OrderFor k p (pick b (allowedOrder s k (satNeg q) p (drift (value q p) equity)) (passedOver k))
+      go true h = allowed-is-order s (satNeg q) p (satNeg-fits q) k _ h
       go false h = over-order k p
 
   pub close-wanted : plannedClose s equity k q p true ≡ passedOver k
@@ -102,8 +102,8 @@ module _ (s : Settings) (equity : ℤ) (k : ℕ) (q p : ℤ) where
   unfolding plannedTarget
   target-order w = go (leZ (pos 1) p) refl
     where
-      go : (b : Bool) → leZ (pos 1) p ≡ b → OrderFor k p (pick b (ordered s k (sized (gapOf equity q p w) p (s .«quantity_step»)) p (drift (gapOf equity q p w) equity)) (passedOver k))
-      go true h = ordered-order s (sized (gapOf equity q p w) p (s .«quantity_step»)) p (sized-fits (gapOf equity q p w) p (s .«quantity_step»)) k _ h
+      go : (b : Bool) → leZ (pos 1) p ≡ b → OrderFor k p (pick b (allowedOrder s k (sized (gapOf equity q p w) p (s .«quantity_step»)) p (drift (gapOf equity q p w) equity)) (passedOver k))
+      go true h = allowed-is-order s (sized (gapOf equity q p w) p (s .«quantity_step»)) p (sized-fits (gapOf equity q p w) p (s .«quantity_step»)) k _ h
       go false h = over-order k p
 
   gap-fits : (w : Float) → SFits w64 (gapOf equity q p w)
@@ -113,19 +113,19 @@ module _ (s : Settings) (equity : ℤ) (k : ℕ) (q p : ℤ) where
   -- at an equity above 0 the drift is a number, not below 0
   module _ (f : SFits w64 equity) (above : leZ (pos 1) equity ≡ true) where
     pub close-drift : (wanted : Bool) → T (clear (plannedClose s equity k q p wanted .«drift_bps»))
-    unfolding plannedClose ordered
+    unfolding plannedClose allowedOrder
     close-drift true = tt
     close-drift false = go (leZ (pos 1) p)
       where
-        go : (b : Bool) → T (clear (pick b (ordered s k (satNeg q) p (drift (value q p) equity)) (passedOver k) .«drift_bps»))
+        go : (b : Bool) → T (clear (pick b (allowedOrder s k (satNeg q) p (drift (value q p) equity)) (passedOver k) .«drift_bps»))
         go true = drift-clear (value q p) equity (value-fits q p) f above
         go false = tt
 
     pub target-drift : (w : Float) → T (clear (plannedTarget s equity k q p w .«drift_bps»))
-    unfolding plannedTarget ordered
+    unfolding plannedTarget allowedOrder
     target-drift w = go (leZ (pos 1) p)
       where
-        go : (b : Bool) → T (clear (pick b (ordered s k (sized (gapOf equity q p w) p (s .«quantity_step»)) p (drift (gapOf equity q p w) equity)) (passedOver k) .«drift_bps»))
+        go : (b : Bool) → T (clear (pick b (allowedOrder s k (sized (gapOf equity q p w) p (s .«quantity_step»)) p (drift (gapOf equity q p w) equity)) (passedOver k) .«drift_bps»))
         go true = drift-clear (gapOf equity q p w) equity (gap-fits w) f above
         go false = tt
 

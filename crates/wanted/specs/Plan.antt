@@ -35,8 +35,8 @@ unfoldable pub limited : Settings → ℤ → ℤ → ℤ
 limited s q p = pick (ltZ (notional (underMaximum s q p) p) (s .«min_order_value»)) (pos 0) (underMaximum s q p)
 
 -- either kind of order: the band by its drift, then the limits
-unfoldable pub ordered : Settings → ℕ → ℤ → ℤ → Float → PlannedOrder
-ordered s k q p d = planned k (pick (withinBand s d) (pos 0) (limited s q p)) p d
+unfoldable pub allowedOrder : Settings → ℕ → ℤ → ℤ → Float → PlannedOrder
+allowedOrder s k q p d = planned k (pick (withinBand s d) (pos 0) (limited s q p)) p d
 
 -- no order
 abbrev pub passedOver : ℕ → PlannedOrder
@@ -46,7 +46,7 @@ passedOver k = planned k (pos 0) (pos 0) (fin false 0 (pos 0))
 -- whether the symbol is among the targets
 unfoldable pub plannedClose : Settings → ℤ → ℕ → ℤ → ℤ → Bool → PlannedOrder
 plannedClose s equity k q p wanted =
-    pick (both (not wanted) (leZ (pos 1) p)) (ordered s k (satNeg q) p (drift (value q p) equity)) (passedOver k)
+    pick (both (not wanted) (leZ (pos 1) p)) (allowedOrder s k (satNeg q) p (drift (value q p) equity)) (passedOver k)
 
 unfoldable pub closing : Settings → ℤ → (ℕ → ℤ) → List ℕ → Position → PlannedOrder
 closing s equity price targets p =
@@ -61,7 +61,7 @@ gapOf equity q p w = satSub (toI64 (mul binary64 (ofI64 equity) w)) (value q p)
 unfoldable pub plannedTarget : Settings → ℤ → ℕ → ℤ → ℤ → Float → PlannedOrder
 plannedTarget s equity k q p w =
     pick (leZ (pos 1) p)
-    (ordered s k (sized (gapOf equity q p w) p (s .«quantity_step»)) p (drift (gapOf equity q p w) equity))
+    (allowedOrder s k (sized (gapOf equity q p w) p (s .«quantity_step»)) p (drift (gapOf equity q p w) equity))
     (passedOver k)
 
 unfoldable pub targeting : Settings → ℤ → (ℕ → ℤ) → List Position → ℕ → Float → PlannedOrder

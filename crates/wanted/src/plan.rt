@@ -1,6 +1,6 @@
 // The orders that a rebalance wants.
 ghost use mathlib.Core.Path.{_≡_};
-ghost use Rattle.wanted.specs.Plan.{passedOver, ordered, gapOf, plannedClose, plannedTarget};
+ghost use Rattle.wanted.specs.Plan.{passedOver, allowedOrder, gapOf, plannedClose, plannedTarget};
 use crate::limits::limited;
 use crate::limits::within_band;
 use account::Settings;
@@ -30,14 +30,14 @@ fn passed_over(symbol: Symbol) -> PlannedOrder
 }
 
 // "For either kind": the band by its drift, then the limits.
-fn ordered(
+fn allowed_order(
     s: Settings,
     symbol: Symbol,
     quantity: Shares,
     price: i64,
     drift_bps: f64,
 ) -> PlannedOrder
-    ensures { λ r. ⌜ r ≡ ordered s (symbol .0) (quantity .0) price «drift_bps» ⌝ }
+    ensures { λ r. ⌜ r ≡ allowedOrder s (symbol .0) (quantity .0) price «drift_bps» ⌝ }
 {
     if within_band(s, drift_bps) {
         return PlannedOrder {
@@ -73,7 +73,7 @@ pub fn planned_close(
         return passed_over(symbol);
     }
     let drift = drift_bps_of(sums::value(quantity.raw(), price), equity);
-    ordered(s, symbol, quantity.neg(), price, drift)
+    allowed_order(s, symbol, quantity.neg(), price, drift)
 }
 
 // "Target value is truncated equity × weight": how far the holding's value is below it.
@@ -85,7 +85,7 @@ fn gap_of(equity: i64, held: Shares, price: i64, weight: f64) -> i64
 }
 
 // "the gap becomes shares"; "an unpriced one is passed over". Within the band the gap need not become shares, so the band is tested here before
-// `ordered` tests it.
+// `allowed_order` tests it.
 pub fn planned_target(
     s: Settings,
     equity: i64,
@@ -110,5 +110,5 @@ pub fn planned_target(
         };
     }
     let quantity = size_qty(gap, price, s.quantity_step);
-    ordered(s, symbol, quantity, price, drift)
+    allowed_order(s, symbol, quantity, price, drift)
 }

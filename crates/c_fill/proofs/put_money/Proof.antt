@@ -6,8 +6,8 @@ use mir.Syntax.{w64}
 use mir.Val.{toZ, ofZ, SFits}
 use mir.Facts.{toZ-ofZ}
 use borrow.Author.Needs.{needs}
+use Rattle.table.proofs.Stores.{sets-all}
 use Rattle.c_fill.specs.Inner.Single.{moneyOf}
-use Rattle.c_fill.proofs.Places.{all-stored}
 use Rattle.c_fill.proofs.put_money.Statement.{statement}
 use Rattle.c_fill.proofs.put_money.Tie as tie
 
@@ -59,7 +59,7 @@ returns c =
     let q = c .before .before .before in
     let held : toZ w64 (ofZ w64 (q .raw .result)) ≡ s .args .p .quantity .0 = toZ-ofZ (record { sfits = q .raw .ok }) ∙ q .raw .ensures in
     simp (toZ-ofZ (cash-fits s), toZ-ofZ (shortfall-fits s), held, toZ-ofZ (average-fits s), toZ-ofZ (realized-fits s), toZ-ofZ (total-fits s))
-    (all-stored (s .args .money .now) (moneyOf (s .args .b) (s .args .p)) (s .pre))
+    (sets-all (s .args .money .now) (moneyOf (s .args .b) (s .args .p)) (s .pre))
 
 pub put-money-spec : {M : Type 1} → statement M
 put-money-spec =

@@ -10,14 +10,14 @@ use mir.Facts.{toZ-ofZ}
 use borrow.Author.Needs.{needs}
 use borrow.Author.Tests.{not-true, not-false, lt-leb, le-leb, ltb-true, ltb-false}
 use Rattle.position.proofs.Counts.{lt-not-ge, not-lt-ge}
-use Rattle.c_fill.specs.Single.{soundIn, goodAsk, roomForOne, refusalOf}
+use Rattle.c_fill.specs.Single.{soundAlone, goodAsk, roomForOne, refusalOf}
 use Rattle.c_fill.proofs.refusal.Statement.{statement}
 use Rattle.c_fill.proofs.refusal.Tie as tie
 
 price-fits : (s : tie.Start) → SFits w64 (s .args .a .price)
 price-fits s = search needs
 
-is-sound : (c : tie.Else1) → let s = c .before .before in soundIn (s .args .cash) (s .args .p) ≡ true
+is-sound : (c : tie.Else1) → let s = c .before .before in soundAlone (s .args .cash) (s .args .p) ≡ true
 is-sound c = let s = c .before .before in sym (simp (toZ-ofZ (s .fits .cash)) at (c .before .is-sound .ensures)) ∙ not-false _ (c .if1 .left)
 
 is-good : (c : tie.Else2) → goodAsk (c .before .before .before .before .args .a) ≡ true

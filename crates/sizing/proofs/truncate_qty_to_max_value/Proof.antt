@@ -4,7 +4,7 @@ use Prim.Native.Nat.{ℕ, _-_, _^_, min}
 use mathlib.Core.Path.{_≡_, refl, sym, _∙_}
 use mathlib.Core.Bool.{true, false}
 use native.Mathlib.Omega.{arith}
-use lib.IntN.{pos, negℤ, natAbs, _-ℤ_, +ℤ-idl}
+use lib.IntN.{pos, natAbs, +ℤ-idl}
 use mir.Syntax.{w64}
 use mir.Val.{toZ, ofZ, SFits}
 use Rattle.sums.specs.Sums.{clamp64, signed}
@@ -37,10 +37,6 @@ clamped-up : (n : ℕ) → clamp64 (signed false n) ≡ pos (min n (2 ^ 63 - 1))
 unfolding clamp64 signed
 clamped-up n = refl
 
-below-zero : (n : ℕ) → pos 0 -ℤ pos n ≡ signed true n
-unfolding signed
-below-zero n = +ℤ-idl (negℤ (pos n))
-
 abbrev cut : tie.Start → ℕ
 cut s = min (sharesFor (above (s .args .max-value)) (natAbs (s .args .price)) (above (s .args .step))) (2 ^ 63 - 1)
 
@@ -58,18 +54,19 @@ opposite-fits : (s : tie.Start) → SFits w64 (signed true (cut s))
 opposite-fits s = signed-fits true (cut s) (omega arith)
 
 sub-from-raw : tie.Need-sub-from-raw
-sub-from-raw c = rw (most (c .before .before), below-zero) (opposite-fits (c .before .before .before .before .before .before .before))
+unfolding signed
+sub-from-raw c = rw (most (c .before .before), +ℤ-idl) (opposite-fits (c .before .before .before .before .before .before .before))
 
 from-raw-requires : tie.Need-from-raw-requires
 from-raw-requires c κs = search needs
 
 returns : tie.Need-returns
-unfolding cutTo
+unfolding cutTo signed
 returns c =
     let d = c .before .before .before in
     let s = d .before .before .before .before .before in
     let e = sym (c .before .before .is-negative .ensures) ∙ c .before .if1 .taken in
-    simp e (rw (c .from-raw .ensures, most d, below-zero) (read-back (signed true (cut s)) (opposite-fits s .sfits)))
+    simp e (rw (c .from-raw .ensures, most d, +ℤ-idl) (read-back (signed true (cut s)) (opposite-fits s .sfits)))
 
 from-raw-requires-2 : tie.Need-from-raw-requires-2
 from-raw-requires-2 c κs = search needs

@@ -29,8 +29,8 @@ pub record Counted : Type 0 where
   pub count : ℕ
   pub columns : Cols
 
-abbrev pub counted : ℕ → Cols → Counted
-counted n c = record { count = n; columns = c }
+abbrev pub countedCols : ℕ → Cols → Counted
+countedCols n c = record { count = n; columns = c }
 
 -- v goes to i, m elements move up by one, and the next one is lost
 abbrev pub pushed : {A : Type 0} → ℕ → A → List A → List A
@@ -58,5 +58,5 @@ heldAt (At i) s c = pick (ltb i 64) (rowAt i c) (fresh s)
 heldAt (Absent i) s c = fresh s
 
 abbrev pub posted : Found → Position → Counted → Counted
-posted (At i) p t = pick (ltb i 64) (counted (t .count) (setAll i p (t .columns))) t
-posted (Absent i) p t = pick (both (ltb (t .count) 64) (leb i (t .count))) (counted (t .count + 1) (openAll i (t .count - i) p (t .columns))) t
+posted (At i) p t = pick (ltb i 64) (countedCols (t .count) (setAll i p (t .columns))) t
+posted (Absent i) p t = pick (both (ltb (t .count) 64) (leb i (t .count))) (countedCols (t .count + 1) (openAll i (t .count - i) p (t .columns))) t

@@ -8,7 +8,8 @@ use Rattle.word_bytes.specs.Words.{wordsOf}
 use Rattle.word_bytes.proofs.Words.{octets, length-words}
 use Rattle.account_bytes.specs.Sizes.{settingsSize, settingsLength}
 use Rattle.account_bytes.specs.Settings.{settingsWords, writtenSettings}
-use Rattle.account_bytes.proofs.Writing.{sets-all, bytes-are, length-settings}
+use Rattle.table.proofs.Stores.{sets-all}
+use Rattle.account_bytes.proofs.Writing.{bytes-are, length-settings}
 use borrow.Author.Tests.{eq-eqb, ne-eqb}
 use borrow.Author.Needs.{needs}
 use Rattle.account_bytes.proofs.setting_words.write_settings.Statement.{statement}

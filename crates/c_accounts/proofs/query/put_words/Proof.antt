@@ -5,10 +5,10 @@ use native.Mathlib.Omega.{arith}
 use lib.ListN.{length, getD, drop}
 use lib.Seq.{sets}
 use borrow.Author.Needs.{needs}
+use Rattle.table.proofs.Stores.{sets-all}
 use Rattle.word_bytes.specs.Words.{wordsOf, putWord}
 use Rattle.word_bytes.proofs.Words.{length-words}
 use Rattle.account_bytes.proofs.Runs.{write-on, write-ends}
-use Rattle.account_bytes.proofs.Writing.{sets-all}
 use Rattle.c_accounts.proofs.query.put_words.Statement.{statement}
 use Rattle.c_accounts.proofs.query.put_words.Tie as tie
 

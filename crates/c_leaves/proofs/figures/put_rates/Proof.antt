@@ -1,10 +1,9 @@
 -- Six stores into six places.
-use mathlib.Core.List.{[], _∷_}
 use native.Mathlib.Omega.{arith}
 use lib.ListN.{length-set}
 use borrow.Author.Needs.{needs}
+use Rattle.table.proofs.Stores.{sets-all}
 use Rattle.c_leaves.specs.Lent.{ratesOf}
-use Rattle.c_leaves.proofs.Places.{all-stored}
 use Rattle.c_leaves.proofs.figures.put_rates.Statement.{statement}
 use Rattle.c_leaves.proofs.figures.put_rates.Tie as tie
 
@@ -30,7 +29,7 @@ same-length : tie.Need-same-length
 same-length c = search needs
 
 returns : tie.Need-returns
-returns c = all-stored (c .args .rates .now) (ratesOf (c .args .f)) (c .pre)
+returns c = sets-all (c .args .rates .now) (ratesOf (c .args .f)) (c .pre)
 
 pub put-rates-spec : {M : Type 1} → statement M
 put-rates-spec =

@@ -4,8 +4,8 @@ use mir.Syntax.{w64}
 use mir.Val.{toZ, ofZ, SFits}
 use mir.Facts.{toZ-ofZ}
 use borrow.Author.Needs.{needs}
+use Rattle.table.proofs.Stores.{sets-all}
 use Rattle.c_leaves.specs.Lent.{numbersOf}
-use Rattle.c_leaves.proofs.Places.{all-stored}
 use Rattle.c_leaves.proofs.positions.put.Statement.{statement}
 use Rattle.c_leaves.proofs.positions.put.Tie as tie
 
@@ -36,7 +36,7 @@ returns c =
     let average : SFits w64 (a .p .«avg_entry_price») = search needs in
     let realized : SFits w64 (a .p .«realized_pnl») = search needs in
     let total : SFits w64 (a .p .«total_cost») = search needs in
-    simp (held, toZ-ofZ average, toZ-ofZ realized, toZ-ofZ total) (all-stored (a .numbers .now) (numbersOf (a .p)) (s .pre))
+    simp (held, toZ-ofZ average, toZ-ofZ realized, toZ-ofZ total) (sets-all (a .numbers .now) (numbersOf (a .p)) (s .pre))
 
 pub put-spec : {M : Type 1} → statement M
 put-spec =

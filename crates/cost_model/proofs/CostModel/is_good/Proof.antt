@@ -1,6 +1,6 @@
 -- Test by test.
 use mathlib.Core.Path.{_≡_, _∙_, sym}
-use mathlib.Core.Bool.{true, false, _&&_}
+use mathlib.Core.Bool.{true, false, not, _&&_}
 use lib.IntN.{pos}
 use lib.Signed.{leZ}
 use lib.Ieee.{le}
@@ -9,7 +9,7 @@ use mir.Val.{SFits}
 use mir.Facts.{toZ-ofZ}
 use borrow.Author.Needs.{needs}
 use Rattle.cost_model.specs.Costs.{zero, tenThousand, goodCeiling, goodCosts}
-use Rattle.cost_model.proofs.Constants.{zero-is, ten-thousand-is}
+use Rattle.cost_model.proofs.Constants.{zero-is, readTenThousand, ten-thousand-is}
 use borrow.Author.Tests.{not-true, not-false}
 use Rattle.cost_model.proofs.CostModel.is_good.Statement.{statement}
 use Rattle.cost_model.proofs.CostModel.is_good.Tie as tie
@@ -46,7 +46,8 @@ returns-3 c =
     let x = r .before .args .self .«slippage_bps» in
     let t = sym (r .good-rate .ensures) ∙ not-false _ (z .before .before .if1 .left) in
     let l : le zero x ≡ true = not-false _ (simp zero-is at (z .if2 .left)) in
-    let h : le x tenThousand ≡ false = not-true _ (simp ten-thousand-is at (c .if3 .taken)) in
+    let over : not (le x readTenThousand) ≡ true = c .if3 .taken in
+    let h : le x tenThousand ≡ false = not-true _ (simp ten-thousand-is at over) in
     rw (t, l, h)
 
 abbrev from : tie.Else3 → tie.Start
@@ -61,7 +62,8 @@ rates-good e =
     let x = from e .args .self .«slippage_bps» in
     let t = sym (r .good-rate .ensures) ∙ not-false _ (z .before .before .if1 .left) in
     let l : le zero x ≡ true = not-false _ (simp zero-is at (z .if2 .left)) in
-    let h : le x tenThousand ≡ true = not-false _ (simp ten-thousand-is at (e .if3 .left)) in
+    let within : not (le x readTenThousand) ≡ false = e .if3 .left in
+    let h : le x tenThousand ≡ true = not-false _ (simp ten-thousand-is at within) in
     rw (t, l, h)
 
 returns-4 : tie.Need-returns-4

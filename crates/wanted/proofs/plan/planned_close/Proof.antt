@@ -39,8 +39,8 @@ drift-bps-of-requires c κs = search needs
 neg-requires : tie.Need-neg-requires
 neg-requires c κs = search needs
 
-ordered-requires : tie.Need-ordered-requires
-ordered-requires c κs = search needs
+allowed-order-requires : tie.Need-allowed-order-requires
+allowed-order-requires c κs = search needs
 
 returns-3 : tie.Need-returns-3
 unfolding plannedClose
@@ -54,7 +54,7 @@ returns-3 c =
     let e = below-one (s .args .price) ∙ ap not (simp (toZ-ofZ (s .fits .price)) at (p .if2 .left)) in
     let fv : SFits w64 (v .result) = record { sfits = v .ok } in
     let fq : SFits w64 (q .result) = record { sfits = q .ok } in
-    simp (p .before .if1 .left, e) (c .ordered .ensures ∙ simp (n .ensures, d .ensures, toZ-ofZ (s .fits .price)) (simp (toZ-ofZ fv, toZ-ofZ (s .fits .equity)) (simp (v .ensures, toZ-ofZ (s .fits .price), toZ-ofZ fq ∙ q .ensures))))
+    simp (p .before .if1 .left, e) (c .allowed-order .ensures ∙ simp (n .ensures, d .ensures, toZ-ofZ (s .fits .price)) (simp (toZ-ofZ fv, toZ-ofZ (s .fits .equity)) (simp (v .ensures, toZ-ofZ (s .fits .price), toZ-ofZ fq ∙ q .ensures))))
 
 pub planned-close-spec : {M : Type 1} → statement M
 planned-close-spec =
@@ -68,5 +68,5 @@ planned-close-spec =
     value-requires
     drift-bps-of-requires
     neg-requires
-    ordered-requires
+    allowed-order-requires
     returns-3)

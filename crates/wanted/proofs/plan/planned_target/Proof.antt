@@ -8,7 +8,7 @@ use mir.Val.{SFits}
 use mir.Facts.{toZ-ofZ}
 use Rattle.sizing.specs.Sizing.{sized, drift}
 use Rattle.call_lists.proofs.Lists.{below-one}
-use Rattle.wanted.specs.Plan.{planned, gapOf, ordered, plannedTarget}
+use Rattle.wanted.specs.Plan.{planned, gapOf, allowedOrder, plannedTarget}
 use Rattle.wanted.proofs.plan.planned_target.Statement.{statement}
 use Rattle.wanted.proofs.plan.planned_target.Tie as tie
 
@@ -32,7 +32,7 @@ within-band-requires : tie.Need-within-band-requires
 within-band-requires c κs = search needs
 
 returns-2 : tie.Need-returns-2
-unfolding plannedTarget ordered
+unfolding plannedTarget allowedOrder
 returns-2 c =
     let w = c .before .within-band in
     let d = c .before .before .drift-bps-of in
@@ -44,15 +44,15 @@ returns-2 c =
     let gap = gapOf (s .args .equity) (s .args .held .0) (s .args .price) (s .args .weight) in
     let told : d .result ≡ drift gap (s .args .equity) = d .ensures ∙ simp (toZ-ofZ fg, toZ-ofZ (s .fits .equity)) (simp (g .ensures, toZ-ofZ (s .fits .price), toZ-ofZ (s .fits .equity))) in
     let t = sym (w .ensures) ∙ c .if2 .taken in
-    let order = ordered (s .args .s) (s .args .symbol .0) (sized gap (s .args .price) (s .args .s .«quantity_step»)) (s .args .price) in
+    let order = allowedOrder (s .args .s) (s .args .symbol .0) (sized gap (s .args .price) (s .args .s .«quantity_step»)) (s .args .price) in
     let none : planned (s .args .symbol .0) (pos 0) (s .args .price) (d .result) ≡ order (d .result) = simp t in
     simp (e, toZ-ofZ (s .fits .price)) (none ∙ ap order told)
 
 size-qty-requires : tie.Need-size-qty-requires
 size-qty-requires c κs = search needs
 
-ordered-requires : tie.Need-ordered-requires
-ordered-requires c κs = search needs
+allowed-order-requires : tie.Need-allowed-order-requires
+allowed-order-requires c κs = search needs
 
 returns-3 : tie.Need-returns-3
 unfolding plannedTarget
@@ -65,7 +65,7 @@ returns-3 c =
     let e = below-one (s .args .price) ∙ ap not (simp (toZ-ofZ (s .fits .price)) at (p .if1 .left)) in
     let fg : SFits w64 (g .result) = record { sfits = g .ok } in
     let fs : SFits w64 (s .args .s .«quantity_step») = search needs in
-    simp e (c .ordered .ensures ∙ simp (q .ensures, d .ensures, toZ-ofZ (s .fits .price)) (simp (toZ-ofZ fg, toZ-ofZ (s .fits .equity), toZ-ofZ fs) (simp (g .ensures, toZ-ofZ (s .fits .price), toZ-ofZ (s .fits .equity)))))
+    simp e (c .allowed-order .ensures ∙ simp (q .ensures, d .ensures, toZ-ofZ (s .fits .price)) (simp (toZ-ofZ fg, toZ-ofZ (s .fits .equity), toZ-ofZ fs) (simp (g .ensures, toZ-ofZ (s .fits .price), toZ-ofZ (s .fits .equity)))))
 
 pub planned-target-spec : {M : Type 1} → statement M
 planned-target-spec =
@@ -78,5 +78,5 @@ planned-target-spec =
     within-band-requires
     returns-2
     size-qty-requires
-    ordered-requires
+    allowed-order-requires
     returns-3)
