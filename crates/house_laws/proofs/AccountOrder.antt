@@ -10,7 +10,8 @@ use Rattle.house.specs.Group.{Group, firstOf, changeOf, firstSum, summedChange,
 use Rattle.house.specs.Places.{each, groupIn, goodMarks}
 use Rattle.house.specs.House.{earlyAnswer, groupAnswer, houseOfGroup, houseOf}
 use Rattle.house_laws.specs.Groups.{Rearranged, withChanges}
-use Rattle.house_laws.proofs.Folds.{Fold, sums, tests, cong, rearranged, each-cong, each-map, sum-exchange, test-exchange}
+use Rattle.house.proofs.Columns.{each-cong}
+use Rattle.house_laws.proofs.Folds.{Fold, sums, tests, cong, rearranged, each-map, sum-exchange, test-exchange}
 use Rattle.house_laws.proofs.Reports.{SameParts, SameTests, but-changes, same-growth, same-figure, same-group-change, same-answer, same-report}
 
 module _ {n m : ℕ} {g h : Group} (r : Rearranged n m g h) where

@@ -3,9 +3,8 @@ use mathlib.Core.Path.{_≡_, refl, sym, ap, _∙_}
 use mathlib.Core.Bool.{true}
 use mathlib.Core.List.{[], _∷_}
 use native.Mathlib.Omega.{arith}
-use lib.IntN.{ℤ, pos, negsuc, _-ℤ_, +ℤ-idl}
+use lib.IntN.{ℤ, pos, _-ℤ_, +ℤ-idl}
 use lib.Signed.{ltZ}
-use borrow.Author.Tests.{leb-true}
 use mir.Syntax.{w64}
 use mir.Val.{SFits}
 use Rattle.answer.specs.declared.Answer.the-variants.{Done}
@@ -17,13 +16,9 @@ use Rattle.house.specs.Group.{given, Group, firstOf, changeOf, sumTo, every, fi
 use Rattle.house.specs.Places.{each, groupIn}
 use Rattle.house.specs.House.{groupAnswer, report, houseOf}
 use Rattle.house_laws.specs.Groups.{alone}
-use Rattle.house_laws.proofs.Folds.{and-left}
+use Rattle.house.proofs.Raised.{in-yes}
 use Rattle.house_laws.proofs.Answers.{done-tells, answer-is, done-report}
 use Rattle.house_laws.proofs.Figure.{figure-is}
-
-in-range : (z : ℤ) → inI64 z ≡ true → SFits w64 z
-in-range (pos n) h = record { sfits = omega (arith, leb-true n 9223372036854775807 h) }
-in-range (negsuc n) h = record { sfits = omega (arith, leb-true n 9223372036854775807 (and-left _ true h)) }
 
 module _ (g : Group) (previous equity : ℤ) (there : g 0 0 ≡ record { first = given previous; last = given equity }) where
   first-sum : firstSum 1 g 0 ≡ previous
@@ -41,7 +36,7 @@ module _ (g : Group) (previous equity : ℤ) (there : g 0 0 ≡ record { first =
     alone-growth =
         let holds = done-tells 1 1 g done in
         let above-0 : ltZ (pos 0) previous ≡ true = ap (ltZ (pos 0)) (sym first-sum) ∙ holds .positive 0 (omega arith) in
-        let fits : SFits w64 (equity -ℤ previous) = in-range (equity -ℤ previous) (ap inI64 (sym summed-change) ∙ holds .summed-change 0 (omega arith)) in
+        let fits : SFits w64 (equity -ℤ previous) = in-yes (equity -ℤ previous) (ap inI64 (sym summed-change) ∙ holds .summed-change 0 (omega arith)) in
         rw (first-sum, summed-change, above-0, satSub-exact equity previous fits)
 
     -- The figure is 1 times 1 plus that return, less 1, in binary64: the total return of the series of this one return, and not in general the return itself.

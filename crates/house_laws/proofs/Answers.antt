@@ -11,7 +11,9 @@ use Rattle.house.specs.Group.{Group, changeOf, every, firstSum, accountChange, 
 use Rattle.house.specs.Places.{groupIn, goodMarks}
 use Rattle.house.specs.House.{mostAccounts, mostParts, within, whole, groupAnswer, report, refusal, houseOfGroup, houseOf}
 use Rattle.house_laws.specs.Groups.{Holds}
-use Rattle.house_laws.proofs.Folds.{and-left, and-right, and-both, every-at, every-of}
+use Rattle.answer.proofs.Choice.{both-true}
+use Rattle.house.proofs.Columns.{every-at}
+use Rattle.house_laws.proofs.Folds.{and-both, every-of}
 
 both-hold : (a b : Bool) → unless a OutOfRange (unless b NoFirstSum Done) ≡ Done → (a ≡ true) × (b ≡ true)
 both-hold true true e = (refl, refl)
@@ -24,14 +26,14 @@ module _ (n m : ℕ) (g : Group) where
   done-tells e =
       let range = both-hold (allInI64 n m g) (allPositive n m g) e .0 in
       let positive = both-hold (allInI64 n m g) (allPositive n m g) e .1 in
-      let parts = every-at m (partInI64 n g) (and-left _ _ range) in
-      let rest = and-right (every m (partInI64 n g)) _ range in
+      let parts = every-at m (partInI64 n g) (both-true _ _ range .0) in
+      let rest = both-true (every m (partInI64 n g)) _ range .1 in
       record {
-        change-in-part = λ p a k l. every-at n _ (and-left _ _ (parts p k)) a l;
-        first-sum = λ p k. and-left _ _ (and-right (every n (λ a. inI64 (changeOf (g p a)))) _ (parts p k));
-        summed-change = λ p k. and-right (inI64 (firstSum n g p)) _ (and-right (every n (λ a. inI64 (changeOf (g p a)))) _ (parts p k));
-        account-change = every-at n _ (and-left _ _ rest);
-        group-change = and-right (every n (λ a. inI64 (accountChange m g a))) _ rest;
+        change-in-part = λ p a k l. every-at n _ (both-true _ _ (parts p k) .0) a l;
+        first-sum = λ p k. both-true _ _ (both-true (every n (λ a. inI64 (changeOf (g p a)))) _ (parts p k) .1) .0;
+        summed-change = λ p k. both-true (inI64 (firstSum n g p)) _ (both-true (every n (λ a. inI64 (changeOf (g p a)))) _ (parts p k) .1) .1;
+        account-change = every-at n _ (both-true _ _ rest .0);
+        group-change = both-true (every n (λ a. inI64 (accountChange m g a))) _ rest .1;
         positive = every-at m _ positive;
       }
 
@@ -53,7 +55,7 @@ module _ (n m : ℕ) (g : Group) where
   range-first p k e = go (allInI64 n m g) refl
     where
       go : (t : Bool) → allInI64 n m g ≡ t → unless t OutOfRange (unless (allPositive n m g) NoFirstSum Done) ≡ OutOfRange
-      go true r = let z = every-at m (partInI64 n g) (and-left _ _ r) p k in cc
+      go true r = let z = every-at m (partInI64 n g) (both-true _ _ r .0) p k in cc
       go false r = refl
 
   -- ---- the report

@@ -15,7 +15,8 @@ use Rattle.house.specs.declared.House.{House}
 use Rattle.house.specs.Group.{Group, changeOf, sumTo, accountChange, groupChange}
 use Rattle.house.specs.Places.{groupIn, goodMarks}
 use Rattle.house.specs.House.{mostAccounts, mostParts, within, whole, groupAnswer, report, refusal, houseOfGroup, houseOf}
-use Rattle.house_laws.proofs.Folds.{sums, listed, cong, sum-swap, and-right}
+use Rattle.answer.proofs.Choice.{both-true}
+use Rattle.house_laws.proofs.Folds.{sums, listed, cong, sum-swap}
 
 -- "The report gives each account's change, defined over its own parts alone; these add up exactly to the group's": of every group, whatever else is answered.
 pub changes-add-up : (n m : ℕ) (g : Group) → sumTo n (accountChange m g) ≡ groupChange n m g
@@ -64,5 +65,5 @@ report-adds-up n m marks es = go (within n mostAccounts) refl
     later = unless (within m mostParts && whole n m marks es) TooLong (unless (goodMarks marks) BadSetting Done)
 
     go : (t : Bool) → within n mostAccounts ≡ t → AddsUp (pick (isDone (unless t BadGroup later)) (houseOfGroup n m (groupIn n marks es)) (refusal (unless t BadGroup later)))
-    go true e = either (isDone later) _ _ (group n m (groupIn n marks es) (leb-true n mostAccounts (and-right (ltb 0 n) _ e))) (refused later)
+    go true e = either (isDone later) _ _ (group n m (groupIn n marks es) (leb-true n mostAccounts (both-true (ltb 0 n) _ e .1))) (refused later)
     go false e = refused BadGroup

@@ -23,7 +23,8 @@ use Rattle.metrics.proofs.EverySeries.{AllZero, zeros-return}
 use Rattle.house.specs.Group.{Group, growthOf, growth, productTo, figure, firstSum, summedChange}
 use Rattle.house.specs.Places.{each}
 use Rattle.house_laws.specs.Groups.{skipping}
-use Rattle.house_laws.proofs.Folds.{products, listed, skipped, each-cong}
+use Rattle.house.proofs.Columns.{each-cong}
+use Rattle.house_laws.proofs.Folds.{products, listed, skipped}
 
 -- "1 plus each growth is multiplied in part order, in binary64; the figure is the product less 1": the total return of the parts' growths, as the figures of a series have it
 pub figure-is : (n m : ℕ) (g : Group) → figure n m g ≡ totalReturn (each m (growth n g))

@@ -1,7 +1,7 @@
 -- Sums, tests and products over the numbers below n are folds over a column, and a fold depends on nothing but what stands in it.
 use Prim.Native.Nat.{ℕ, zero, suc, _≤_, _<_}
 use mathlib.Core.Path.{_≡_, refl, sym, ap, _∙_, subst}
-use mathlib.Core.Bool.{Bool, true, false, cond, _&&_}
+use mathlib.Core.Bool.{Bool, true, false, _&&_}
 use mathlib.Core.List.{List, _∷_, map, foldl}
 use native.Mathlib.Omega.{arith}
 use lib.Dec.{ltb}
@@ -12,29 +12,16 @@ use Rattle.metrics.specs.Curve.{compounded}
 use Rattle.order.specs.Running.{Perm, done, keep, swap, then}
 use Rattle.order.proofs.Perms.{perm-map}
 use Rattle.house.specs.Group.{sumTo, every, productTo}
-use Rattle.house.specs.Places.{each, column}
+use Rattle.house.specs.Places.{each}
+use Rattle.house.proofs.Columns.{each-cong}
 use Rattle.house_laws.specs.Groups.{skipping}
 
 -- ---- columns
--- a column is what stands at its places
-pub each-cong : {A : Type 0} (n : ℕ) (f g : ℕ → A) → ((i : ℕ) → i < n → f i ≡ g i) → each n f ≡ each n g
-unfolding each
-each-cong zero f g e = refl
-each-cong (suc n) f g e = simp (e 0 (omega arith), each-cong n (λ i. f (suc i)) (λ i. g (suc i)) (λ i h. e (suc i) (omega arith)))
-
 -- a function of the members is one of the places
 pub each-map : {A B : Type 0} (n : ℕ) (f : A → B) (s : ℕ → A) → map f (each n s) ≡ each n (λ i. f (s i))
 unfolding each
 each-map zero f s = refl
 each-map (suc n) f s = ap (λ l. f (s 0) ∷ l) (each-map n f (λ i. s (suc i)))
-
--- a column is the same where its first n places are
-pub column-cong : {A : Type 0} (room : ℕ) (rest : A) (n : ℕ) (f g : ℕ → A) → ((i : ℕ) → i < n → f i ≡ g i) → column room rest n f ≡ column room rest n g
-column-cong room rest n f g e = each-cong room _ _ (λ i h. go i (ltb i n) refl)
-  where
-    go : (i : ℕ) (t : Bool) → ltb i n ≡ t → cond t (f i) rest ≡ cond t (g i) rest
-    go i true l = e i (ltb-true i n l)
-    go i false l = refl
 
 -- ---- all indices but one
 skipping-below : (k i : ℕ) → i < k → skipping k i ≡ i
@@ -141,14 +128,6 @@ sum-swap (suc n) m f = ap (λ z. z +ℤ sumTo m (λ p. f p n)) (sum-swap n m f) 
 
 -- ---- tests
 -- a test of two and the test of each
-pub and-left : (a b : Bool) → a && b ≡ true → a ≡ true
-and-left true b e = refl
-and-left false b e = e
-
-pub and-right : (a b : Bool) → a && b ≡ true → b ≡ true
-and-right true b e = e
-and-right false b e = cc
-
 pub and-both : (a b : Bool) → a ≡ true → b ≡ true → a && b ≡ true
 and-both a b h g = rw (h, g)
 
@@ -161,15 +140,6 @@ test-exchange true false false = refl
 test-exchange false x y = refl
 
 -- a test of all and the test of each
-pub every-at : (n : ℕ) (t : ℕ → Bool) → every n t ≡ true → (i : ℕ) → i < n → t i ≡ true
-unfolding every
-every-at zero t e i h = absurd (omega arith)
-every-at (suc n) t e i h = go (ltb i n) refl (every-at n t (and-left (every n t) (t n) e) i)
-  where
-    go : (b : Bool) → ltb i n ≡ b → (i < n → t i ≡ true) → t i ≡ true
-    go true l r = r (ltb-true i n l)
-    go false l r = let z : i ≡ n = omega (arith, ltb-false i n l) in ap t z ∙ and-right (every n t) (t n) e
-
 pub every-of : (n : ℕ) (t : ℕ → Bool) → ((i : ℕ) → i < n → t i ≡ true) → every n t ≡ true
 unfolding every
 every-of zero t e = refl

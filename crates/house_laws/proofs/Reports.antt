@@ -15,7 +15,8 @@ use Rattle.house.specs.Group.{Group, changeOf, every, firstSum, summedChange, g
 use Rattle.house.specs.Places.{column}
 use Rattle.house.specs.House.{groupAnswer, report, refusal, houseOfGroup, mostParts, mostAccounts}
 use Rattle.house_laws.specs.Groups.{AddSame, withChanges}
-use Rattle.house_laws.proofs.Folds.{sums, tests, products, cong, column-cong}
+use Rattle.house.proofs.Columns.{column-cong}
+use Rattle.house_laws.proofs.Folds.{sums, tests, products, cong}
 
 -- n accounts of one group and k of another have the same sums in each of m parts
 pub record SameParts (m n : ℕ) (g : Group) (k : ℕ) (h : Group) : Type 0 where
