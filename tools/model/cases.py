@@ -1,8 +1,9 @@
-"""Document 01's checked cases, a to l, and its refusals, and document 02's case of request 1 with its like and cases of request 3,
-on the model. Exit status 1 where one fails."""
+"""Document 01's checked cases, a to l, and its refusals, and document 02's case of request 1 with its like and cases of requests 2 and
+3, on the model. Exit status 1 where one fails."""
 import sys
 from dataclasses import replace
 
+import house
 import model
 from model import Account, Costs, Order, Position, Settings
 
@@ -88,6 +89,63 @@ CASH_FIRST = [
     ("a buy worth 0 under a floor", cash_first(85, FIFTEEN, {B: 1}, {A: 7, B: 15}, [(A, 0.01)], quantity_step=1), (0, "BA", 70)),
     ("a sale slipped below the floor", cash_first(0, Costs(0.0, 5_000.0, 15), {A: 1, B: 1}, {A: 20, B: 50}), (0, "BA", 5)),
     ("a sale cut below the floor", cash_first(0, FIFTEEN, {A: 2, B: 1}, {A: 13, B: 25}, max_order_value=25), (0, "BA", 8)),
+]
+
+
+def grown(*parts, accounts=None):
+    """The answer for a group; done, also the figure, the group's change, each account's, and each part's first sum, change and growth."""
+    answer, h = house.house_return(len(parts[0]) if accounts is None else accounts, parts)
+    if answer != model.DONE:
+        return answer
+    return answer, h.figure, h.sums.group, h.sums.own, list(zip(h.sums.firsts, h.sums.gains, h.growths))
+
+
+def kept(n):
+    return n, n
+
+
+TOP = 2**63 - 1
+FAR, LOST = (-1, TOP), (10, 0)
+LATE, GONE = (None, 0), (0, None)
+# A part of one account that the product of many overflows by.
+STEEP = [(1, 2**56)]
+
+# Document 02, request 2. A part is a list of equities at both ends, a pair an account.
+HOUSE = [
+    # By themselves the accounts grow by 23.2 % and by 100 %: 61.6 % on average.
+    ("a trial account", grown([(1_000, 1_232), (24, 48)]), (0, 0.25, 256, [232, 24], [(1_024, 256, 0.25)])),
+    ("a deposit between parts", grown([(100, 125)], [(1_000, 1_250)]), (0, 0.5625, 275, [275], [(100, 25, 0.25), (1_000, 250, 0.25)])),
+    ("accounts absent at one end", grown([(100, 150), (None, 900), (50, None)]), (0, 0.5, 50, [50, 0, 0], [(100, 50, 0.5)])),
+    ("each over its own parts", grown([(100, 150), LATE], [GONE, (80, 60)], [(200, 100), (200, 300)]),
+     (0, 0.125, 30, [-50, 80], [(100, 50, 0.5), (80, -20, -0.25), (400, 0, 0.0)])),
+    ("1 plus the growth, less 1", grown([(100, 110)]), (0, 0.10000000000000009, 10, [10], [(100, 10, 0.1)])),
+    ("sums before doubles", grown([kept(2**53), kept(1), (1, 2**52 + 2)])[4], [(2**53 + 2, 2**52 + 1, 0.5)]),
+    ("doubles before the quotient", grown([(3, 2**53 + 4)])[4], [(3, 2**53 + 1, 3002399751580330.5)]),
+    ("more than all lost", grown([(4, -8)], [(4, -8)]), (0, 3.0, -24, [-24], [(4, -12, -3.0)] * 2)),
+    ("an infinite figure", grown(*[STEEP] * 64)[1], float("inf")),
+    ("all lost after infinity", str(grown(*[STEEP] * 63, [LOST])[1]), "nan"),
+    ("all lost before infinity", grown([LOST], *[STEEP] * 63)[1], -1.0),
+    ("2^63 on the way", grown([kept(TOP), kept(1), kept(-1)]), (0, 0.0, 0, [0, 0, 0], [(TOP, 0, 0.0)])),
+    ("a first sum of 2^63", grown([kept(TOP), kept(1)]), 15),
+    ("32 accounts at the top", grown([kept(TOP)] * 32), 15),
+    ("last equities of 2^63", grown([kept(TOP), (-1, 1)])[3], [0, 2]),
+    ("a change of 2^63 alone", grown([FAR, LOST], [LOST, kept(1)]), 15),
+    ("a change of 2^63 - 1", grown([(0, TOP), LOST], [LOST, kept(1)])[3], [TOP - 10, -10]),
+    ("a part's change of 2^63 alone", grown([(1, TOP), (1, 3)], [LOST, kept(1)]), 15),
+    ("a part's change of 2^63 - 1", grown([(1, TOP), (1, 2)], [LOST, kept(1)])[3], [TOP - 11, 1]),
+    ("an account's change of 2^63 alone", grown([(1, TOP), LOST], [(1, 3), LOST]), 15),
+    ("an account's change of 2^63 - 1", grown([(1, TOP), LOST], [(1, 2), LOST])[3], [TOP, -20]),
+    ("the group's change of 2^63 alone", grown([(1, TOP), LATE], [GONE, (1, 3)]), 15),
+    ("the group's change of 2^63 - 1", grown([(1, TOP), LATE], [GONE, (1, 2)])[2], TOP),
+    ("15 in a later part than 14", grown([kept(0)], [FAR]), 15),
+    ("15 of the group, 14 in a part", grown([(1, TOP), LATE], [GONE, (1, 3)], [kept(0), LATE]), 15),
+    ("first sums of 0 and -1", [grown([kept(1)], [(n, 1)]) for n in (0, -1)], [14, 14]),
+    ("a first sum of 1", grown([kept(1), (0, 2)])[1], 2.0),
+    ("a part with nobody", grown([(1, 2), (3, 4)], [GONE, LATE]), 14),
+    ("no parts", grown(accounts=1), 6),
+    ("64 parts, and 65", [grown(*[[kept(1)]] * 64)[1], grown(*[[FAR]] * 65)], [0.0, 6]),
+    ("no accounts, and 33", [grown([]), grown([FAR] * 33)], [13, 13]),
+    ("33 accounts in no parts", grown(accounts=33), 13),
 ]
 
 
@@ -194,7 +252,7 @@ def refusals():
 
 def main():
     failures = 0
-    first, second = CASES + list(refusals()), CASH_FIRST + CEILING
+    first, second = CASES + list(refusals()), CASH_FIRST + HOUSE + CEILING
     for paper, (name, found, expected) in [("01", row) for row in first] + [("02", row) for row in second]:
         if found != expected:
             failures += 1

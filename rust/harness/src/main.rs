@@ -6,6 +6,7 @@ mod damage;
 mod differ;
 mod direct;
 mod fills;
+mod house;
 mod leaf;
 mod model;
 mod played;
@@ -19,9 +20,10 @@ mod values;
 
 const USAGE: &str =
     "usage: harness leaves [SEED [COUNT]] | fills [SEED [COUNT]] | single [SEED [COUNT]] | figures [SEED [COUNT]]
-    | accounts [SEED [COUNT]] | damage [SEED [COUNT]] | full | bench | bench values | bench figures | bench accounts
-    | bench cash-first | bench ceiling | scenarios [SEED [COUNT]] | spoiled [SEED [COUNT]] | cash-first [SEED [COUNT]]
-    | ceiling [SEED [COUNT]] | ceiling-fills [SEED [COUNT]] | stack | table
+    | house [SEED [COUNT]] | accounts [SEED [COUNT]] | damage [SEED [COUNT]] | full | bench | bench values | bench figures
+    | bench house | bench accounts | bench cash-first | bench ceiling | scenarios [SEED [COUNT]] | spoiled [SEED [COUNT]]
+    | cash-first [SEED [COUNT]] | ceiling [SEED [COUNT]] | ceiling-fills [SEED [COUNT]] | house-groups [SEED [COUNT]]
+    | stack | table
     | sample write FILE | sample check FILE | sample accounts write FILE | sample accounts check FILE";
 
 const SEED: u64 = 20261115;
@@ -34,10 +36,12 @@ fn main() {
         ["fills", ref rest @ ..] => seeded(rest, 500_000, fills::run),
         ["single", ref rest @ ..] => seeded(rest, 2_000_000, single::run),
         ["figures", ref rest @ ..] => seeded(rest, 120_000, series::run),
+        ["house", ref rest @ ..] => seeded(rest, 200_000, house::run),
         ["full"] => full(),
-        ["bench"] => values::bench(SEED) && series::bench(SEED) && bench::run(),
+        ["bench"] => values::bench(SEED) && series::bench(SEED) && house::bench(SEED) && bench::run(),
         ["bench", "values"] => values::bench(SEED),
         ["bench", "figures"] => series::bench(SEED),
+        ["bench", "house"] => house::bench(SEED),
         ["bench", "accounts"] => bench::run(),
         ["bench", "cash-first"] => bench::run_cash_first(),
         ["bench", "ceiling"] => bench::run_ceiling(),
@@ -48,6 +52,7 @@ fn main() {
         ["cash-first", ref rest @ ..] => seeded(rest, 1_000, written(account::emit_cash_first)),
         ["ceiling", ref rest @ ..] => seeded(rest, 1_000, written(account::emit_ceiling)),
         ["ceiling-fills", ref rest @ ..] => seeded(rest, 20_000, written(single::emit)),
+        ["house-groups", ref rest @ ..] => seeded(rest, 20_000, written(house::emit)),
         ["stack"] => stack::run(),
         ["table"] => table::run(),
         ["sample", "accounts", "write", path] => played::write(path),
@@ -82,11 +87,14 @@ fn full() -> bool {
     let fills = fills::run(SEED + 1, 20_000_000);
     let single = single::run(SEED + 1, 20_000_000);
     let figures = series::run(SEED + 1, 1_000_000);
+    let house = house::run(SEED + 1, 1_000_000);
     let accounts = account::run(SEED + 1, 90_000);
     let damage = damage::run(SEED + 1, 400_000);
     let ceiling = model::plays(&["compare.py", "ceiling"], account::emit_ceiling, SEED + 1, 25_000);
     let ceiling_fills = model::plays(&["fills.py"], single::emit, SEED + 1, 1_000_000);
-    leaves && fills && single && figures && accounts && damage && ceiling && ceiling_fills
+    let house_groups = model::plays(&["house.py"], house::emit, SEED + 1, 1_000_000);
+    let beside_rust = leaves && fills && single && figures && house && accounts && damage;
+    beside_rust && ceiling && ceiling_fills && house_groups
 }
 
 fn number(word: &str) -> u64 {

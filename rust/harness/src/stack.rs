@@ -13,6 +13,11 @@ const DEPTH: usize = 192 * 1024;
 const MOST: usize = 64 * 1024;
 const PAINT: u8 = 0xa5;
 
+/// The largest group of a house return, and its whole numbers: changes, first sums, parts' changes.
+const ACCOUNTS: usize = 32;
+const PARTS: usize = 64;
+const HOUSE_PLACES: usize = 1 + ACCOUNTS + 2 * PARTS;
+
 struct Lent {
     account: Vec<u8>,
     targets: Vec<u8>,
@@ -50,7 +55,7 @@ fn lent() -> Lent {
         targets: entries(SYMBOLS, |k| 1.0 / (k + 40) as f64, f64::to_le_bytes),
         prices: entries(2 * SYMBOLS, |k| 1_000 + k as i64, i64::to_le_bytes),
         records: vec![0; SYMBOLS * layout::RECORD_SIZE],
-        equities: vec![0; 8],
+        equities: vec![0; HOUSE_PLACES],
         returns: vec![0.0; 4_096],
     };
     let Lent { account, targets, prices, records, equities, .. } = &mut lent;
@@ -82,7 +87,7 @@ fn depth(call: fn(&mut Lent) -> u64) -> (u64, usize) {
 }
 
 pub fn run() -> bool {
-    let calls: [(&str, fn(&mut Lent) -> u64); 7] = [
+    let calls: [(&str, fn(&mut Lent) -> u64); 8] = [
         ("tc_open", |l| {
             let settings = l.account[layout::bytes_of(layout::SETTINGS_FROM, layout::SETTINGS.len())].to_vec();
             port::tc_open(1, &settings, &mut l.account, &mut l.equities)
@@ -104,6 +109,13 @@ pub fn run() -> bool {
             )
         }),
         ("tc_figures", |l| port::tc_figures(&l.returns, &mut [0.0; 6], &mut [0; 3])),
+        ("tc_house_return", |l| {
+            const ENDS: usize = 2 * ACCOUNTS * PARTS;
+            let (changes, sums) = l.equities.split_at_mut(1 + ACCOUNTS);
+            let (firsts, gains) = sums.split_at_mut(PARTS);
+            let (n, m, rates) = (ACCOUNTS as u64, PARTS as u64, &mut l.returns[..1 + PARTS]);
+            port::tc_house_return(n, m, &[1; ENDS], &[1_000; ENDS], rates, changes, firsts, gains)
+        }),
     ];
     calls.iter().fold(true, |small, (name, call)| {
         let (answer, bytes) = depth(*call);

@@ -120,7 +120,7 @@ pub fn name(s: &Symbol) -> String {
     format!("{:016x}", u64::from_be_bytes(s.0))
 }
 
-fn bits(x: f64) -> String {
+pub fn bits(x: f64) -> String {
     format!("{:016x}", x.to_bits())
 }
 
@@ -128,7 +128,7 @@ fn or_none(word: Option<String>) -> String {
     word.unwrap_or_else(|| "none".to_string())
 }
 
-fn spaced<T: Display>(words: impl Iterator<Item = T>) -> String {
+pub fn spaced<T: Display>(words: impl Iterator<Item = T>) -> String {
     words.map(|word| word.to_string()).collect::<Vec<_>>().join(" ")
 }
 
