@@ -17,10 +17,17 @@ pub(crate) struct Entry {
     pub(crate) fits: bool,
 }
 
-fn present(first_mark: u8, last_mark: u8) -> bool
+fn wide(mark: u8) -> u64
+    ensures { λ r. ⌜ r ≡ mark ⌝ }
+{
+    mark as u64
+}
+
+// Both marks are 1. They stand side by side, and as one number take one load and one test.
+pub(crate) fn present(first_mark: u8, last_mark: u8) -> bool
     ensures { λ r. ⌜ r ≡ (eqb «first_mark» 1 && eqb «last_mark» 1) ⌝ }
 {
-    (first_mark == 1) & (last_mark == 1)
+    wide(first_mark) + 256 * wide(last_mark) == 257
 }
 
 fn raised_if(there: bool, x: i64) -> u64
