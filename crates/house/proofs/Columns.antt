@@ -33,6 +33,11 @@ every-at (suc n) t e i h =
     let b = both-true (every n t) (t n) e in
     below-or-at (λ j. t j ≡ true) n i h (every-at n t (b .0) i) (b .1)
 
+pub every-of : (n : ℕ) (t : ℕ → Bool) → ((i : ℕ) → i < n → t i ≡ true) → every n t ≡ true
+unfolding every
+every-of zero t e = refl
+every-of (suc n) t e = rw (every-of n t (λ i h. e i (omega arith)), e n (omega arith))
+
 pub every-cong : (n : ℕ) (t u : ℕ → Bool) → ((i : ℕ) → i < n → t i ≡ u i) → every n t ≡ every n u
 unfolding every
 every-cong zero t u e = refl

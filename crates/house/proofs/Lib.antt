@@ -4,3 +4,6 @@ pub mod Columns
 pub mod Adding
 pub mod Summing
 pub mod Reporting
+pub mod Marks
+pub mod LowAdding
+pub mod LowEnough

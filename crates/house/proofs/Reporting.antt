@@ -42,7 +42,7 @@ three true b c x y f g = rw (f refl, g refl)
 three false b c x y f g = refl
 
 -- ---- the change of one account in one part
-change-by : (f l : Equity) → ofBoth (λ a b. b -ℤ a) f l ≡ ofBoth (λ a b. b) f l -ℤ ofBoth (λ a b. a) f l
+pub change-by : (f l : Equity) → ofBoth (λ a b. b -ℤ a) f l ≡ ofBoth (λ a b. b) f l -ℤ ofBoth (λ a b. a) f l
 change-by (given a) (given b) = refl
 change-by (given a) absent = refl
 change-by absent l = refl
@@ -53,7 +53,7 @@ moved-raised e k h =
     let g : SFits w64 (lastOf e -ℤ firstOf e) = rw d at (in-yes (changeOf e) h) in
     between-raised (firstOf e) (lastOf e) (k .first) (k .last) g ∙ ap raised (sym d)
 
-summed-cong : (n : ℕ) (f g : ℕ → ℕ) → ((a : ℕ) → a < n → f a ≡ g a) → summed n f ≡ summed n g
+pub summed-cong : (n : ℕ) (f g : ℕ → ℕ) → ((a : ℕ) → a < n → f a ≡ g a) → summed n f ≡ summed n g
 summed-cong n f g e = ap (λ x. begun n + x) (sumN-cong n f g e)
 
 product-cong : (m : ℕ) (f g : ℕ → Float) → ((p : ℕ) → p < m → f p ≡ g p) → productTo m f ≡ productTo m g
@@ -61,19 +61,19 @@ unfolding productTo
 product-cong zero f g e = refl
 product-cong (suc m) f g e = rw (product-cong m f g (λ p h. e p (omega arith)), e m (omega arith))
 
-module _ (n m : ℕ) (marks : List ℕ) (equities : List ℤ) (hn : n ≤ 32) (hm : m ≤ 64) (r : Parts) (s : Summed n m marks equities r) where
+-- ---- a part of a group whose ends are numbers of an i64
+module _ (n m : ℕ) (marks : List ℕ) (equities : List ℤ) (known : (p a : ℕ) → p < m → a < n → Known (groupIn n marks equities p a)) where
   abbrev g : Group
   g = groupIn n marks equities
 
-  -- ---- a part
   module _ (p : ℕ) (hp : p < m) where
     first-knows : (a : ℕ) → a < n → SFits w64 (firstOf (g p a))
-    first-knows a h = s .known p a hp h .first
+    first-knows a h = known p a hp h .first
 
-    first-fits : firstEnded n g p .fits ≡ inI64 (firstSum n g p)
+    pub first-fits : firstEnded n g p .fits ≡ inI64 (firstSum n g p)
     first-fits = ended-fits n (λ a. firstOf (g p a)) first-knows
 
-    first-value : inI64 (firstSum n g p) ≡ true → firstEnded n g p .value ≡ firstSum n g p
+    pub first-value : inI64 (firstSum n g p) ≡ true → firstEnded n g p .value ≡ firstSum n g p
     first-value e = ended-value n (λ a. firstOf (g p a)) first-knows e
 
     module _ (all : every n (λ a. inI64 (changeOf (g p a))) ≡ true) where
@@ -82,127 +82,131 @@ module _ (n m : ℕ) (marks : List ℕ) (equities : List ℤ) (hn : n ≤ 32) (h
 
       gain-words : gainEnded n g p ≡ ended n (summed n (λ a. raised (changeOf (g p a))))
       gain-words =
-          ap (ended n) (summed-cong n (λ a. moved (g p a)) (λ a. raised (changeOf (g p a))) (λ a h. moved-raised (g p a) (s .known p a hp h) (change-in a h)))
+          ap (ended n) (summed-cong n (λ a. moved (g p a)) (λ a. raised (changeOf (g p a))) (λ a h. moved-raised (g p a) (known p a hp h) (change-in a h)))
 
-      gain-fits : gainEnded n g p .fits ≡ inI64 (summedChange n g p)
+      pub gain-fits : gainEnded n g p .fits ≡ inI64 (summedChange n g p)
       gain-fits = ap (λ (x : Finished). x .fits) gain-words ∙ ended-fits n (λ a. changeOf (g p a)) (λ a h. in-yes _ (change-in a h))
 
-      gain-value : inI64 (summedChange n g p) ≡ true → gainEnded n g p .value ≡ summedChange n g p
+      pub gain-value : inI64 (summedChange n g p) ≡ true → gainEnded n g p .value ≡ summedChange n g p
       gain-value e = ap (λ (x : Finished). x .value) gain-words ∙ ended-value n (λ a. changeOf (g p a)) (λ a h. in-yes _ (change-in a h)) e
 
-    part-fits : partFits n g p ≡ partInI64 n g p
+    pub part-fits : partFits n g p ≡ partInI64 n g p
     part-fits =
         and-cong (every n (λ a. inI64 (changeOf (g p a)))) (firstEnded n g p .fits && gainEnded n g p .fits) (inI64 (firstSum n g p) && inI64 (summedChange n g p))
         (λ all. rw (first-fits, gain-fits all))
 
-  pub parts-fit : r .fits ≡ every m (partInI64 n g)
-  parts-fit = s .fits ∙ every-cong m (partFits n g) (partInI64 n g) part-fits
+module _ (n m : ℕ) (marks : List ℕ) (equities : List ℤ) (hn : n ≤ 32) (hm : m ≤ 64) (r : Parts) (s : Summed n m marks equities r) where
+  abbrev ends : Group
+  ends = groupIn n marks equities
+
+  pub parts-fit : r .fits ≡ every m (partInI64 n ends)
+  parts-fit = s .fits ∙ every-cong m (partFits n ends) (partInI64 n ends) (part-fits n m marks equities (s .known))
 
   -- ---- where all parts are in i64
-  module _ (all : every m (partInI64 n g) ≡ true) where
+  module _ (all : every m (partInI64 n ends) ≡ true) where
     module _ (p : ℕ) (hp : p < m) where
-      part-in : (every n (λ a. inI64 (changeOf (g p a))) ≡ true) × ((inI64 (firstSum n g p) && inI64 (summedChange n g p)) ≡ true)
-      part-in = both-true _ _ (every-at m (partInI64 n g) all p hp)
+      part-in : (every n (λ a. inI64 (changeOf (ends p a))) ≡ true) × ((inI64 (firstSum n ends p) && inI64 (summedChange n ends p)) ≡ true)
+      part-in = both-true _ _ (every-at m (partInI64 n ends) all p hp)
 
-      changes-in : every n (λ a. inI64 (changeOf (g p a))) ≡ true
+      changes-in : every n (λ a. inI64 (changeOf (ends p a))) ≡ true
       changes-in = part-in .0
 
-      first-in : inI64 (firstSum n g p) ≡ true
-      first-in = both-true (inI64 (firstSum n g p)) (inI64 (summedChange n g p)) (part-in .1) .0
+      first-in : inI64 (firstSum n ends p) ≡ true
+      first-in = both-true (inI64 (firstSum n ends p)) (inI64 (summedChange n ends p)) (part-in .1) .0
 
-      gain-in : inI64 (summedChange n g p) ≡ true
-      gain-in = both-true (inI64 (firstSum n g p)) (inI64 (summedChange n g p)) (part-in .1) .1
+      gain-in : inI64 (summedChange n ends p) ≡ true
+      gain-in = both-true (inI64 (firstSum n ends p)) (inI64 (summedChange n ends p)) (part-in .1) .1
 
-    pub firsts-are : r .firsts ≡ column 64 (pos 0) m (firstSum n g)
-    firsts-are = s .firsts ∙ column-cong 64 (pos 0) m (λ p. firstEnded n g p .value) (firstSum n g) (λ p h. first-value p h (first-in p h))
+    pub firsts-are : r .firsts ≡ column 64 (pos 0) m (firstSum n ends)
+    firsts-are = s .firsts ∙ column-cong 64 (pos 0) m (λ p. firstEnded n ends p .value) (firstSum n ends) (λ p h. first-value n m marks equities (s .known) p h (first-in p h))
 
-    pub gains-are : r .gains ≡ column 64 (pos 0) m (summedChange n g)
-    gains-are = s .gains ∙ column-cong 64 (pos 0) m (λ p. gainEnded n g p .value) (summedChange n g) (λ p h. gain-value p h (changes-in p h) (gain-in p h))
+    pub gains-are : r .gains ≡ column 64 (pos 0) m (summedChange n ends)
+    gains-are = s .gains ∙ column-cong 64 (pos 0) m (λ p. gainEnded n ends p .value) (summedChange n ends) (λ p h. gain-value n m marks equities (s .known) p h (changes-in p h) (gain-in p h))
 
-    pub first-at : (p : ℕ) → p < m → getD (r .firsts) p (pos 0) ≡ firstSum n g p
-    first-at p h = ap (λ l. getD l p (pos 0)) firsts-are ∙ column-at 64 (pos 0) m (firstSum n g) p (pos 0) hm h
+    pub first-at : (p : ℕ) → p < m → getD (r .firsts) p (pos 0) ≡ firstSum n ends p
+    first-at p h = ap (λ l. getD l p (pos 0)) firsts-are ∙ column-at 64 (pos 0) m (firstSum n ends) p (pos 0) hm h
 
-    pub gain-at : (p : ℕ) → p < m → getD (r .gains) p (pos 0) ≡ summedChange n g p
-    gain-at p h = ap (λ l. getD l p (pos 0)) gains-are ∙ column-at 64 (pos 0) m (summedChange n g) p (pos 0) hm h
+    pub gain-at : (p : ℕ) → p < m → getD (r .gains) p (pos 0) ≡ summedChange n ends p
+    gain-at p h = ap (λ l. getD l p (pos 0)) gains-are ∙ column-at 64 (pos 0) m (summedChange n ends) p (pos 0) hm h
 
     -- an account
     module _ (a : ℕ) (ha : a < n) where
-      own-in : (p : ℕ) → p < m → inI64 (changeOf (g p a)) ≡ true
-      own-in p h = every-at n (λ i. inI64 (changeOf (g p i))) (changes-in p h) a ha
+      own-in : (p : ℕ) → p < m → inI64 (changeOf (ends p a)) ≡ true
+      own-in p h = every-at n (λ i. inI64 (changeOf (ends p i))) (changes-in p h) a ha
 
-      total-words : ended m (totalAt (r .hi) (r .lo) a) ≡ ended m (summed m (λ p. raised (changeOf (g p a))))
+      total-words : ended m (totalAt (r .hi) (r .lo) a) ≡ ended m (summed m (λ p. raised (changeOf (ends p a))))
       total-words =
-          ap (ended m) (s .totals a ha ∙ summed-cong m (λ p. moved (g p a)) (λ p. raised (changeOf (g p a))) (λ p h. moved-raised (g p a) (s .known p a h ha) (own-in p h)))
+          ap (ended m) (s .totals a ha ∙ summed-cong m (λ p. moved (ends p a)) (λ p. raised (changeOf (ends p a))) (λ p h. moved-raised (ends p a) (s .known p a h ha) (own-in p h)))
 
-      total-fits : ended m (totalAt (r .hi) (r .lo) a) .fits ≡ inI64 (accountChange m g a)
-      total-fits = ap (λ (x : Finished). x .fits) total-words ∙ ended-fits m (λ p. changeOf (g p a)) (λ p h. in-yes _ (own-in p h))
+      total-fits : ended m (totalAt (r .hi) (r .lo) a) .fits ≡ inI64 (accountChange m ends a)
+      total-fits = ap (λ (x : Finished). x .fits) total-words ∙ ended-fits m (λ p. changeOf (ends p a)) (λ p h. in-yes _ (own-in p h))
 
-      total-value : inI64 (accountChange m g a) ≡ true → ended m (totalAt (r .hi) (r .lo) a) .value ≡ accountChange m g a
-      total-value e = ap (λ (x : Finished). x .value) total-words ∙ ended-value m (λ p. changeOf (g p a)) (λ p h. in-yes _ (own-in p h)) e
+      total-value : inI64 (accountChange m ends a) ≡ true → ended m (totalAt (r .hi) (r .lo) a) .value ≡ accountChange m ends a
+      total-value e = ap (λ (x : Finished). x .value) total-words ∙ ended-value m (λ p. changeOf (ends p a)) (λ p h. in-yes _ (own-in p h)) e
 
     -- the group
-    gain-knows : (p : ℕ) → p < m → SFits w64 (summedChange n g p)
+    gain-knows : (p : ℕ) → p < m → SFits w64 (summedChange n ends p)
     gain-knows p h = in-yes _ (gain-in p h)
 
-    group-words : summed m (λ p. raised (getD (r .gains) p (pos 0))) ≡ summed m (λ p. raised (summedChange n g p))
-    group-words = summed-cong m (λ p. raised (getD (r .gains) p (pos 0))) (λ p. raised (summedChange n g p)) (λ p h. ap raised (gain-at p h))
+    group-words : summed m (λ p. raised (getD (r .gains) p (pos 0))) ≡ summed m (λ p. raised (summedChange n ends p))
+    group-words = summed-cong m (λ p. raised (getD (r .gains) p (pos 0))) (λ p. raised (summedChange n ends p)) (λ p h. ap raised (gain-at p h))
 
-    group-fits : ended m (summed m (λ p. raised (getD (r .gains) p (pos 0)))) .fits ≡ inI64 (groupChange n m g)
-    group-fits = ap (λ x. ended m x .fits) group-words ∙ ended-fits m (summedChange n g) gain-knows
+    group-fits : ended m (summed m (λ p. raised (getD (r .gains) p (pos 0)))) .fits ≡ inI64 (groupChange n m ends)
+    group-fits = ap (λ x. ended m x .fits) group-words ∙ ended-fits m (summedChange n ends) gain-knows
 
-    group-value : inI64 (groupChange n m g) ≡ true → ended m (summed m (λ p. raised (getD (r .gains) p (pos 0)))) .value ≡ groupChange n m g
-    group-value e = ap (λ x. ended m x .value) group-words ∙ ended-value m (summedChange n g) gain-knows e
+    group-value : inI64 (groupChange n m ends) ≡ true → ended m (summed m (λ p. raised (getD (r .gains) p (pos 0)))) .value ≡ groupChange n m ends
+    group-value e = ap (λ x. ended m x .value) group-words ∙ ended-value m (summedChange n ends) gain-knows e
 
   module _ (t : Totals) (ht : Totalled n m (r .hi) (r .lo) t) (c : Finished) (hc : c ≡ ended m (summed m (λ p. raised (getD (r .gains) p (pos 0))))) where
-    pub all-fit : (r .fits && t .fits) && c .fits ≡ allInI64 n m g
+    pub all-fit : (r .fits && t .fits) && c .fits ≡ allInI64 n m ends
     all-fit =
         rw parts-fit
-        (three (every m (partInI64 n g)) (t .fits) (c .fits) (every n (λ a. inI64 (accountChange m g a))) (inI64 (groupChange n m g))
-        (λ all. ht .fits ∙ every-cong n (λ a. ended m (totalAt (r .hi) (r .lo) a) .fits) (λ a. inI64 (accountChange m g a)) (total-fits all))
+        (three (every m (partInI64 n ends)) (t .fits) (c .fits) (every n (λ a. inI64 (accountChange m ends a))) (inI64 (groupChange n m ends))
+        (λ all. ht .fits ∙ every-cong n (λ a. ended m (totalAt (r .hi) (r .lo) a) .fits) (λ a. inI64 (accountChange m ends a)) (total-fits all))
         (λ all. ap (λ (x : Finished). x .fits) hc ∙ group-fits all))
 
-    pub out-of-range : allInI64 n m g ≡ false → refusal OutOfRange ≡ houseOfGroup n m g
+    pub out-of-range : allInI64 n m ends ≡ false → refusal OutOfRange ≡ houseOfGroup n m ends
     unfolding houseOfGroup
     out-of-range e = rw e
 
-    module _ (e : allInI64 n m g ≡ true) (w : Growths) (hw : Grown m (r .firsts) (r .gains) w) where
-      tests : (every m (partInI64 n g) ≡ true) × ((every n (λ a. inI64 (accountChange m g a)) && inI64 (groupChange n m g)) ≡ true)
+    module _ (e : allInI64 n m ends ≡ true) (w : Growths) (hw : Grown m (r .firsts) (r .gains) w) where
+      tests : (every m (partInI64 n ends) ≡ true) × ((every n (λ a. inI64 (accountChange m ends a)) && inI64 (groupChange n m ends)) ≡ true)
       tests = both-true _ _ e
 
-      accounts-in : every n (λ a. inI64 (accountChange m g a)) ≡ true
-      accounts-in = both-true (every n (λ a. inI64 (accountChange m g a))) (inI64 (groupChange n m g)) (tests .1) .0
+      accounts-in : every n (λ a. inI64 (accountChange m ends a)) ≡ true
+      accounts-in = both-true (every n (λ a. inI64 (accountChange m ends a))) (inI64 (groupChange n m ends)) (tests .1) .0
 
-      group-in : inI64 (groupChange n m g) ≡ true
-      group-in = both-true (every n (λ a. inI64 (accountChange m g a))) (inI64 (groupChange n m g)) (tests .1) .1
+      group-in : inI64 (groupChange n m ends) ≡ true
+      group-in = both-true (every n (λ a. inI64 (accountChange m ends a))) (inI64 (groupChange n m ends)) (tests .1) .1
 
-      pub positive-is : w .positive ≡ allPositive n m g
+      pub positive-is : w .positive ≡ allPositive n m ends
       positive-is =
-          hw .positive ∙ every-cong m (λ p. ltZ (pos 0) (getD (r .firsts) p (pos 0))) (λ p. ltZ (pos 0) (firstSum n g p)) (λ p h. ap (ltZ (pos 0)) (first-at (tests .0) p h))
+          hw .positive ∙ every-cong m (λ p. ltZ (pos 0) (getD (r .firsts) p (pos 0))) (λ p. ltZ (pos 0) (firstSum n ends p)) (λ p h. ap (ltZ (pos 0)) (first-at (tests .0) p h))
 
-      pub no-first-sum : allPositive n m g ≡ false → refusal NoFirstSum ≡ houseOfGroup n m g
+      pub no-first-sum : allPositive n m ends ≡ false → refusal NoFirstSum ≡ houseOfGroup n m ends
       unfolding houseOfGroup
       no-first-sum q = rw (e, q)
 
-      growth-at : (p : ℕ) → p < m → growthOf (getD (r .gains) p (pos 0)) (getD (r .firsts) p (pos 0)) ≡ growth n g p
+      growth-at : (p : ℕ) → p < m → growthOf (getD (r .gains) p (pos 0)) (getD (r .firsts) p (pos 0)) ≡ growth n ends p
       growth-at p h = rw (gain-at (tests .0) p h, first-at (tests .0) p h)
 
-      figure-is : w .figure ≡ sub binary64 (productTo m (growth n g)) one
-      figure-is = hw .figure ∙ ap (λ x. sub binary64 x one) (product-cong m _ (growth n g) growth-at)
+      figure-is : w .figure ≡ sub binary64 (productTo m (growth n ends)) one
+      figure-is = hw .figure ∙ ap (λ x. sub binary64 x one) (product-cong m _ (growth n ends) growth-at)
 
-      growths-are : w .growths ≡ column 64 none m (growth n g)
-      growths-are = hw .growths ∙ column-cong 64 none m _ (growth n g) growth-at
+      growths-are : w .growths ≡ column 64 none m (growth n ends)
+      growths-are = hw .growths ∙ column-cong 64 none m _ (growth n ends) growth-at
 
-      changes-are : t .changes ≡ column 32 (pos 0) n (accountChange m g)
+      changes-are : t .changes ≡ column 32 (pos 0) n (accountChange m ends)
       changes-are =
           ht .changes
-          ∙ column-cong 32 (pos 0) n (λ a. ended m (totalAt (r .hi) (r .lo) a) .value) (accountChange m g)
-          (λ a h. total-value (tests .0) a h (every-at n (λ i. inI64 (accountChange m g i)) accounts-in a h))
+          ∙ column-cong 32 (pos 0) n (λ a. ended m (totalAt (r .hi) (r .lo) a) .value) (accountChange m ends)
+          (λ a h. total-value (tests .0) a h (every-at n (λ i. inI64 (accountChange m ends i)) accounts-in a h))
 
-      change-is : c .value ≡ groupChange n m g
+      change-is : c .value ≡ groupChange n m ends
       change-is = ap (λ (x : Finished). x .value) hc ∙ group-value (tests .0) group-in
 
-      pub reported : allPositive n m g ≡ true
-          → record { answer = Done; figure = w .figure; change = c .value; changes = t .changes; firsts = r .firsts; gains = r .gains; growths = w .growths } ≡ houseOfGroup n m g
+      pub reported : allPositive n m ends ≡ true
+          → record { answer = Done; figure = w .figure; change = c .value; changes = t .changes; firsts = r .firsts; gains = r .gains; growths = w .growths } ≡ houseOfGroup n m ends
       unfolding houseOfGroup report
       reported q = rw (e, q, figure-is, change-is, changes-are, firsts-are (tests .0), gains-are (tests .0), growths-are)
 

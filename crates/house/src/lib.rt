@@ -7,6 +7,7 @@ ghost use Rattle.house.specs.House.{mostAccounts, within, whole, earlyAn
 
 mod entry;
 mod growth;
+mod low;
 mod part;
 mod sum;
 mod total;

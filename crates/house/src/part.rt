@@ -8,6 +8,7 @@ ghost use Rattle.house.specs.Places.{endsAt};
 ghost use Rattle.house.specs.Inner.Raised.{raised, moved, summed, totalAt};
 ghost use Rattle.house.specs.Inner.Parts.{Room, Added, Summed};
 use crate::entry::entry_of;
+use crate::low::sum_low;
 use crate::sum::finish;
 use crate::sum::plus;
 use crate::sum::start;
@@ -65,7 +66,7 @@ fn sum_part(
     Part { fits, first, gain }
 }
 
-pub(crate) fn sum_parts(n: usize, m: usize, marks: &[u8], equities: &[i64]) -> Parts
+fn sum_exactly(n: usize, m: usize, marks: &[u8], equities: &[i64]) -> Parts
     requires { ⌜ (n ≤ 32) × (m ≤ 64) × (length (now marks) ≡ 2 * (m * n)) × (length (now equities) ≡ 2 * (m * n)) ⌝ }
     ensures { λ r. ⌜ Summed n m (now (marks .entry)) (now (equities .entry)) r ⌝ }
 {
@@ -97,4 +98,26 @@ pub(crate) fn sum_parts(n: usize, m: usize, marks: &[u8], equities: &[i64]) -> P
         hi,
         lo,
     }
+}
+
+// By low words alone where they are enough, which no everyday amounts are beyond; else with both. All sums of small amounts are in i64, and then
+// the upper word of an account's total is the count of parts.
+pub(crate) fn sum_parts(n: usize, m: usize, marks: &[u8], equities: &[i64]) -> Parts
+    requires { ⌜ (n ≤ 32) × (m ≤ 64) × (length (now marks) ≡ 2 * (m * n)) × (length (now equities) ≡ 2 * (m * n)) ⌝ }
+    ensures { λ r. ⌜ Summed n m (now (marks .entry)) (now (equities .entry)) r ⌝ }
+{
+    let low = sum_low(n, m, marks, equities);
+    if low.spread < 0x100_0000_0000_0000 {
+        let firsts = low.firsts;
+        let gains = low.gains;
+        let lo = low.lo;
+        return Parts {
+            fits: true,
+            firsts,
+            gains,
+            hi: [m as u64; 32],
+            lo,
+        };
+    }
+    sum_exactly(n, m, marks, equities)
 }

@@ -12,8 +12,8 @@ use Rattle.house.specs.Places.{groupIn, goodMarks}
 use Rattle.house.specs.House.{mostAccounts, mostParts, within, whole, groupAnswer, report, refusal, houseOfGroup, houseOf}
 use Rattle.house_laws.specs.Groups.{Holds}
 use Rattle.answer.proofs.Choice.{both-true}
-use Rattle.house.proofs.Columns.{every-at}
-use Rattle.house_laws.proofs.Folds.{and-both, every-of}
+use Rattle.house.proofs.Columns.{every-at, every-of}
+use Rattle.house_laws.proofs.Folds.{and-both}
 
 both-hold : (a b : Bool) → unless a OutOfRange (unless b NoFirstSum Done) ≡ Done → (a ≡ true) × (b ≡ true)
 both-hold true true e = (refl, refl)

@@ -138,9 +138,3 @@ test-exchange true true false = refl
 test-exchange true false true = refl
 test-exchange true false false = refl
 test-exchange false x y = refl
-
--- a test of all and the test of each
-pub every-of : (n : ℕ) (t : ℕ → Bool) → ((i : ℕ) → i < n → t i ≡ true) → every n t ≡ true
-unfolding every
-every-of zero t e = refl
-every-of (suc n) t e = and-both (every n t) (t n) (every-of n t (λ i h. e i (omega arith))) (e n (omega arith))

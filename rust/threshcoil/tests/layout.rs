@@ -241,9 +241,9 @@ fn group_told(slice: &str) -> Vec<f64> {
     let text = section("A group");
     let from = text.find("After 0:").expect("what is left");
     let told = text[from..].split(&format!("`{slice}`")).nth(1).expect("the slice");
-    let numbers = told.trim_start().split(['(', 'a', '\n', '`']).next().expect("numbers");
-    let cells = numbers.trim().trim_end_matches(['.', ',']).split(", ");
-    cells.map(|n| n.replace(',', "").trim_end_matches('.').parse().expect("a number")).collect()
+    let numbers: String = told.chars().take_while(|c| "0123456789.,- ".contains(*c)).collect();
+    let cells = numbers.trim().trim_end_matches('.').split(", ");
+    cells.map(|n| n.replace(',', "").parse().expect("a number")).collect()
 }
 
 #[test]

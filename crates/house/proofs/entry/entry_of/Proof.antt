@@ -9,40 +9,20 @@ use borrow.Author.Needs.{needs}
 use mir.Syntax.{w64}
 use mir.Val.{SFits, toZ, ofZ}
 use mir.ValLaws.{toZ-ofZ}
-use Rattle.house.specs.Group.{Ends, given, absent, firstOf, changeOf, inI64}
+use Rattle.house.specs.Group.{firstOf, changeOf, inI64}
 use Rattle.house.specs.Inner.Raised.{half, raised, between, near, moved, lastOf}
-use Rattle.house.specs.Inner.Parts.{Known, Entered}
+use Rattle.house.specs.Inner.Parts.{Entered}
 use Rattle.house.specs.declared.entry.Entry.{Entry}
 use Rattle.house.proofs.Raised.{raised-zero, near-in}
+use Rattle.house.proofs.Marks.{ends, none, first-taken, last-taken, known-is}
 use Rattle.house.proofs.entry.entry_of.Statement.{statement}
 use Rattle.house.proofs.entry.entry_of.Tie as tie
 
-abbrev ends : Bool → Bool → ℤ → ℤ → Ends
-ends a b f l = record { first = cond a (given f) absent; last = cond b (given l) absent }
-
-none : SFits w64 (pos 0)
-none = record { sfits = omega arith }
-
 module _ (f l : ℤ) (gf : SFits w64 f) (gl : SFits w64 l) where
-  first-is : (a b : Bool) → cond (a && b) (raised f) half ≡ raised (firstOf (ends a b f l))
-  first-is true true = refl
-  first-is true false = sym raised-zero
-  first-is false b = sym raised-zero
-
-  last-is : (a b : Bool) → cond (a && b) (raised l) half ≡ raised (lastOf (ends a b f l))
-  last-is true true = refl
-  last-is true false = sym raised-zero
-  last-is false b = sym raised-zero
-
   near-is : (a b : Bool) → near (raised (firstOf (ends a b f l))) (raised (lastOf (ends a b f l))) ≡ inI64 (changeOf (ends a b f l))
   near-is true true = near-in f l gf gl
   near-is true false = near-in (pos 0) (pos 0) none none
   near-is false b = near-in (pos 0) (pos 0) none none
-
-  known-is : (a b : Bool) → Known (ends a b f l)
-  known-is true true = record { first = gf; last = gl }
-  known-is true false = record { first = none; last = none }
-  known-is false b = record { first = none; last = none }
 
 present-requires : tie.Need-present-requires
 present-requires c κs = search needs
@@ -69,9 +49,9 @@ returns c =
     let told-first : c .before .before .raised-if .result ≡ cond (c .before .before .before .present .result) (raised (toZ w64 (ofZ w64 f))) half = c .before .before .raised-if .ensures in
     let told-last : c .before .raised-if2 .result ≡ cond (c .before .before .before .present .result) (raised (toZ w64 (ofZ w64 l))) half = c .before .raised-if2 .ensures in
     let from : c .before .before .raised-if .result ≡ raised (firstOf (ends a b f l)) =
-    told-first ∙ rw (there, toZ-ofZ w64 f gf) (first-is f l gf gl a b) in
+    told-first ∙ rw (there, toZ-ofZ w64 f gf, ← raised-zero) (first-taken raised f l a b) in
     let to : c .before .raised-if2 .result ≡ raised (lastOf (ends a b f l)) =
-    told-last ∙ rw (there, toZ-ofZ w64 l gl) (last-is f l gf gl a b) in
+    told-last ∙ rw (there, toZ-ofZ w64 l gl, ← raised-zero) (last-taken raised f l a b) in
     let r = c .entry-between .ensures in
     record {
       first = r .0 ∙ from;

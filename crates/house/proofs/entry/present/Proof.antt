@@ -16,10 +16,10 @@ both-one a b h =
     together _ _
     (λ e. let n = eqb-true (a + 256 * b) 257 e in rw (eq-eqb a 1 (omega arith), eq-eqb b 1 (omega arith)))
     (λ e.
-      let t = both-true (eqb a 1) (eqb b 1) e in
-      let x = eqb-true a 1 (t .0) in
-      let y = eqb-true b 1 (t .1) in
-      eq-eqb (a + 256 * b) 257 (omega arith))
+    let t = both-true (eqb a 1) (eqb b 1) e in
+    let x = eqb-true a 1 (t .0) in
+    let y = eqb-true b 1 (t .1) in
+    eq-eqb (a + 256 * b) 257 (omega arith))
 
 wide-requires : tie.Need-wide-requires
 wide-requires c κs = search needs
