@@ -166,8 +166,8 @@ uint64_t tc_figures(const double *returns, size_t return_count, double *rates, s
                     size_t count_places);
 
 /* ---- the house return: one figure for a group of accounts over the parts of a period. Marks (1: there, 0: absent) and equities
- * stand part by part, in a part account by account, for each its first end and its last: 2 * accounts * parts of either. Numbers
- * behind a mark 0 are not looked at. Rates are the figure and each part's growth, 1 + parts places; changes the group's and each
+ * stand part by part, in a part account by account, for each its first end and its last: 2 * accounts * parts of either. An
+ * account with a mark 0 at either end is left out of that part, and neither of its numbers there is looked at. Rates are the figure and each part's growth, 1 + parts places; changes the group's and each
  * account's, 1 + accounts places; firsts and gains each part's first sum and summed change, parts places each. Refusals in this
  * order: 13, 6 (parts, or another length anywhere), 1 (a mark above 1), 15, 14. */
 uint64_t tc_house_return(uint64_t accounts, uint64_t parts, const uint8_t *marks, size_t mark_count,
