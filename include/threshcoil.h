@@ -97,12 +97,12 @@ enum tc_account_word {
 /* ---- answers: the low eight bits of what an entry returns; above them a count of records or weights */
 enum tc_answer {
     TC_DONE = 0,
-    TC_BAD_SETTING = 1,     /* a setting or opening cash is bad, or a kind is unknown */
+    TC_BAD_SETTING = 1,     /* a setting or opening cash is bad, a kind is unknown, or a mark of a group is above 1 */
     TC_BAD_SYMBOL = 2,      /* a symbol is bad */
     TC_TWICE = 3,           /* a symbol stands twice in one list */
     TC_BAD_PRICE = 4,       /* a price is below 1 */
     TC_BAD_WEIGHT = 5,      /* a weight is not finite */
-    TC_TOO_LONG = 6,        /* a list or series is over its bound or no whole number of entries, or a place to write has another length */
+    TC_TOO_LONG = 6,        /* a list or series is over its bound or no whole number of entries, parts are not 1 to TC_MAX_PARTS, or a place to write has another length */
     TC_TOO_MANY = 7,        /* held symbols and target symbols together exceed 64 */
     TC_NO_RECORD_ROOM = 8,  /* recording is on and the record buffer has too few places */
     TC_NOT_HELD = 9,        /* a close names an absent or flat position */

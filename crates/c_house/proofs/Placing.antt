@@ -6,7 +6,7 @@ use native.Mathlib.Omega.{arith}
 use native.Mathlib.Numerals.{add-one}
 use lib.ListN.{length, getD, set, take, drop, length-set}
 use lib.Seq.{paste, paste-zero, paste-suc, drop-length}
-use Rattle.c_house.specs.Lent.{placed}
+use Rattle.c_house.specs.Inner.Placed.{placed}
 
 module _ {A : Type 0} (from to : List A) (at : ℕ) where
   -- the first i of them stand

@@ -1,7 +1,7 @@
 -- The house return in lent places: rates and amounts as a C caller gets them. Definitions only.
-use Prim.Native.Nat.{ℕ, _+_, _-_}
+use Prim.Native.Nat.{ℕ, _+_}
 use mathlib.Core.Bool.{Bool, _&&_}
-use mathlib.Core.List.{List, _∷_, _++_}
+use mathlib.Core.List.{List, _∷_}
 use lib.Dec.{eqb}
 use lib.IntN.{ℤ}
 use lib.Ieee.{Float}
@@ -22,10 +22,6 @@ pub record Lent : Type 0 where
 
 abbrev pub lent : List Float → List ℤ → List ℤ → List ℤ → Lent
 lent rates changes firsts gains = record { rates = rates; changes = changes; firsts = firsts; gains = gains }
-
--- as many numbers as there are places from one on
-abbrev pub placed : {A : Type 0} → ℕ → List A → List A → List A
-placed at from to = take at to ++ take (length to - at) from
 
 -- of n accounts over m parts: a rate more than there are parts, and a change more than there are accounts
 abbrev pub places : ℕ → ℕ → Lent → Bool

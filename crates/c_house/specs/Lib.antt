@@ -1,2 +1,3 @@
 -- What a C caller is told of a group.
 pub mod Lent
+pub mod Inner

@@ -3,7 +3,8 @@ ghost use mathlib.Core.Path.{_≡_};
 ghost use mathlib.Core.List.{_∷_};
 ghost use Prim.Native.Nat.{_+_, _-_, _≤_};
 ghost use lib.ListN.{length, take};
-ghost use Rattle.c_house.specs.Lent.{lent, places, placed, told, houseTold};
+ghost use Rattle.c_house.specs.Inner.Placed.{placed};
+ghost use Rattle.c_house.specs.Lent.{lent, places, told, houseTold};
 use answer::is_done;
 use house::good_group;
 use house::house_return;
@@ -58,7 +59,7 @@ fn put_sums(sums: &[i64; 64], places: &mut [i64])
     put_numbers(&sums[..], 0, places);
 }
 
-// Whether the places to write are as many as they must be. As many as the parts: so one more is a number too.
+// Whether the places to write are as many as they must be. The parts are compared with a length first, so that one more can't overflow.
 fn has_places(
     accounts: u64,
     parts: u64,

@@ -64,9 +64,13 @@ refusal a =
       growths = replicate mostParts zero;
     }
 
+-- the report of an answer of done, and else its refusal
+abbrev pub answered : Answer → House → House
+answered a r = pick (isDone a) r (refusal a)
+
 unfoldable pub houseOfGroup : ℕ → ℕ → Group → House
-houseOfGroup n m g = pick (isDone (groupAnswer n m g)) (report n m g) (refusal (groupAnswer n m g))
+houseOfGroup n m g = answered (groupAnswer n m g) (report n m g)
 
 unfoldable pub houseOf : ℕ → ℕ → List ℕ → List ℤ → House
 houseOf n m marks equities =
-    pick (isDone (earlyAnswer n m marks equities)) (houseOfGroup n m (groupIn n marks equities)) (refusal (earlyAnswer n m marks equities))
+    answered (earlyAnswer n m marks equities) (houseOfGroup n m (groupIn n marks equities))

@@ -17,7 +17,7 @@ pub(crate) struct Entry {
     pub(crate) fits: bool,
 }
 
-fn wide(mark: u8) -> u64
+fn number_of(mark: u8) -> u64
     ensures { λ r. ⌜ r ≡ mark ⌝ }
 {
     mark as u64
@@ -27,7 +27,7 @@ fn wide(mark: u8) -> u64
 pub(crate) fn present(first_mark: u8, last_mark: u8) -> bool
     ensures { λ r. ⌜ r ≡ (eqb «first_mark» 1 && eqb «last_mark» 1) ⌝ }
 {
-    wide(first_mark) + 256 * wide(last_mark) == 257
+    number_of(first_mark) + 256 * number_of(last_mark) == 257
 }
 
 fn raised_if(there: bool, x: i64) -> u64

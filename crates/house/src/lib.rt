@@ -48,7 +48,7 @@ fn refused(answer: Answer) -> House
     }
 }
 
-// No mark above 1: every bit of the marks but the lowest is 0.
+// No mark above 1.
 fn good_marks(marks: &[u8]) -> bool
     ensures { λ r. ⌜ r ≡ goodMarks (now (marks .entry)) ⌝ }
 {

@@ -15,7 +15,8 @@ use std::num::wrapping_add_u64;
 use std::num::wrapping_sub_u64;
 use word_bytes::unsigned;
 
-// 2^55, from 0 either way: 2,048 numbers below it, and as many changes, add up to less than 2^63.
+// 2^55, from 0 either way: so 64 changes, each below 2^56, add up to less than 2^63, and so do 32 first equities. The group's change may not, and is asked
+// with both words.
 const REACH: u64 = 0x80_0000_0000_0000;
 
 struct LowPart {

@@ -9,6 +9,8 @@ use mir.Syntax.{w64}
 use mir.Val.{SFits}
 use Rattle.answer.specs.declared.Answer.the-variants.{Done}
 use Rattle.sums.proofs.Ints.{satSub-exact}
+use lib.ListN.{getD}
+use Rattle.metrics.specs.Double.{zero}
 use Rattle.metrics.specs.Series.{totalReturn}
 use Rattle.portfolio.specs.Returns.{returnOf}
 use Rattle.house.specs.declared.House.{House}
@@ -17,6 +19,7 @@ use Rattle.house.specs.Places.{each, groupIn}
 use Rattle.house.specs.House.{groupAnswer, report, houseOf}
 use Rattle.house_laws.specs.Groups.{alone}
 use Rattle.house.proofs.Raised.{in-yes}
+use Rattle.house.proofs.Columns.{column-at}
 use Rattle.house_laws.proofs.Answers.{done-tells, answer-is, done-report}
 use Rattle.house_laws.proofs.Figure.{figure-is}
 
@@ -50,6 +53,16 @@ unfolding houseOf every report
 alone-in-lists previous equity done =
     let answered : groupAnswer 1 1 g ≡ Done = sym (answer-is 1 1 g) ∙ done in
     ap (λ (r : House). r .figure) (done-report 1 1 g answered) ∙ alone-figure g previous equity refl answered
+  where
+    g : Group
+    g = groupIn 1 (1 ∷ 1 ∷ []) (previous ∷ equity ∷ [])
+
+-- and its growth, as the report has it, is that return
+pub alone-growth-in-lists : (previous equity : ℤ) → alone previous equity .answer ≡ Done → getD (alone previous equity .growths) 0 zero ≡ returnOf previous equity
+unfolding houseOf every report
+alone-growth-in-lists previous equity done =
+    let answered : groupAnswer 1 1 g ≡ Done = sym (answer-is 1 1 g) ∙ done in
+    ap (λ (r : House). getD (r .growths) 0 zero) (done-report 1 1 g answered) ∙ column-at 64 zero 1 (growth 1 g) 0 zero (omega arith) (omega arith) ∙ alone-growth g previous equity refl answered
   where
     g : Group
     g = groupIn 1 (1 ∷ 1 ∷ []) (previous ∷ equity ∷ [])

@@ -58,6 +58,10 @@ module _ (n m : ℕ) (g : Group) where
       go true r = let z = every-at m (partInI64 n g) (both-true _ _ r .0) p k in cc
       go false r = refl
 
+  -- so is an account's change or the group's
+  pub range-before-all : allInI64 n m g ≡ false → groupAnswer n m g ≡ OutOfRange
+  range-before-all e = rw e
+
   -- ---- the report
   -- it has the group's answer
   pub answer-is : houseOfGroup n m g .answer ≡ groupAnswer n m g

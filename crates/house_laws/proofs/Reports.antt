@@ -13,7 +13,7 @@ use Rattle.metrics.specs.Double.{zero, one}
 use Rattle.house.specs.declared.House.{House}
 use Rattle.house.specs.Group.{Group, changeOf, every, firstSum, summedChange, growth, figure, accountChange, groupChange, inI64, partInI64, allInI64, allPositive}
 use Rattle.house.specs.Places.{column}
-use Rattle.house.specs.House.{groupAnswer, report, refusal, houseOfGroup, mostParts, mostAccounts}
+use Rattle.house.specs.House.{groupAnswer, report, refusal, houseOfGroup, mostParts, mostAccounts, answered}
 use Rattle.house_laws.specs.Groups.{AddSame, withChanges}
 use Rattle.house.proofs.Columns.{column-cong}
 use Rattle.house_laws.proofs.Folds.{sums, tests, products, cong}
@@ -27,10 +27,6 @@ pub record SameParts (m n : ℕ) (g : Group) (k : ℕ) (h : Group) : Type 0 wher
 pub record SameTests (m n : ℕ) (g : Group) (k : ℕ) (h : Group) : Type 0 where
   pub in-parts : (p : ℕ) → p < m → every n (λ a. inI64 (changeOf (g p a))) ≡ every k (λ a. inI64 (changeOf (h p a)))
   pub in-all : every n (λ a. inI64 (accountChange m g a)) ≡ every k (λ a. inI64 (accountChange m h a))
-
--- a report, or the refusal that stands in its place
-abbrev pub answered : Answer → House → House
-answered a r = pick (isDone a) r (refusal a)
 
 -- with the same answer, reports that differ in their changes alone still do
 pub but-changes : (a b : Answer) (r s : House) → a ≡ b → s ≡ withChanges (s .changes) r → answered b s ≡ withChanges (answered b s .changes) (answered a r)

@@ -21,11 +21,11 @@ both-one a b h =
     let y = eqb-true b 1 (t .1) in
     eq-eqb (a + 256 * b) 257 (omega arith))
 
-wide-requires : tie.Need-wide-requires
-wide-requires c κs = search needs
+number-of-requires : tie.Need-number-of-requires
+number-of-requires c κs = search needs
 
-wide-requires-2 : tie.Need-wide-requires-2
-wide-requires-2 c κs = search needs
+number-of-requires-2 : tie.Need-number-of-requires-2
+number-of-requires-2 c κs = search needs
 
 mul-result : tie.Need-mul-result
 mul-result c = search needs
@@ -36,9 +36,9 @@ add-result c = search needs
 returns : tie.Need-returns
 returns c =
     let s = c .before .before in
-    let a : c .before .wide .result ≡ s .args .first-mark = c .before .wide .ensures in
-    let b : c .wide2 .result ≡ s .args .last-mark = c .wide2 .ensures in
+    let a : c .before .number-of .result ≡ s .args .first-mark = c .before .number-of .ensures in
+    let b : c .number-of2 .result ≡ s .args .last-mark = c .number-of2 .ensures in
     rw (a, b) (both-one (s .args .first-mark) (s .args .last-mark) (omega (arith, s .fits .first-mark)))
 
 pub present-spec : {M : Type 1} → statement M
-present-spec = tie.close (tie.spec wide-requires wide-requires-2 mul-result add-result returns)
+present-spec = tie.close (tie.spec number-of-requires number-of-requires-2 mul-result add-result returns)
