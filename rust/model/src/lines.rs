@@ -22,15 +22,15 @@ pub fn cents(text: &str) -> Result<i64, String> {
 
 /// A decimal number as an integer of so many places.
 pub fn scaled(text: &str, places: usize) -> Result<i64, String> {
-    let bad = || format!("'{text}' is no number of at most {places} decimals");
-    let (digits, negative) = text.strip_prefix('-').map_or((text, false), |rest| (rest, true));
+    let digits = text.strip_prefix('-').unwrap_or(text);
     let (whole, part) = digits.split_once('.').unwrap_or((digits, ""));
     let plain = |s: &str| s.bytes().all(|b| b.is_ascii_digit());
     if whole.is_empty() || !plain(whole) || !plain(part) || part.len() > places {
-        return Err(bad());
+        return Err(format!("'{text}' is no number of at most {places} decimals"));
     }
-    let magnitude: i64 = format!("{whole}{part:0<places$}").parse().map_err(|_| bad())?;
-    Ok(if negative { -magnitude } else { magnitude })
+    // With its sign, for -2^63 has no magnitude in i64.
+    let sign = &text[..text.len() - digits.len()];
+    format!("{sign}{whole}{part:0<places$}").parse().map_err(|_| format!("'{text}' is out of range"))
 }
 
 #[cfg(test)]
@@ -42,9 +42,14 @@ mod tests {
         assert_eq!(cents("182.45"), Ok(18_245));
         assert_eq!(cents("-0.5"), Ok(-50));
         assert_eq!(cents("92233720368547758.07"), Ok(i64::MAX));
+        assert_eq!(cents("-92233720368547758.08"), Ok(i64::MIN));
+        assert_eq!(cents("-0"), Ok(0));
         assert_eq!(scaled("0.000001", 6), Ok(1));
-        for bad in ["", ".", "1.234", "1,000", "1e3", "92233720368547758.08", "--1"] {
-            assert!(cents(bad).is_err(), "{bad}");
+        for bad in ["", ".", "-", "+1", "1.234", "1,000", "1e3", "--1"] {
+            assert_eq!(cents(bad), Err(format!("'{bad}' is no number of at most 2 decimals")));
+        }
+        for far in ["92233720368547758.08", "-92233720368547758.09", "100000000000000000000"] {
+            assert_eq!(cents(far), Err(format!("'{far}' is out of range")));
         }
     }
 

@@ -39,7 +39,13 @@ pub fn shares(quantity: Shares) -> String {
 }
 
 pub fn percent(x: f64) -> String {
-    format!("{:.2}%", x * 100.0)
+    share(x * 100.0)
+}
+
+/// So many percent, without a sign where they round to zero.
+pub fn share(percent: f64) -> String {
+    let said = format!("{percent:.2}%");
+    if said == "-0.00%" { "0.00%".into() } else { said }
 }
 
 /// A ratio, or words where there is no number to show.
@@ -136,5 +142,11 @@ mod tests {
         assert_eq!(money(i64::MIN), "-92,233,720,368,547,758.08");
         assert_eq!(shares(Shares(1_500_000)), "1.5");
         assert_eq!(shares(Shares(-1_000_000_000)), "-1,000");
+    }
+
+    #[test]
+    fn zero_has_no_sign() {
+        assert_eq!([-0.0, -0.000_04, 0.000_04].map(percent), ["0.00%"; 3]);
+        assert_eq!([-0.000_06, -0.1].map(percent), ["-0.01%", "-10.00%"]);
     }
 }

@@ -101,6 +101,7 @@ fn a_bad_line_is_told_with_its_number_and_nothing_is_written() {
         ),
         ("twice", "accounts B\n".to_string() + GOOD, 2, "'B' stands twice among the accounts"),
         ("none", "accounts # A\n".to_string() + GOOD, 1, "no account is named"),
+        ("no-name", "name # A\n".to_string() + GOOD, 1, "'name' names nothing"),
         (
             "reserved",
             "accounts part\n".to_string() + GOOD,
@@ -130,6 +131,12 @@ fn a_bad_line_is_told_with_its_number_and_nothing_is_written() {
             6,
             "'1,000.00' is no number of at most 2 decimals",
         ),
+        (
+            "far",
+            GOOD.to_string() + "part two\nA 1.00 -92233720368547758.09\n",
+            6,
+            "'-92233720368547758.09' is out of range",
+        ),
         ("dashes", GOOD.to_string() + "part two\nA 1.00 --\n", 6, "'--' is no number of at most 2 decimals"),
     ] {
         let said = refused(name, &text);
@@ -156,9 +163,30 @@ fn what_the_library_refuses_is_told_and_nothing_is_written() {
         ("33", names + "part one\n", ":33", group, "A33 is one too many"),
         ("no-part", "accounts A\n".into(), "", over, "there is no part"),
         ("65", format!("accounts A\n{parts}"), ":130", over, "part p65 is one too many"),
-        ("nobody", format!("{GOOD}part two\npart three\nA 1 -\nB - 1\n"), ":5", sum, "part two counts 0 accounts"),
-        ("half", format!("{GOOD}part three\nA 1 -\nB - 1\n"), ":5", sum, "part three counts 0 accounts"),
-        ("not-positive", format!("{GOOD}part two\nA 1 2\nB -1.00 9\n"), ":5", sum, "part two counts 2 accounts"),
+        (
+            "nobody",
+            format!("{GOOD}part two\npart three\nA 1 -\nB - 1\n"),
+            ":5",
+            sum,
+            "the first sum of part two is 0.00, nobody being there at both ends",
+        ),
+        (
+            "half",
+            format!("{GOOD}part three\nA 1 -\nB - 1\n"),
+            ":5",
+            sum,
+            "the first sum of part three is 0.00, nobody being there at both ends",
+        ),
+        ("zero", format!("{GOOD}part two\nA 1 2\nB -1.00 9\n"), ":5", sum, "the first sum of part two is 0.00"),
+        ("negative", format!("{GOOD}part two\nA 1 2\nB -2.50 9\n"), ":5", sum, "the first sum of part two is -1.50"),
+        ("least", format!("{GOOD}part two\nA -92233720368547758.08 0\n"), ":6", range, "the change of A in part two"),
+        (
+            "lowest",
+            format!("{GOOD}part two\nA -92233720368547758.08 -92233720368547758.08\n"),
+            ":5",
+            sum,
+            "the first sum of part two is -92,233,720,368,547,758.08",
+        ),
         ("change", format!("{GOOD}part two\nA 1 2\nB -0.01 {MAX}\n"), ":7", range, "the change of B in part two"),
         (
             "first-sum",
@@ -224,6 +252,17 @@ fn a_figure_without_a_number_says_so() {
     assert_eq!(out.status.code(), Some(0));
     assert!(said(&out).contains("House return                  not finite"), "{}", said(&out));
     assert!(page.unwrap().contains("<p class=\"equity\">not finite</p>"));
+}
+
+/// A cent lost of a million; and nobody lost, so that the zero line is at the left end.
+#[test]
+fn a_loss_too_small_to_show_is_zero() {
+    let (out, page) = house("tiny", Some("accounts A\npart one\nA 1000000.00 999999.99\n"), &[]);
+    let (said, page) = (said(&out), page.unwrap());
+    assert!(row(&said, "one 0.00% -0.01 1,000,000.00 1 of 1"), "{said}");
+    assert!(!said.contains("-0.00%") && !page.contains("-0.00%"), "{said}");
+    let (_, page) = house("gains", Some("accounts A\npart one\nA 1.00 2.00\n"), &[]);
+    assert!(page.unwrap().contains("style=\"--zero:0.00%\""));
 }
 
 #[test]

@@ -266,7 +266,8 @@ fn thirteen_and_six_at_their_bounds() {
     }
 }
 
-/// Every number that must stay in range, at its edge and, it alone, one past it; of a sum the finished one alone is asked.
+/// Every number that must stay in range, at its edges and, it alone, one past them; of a sum the finished one alone is asked. A first sum
+/// at its lowest is 14, not 15.
 #[test]
 fn fifteen_for_each_change_and_each_finished_sum() {
     let range: &[(&str, usize, &[&[Ends]], u64)] = &[
@@ -276,17 +277,24 @@ fn fifteen_for_each_change_and_each_finished_sum() {
         ("a change, too low", 2, &[&[both(1, 2), both(1, MIN)], &[both(1, 1), both(4, 5)]], 15),
         ("a first sum, highest", 2, &[&[both(MAX - 1, MAX - 1), both(1, 1)]], 0),
         ("a first sum, too high", 2, &[&[both(MAX, MAX), both(1, 1)]], 15),
+        ("a first sum, lowest", 2, &[&[both(MIN + 1, MIN + 1), both(-1, -1)]], 14),
         ("a first sum, too low", 2, &[&[both(MIN, MIN), both(-1, -1)]], 15),
         ("a first sum on the way", 3, &[&[both(MAX, MAX), both(1, 1), both(-1, -1)]], 0),
         ("a part's change, highest", 2, &[&[both(1, MAX), both(1, 2)]], 0),
         ("a part's change, too high", 2, &[&[both(1, MAX), both(1, 3)], &[ABSENT, both(3, 1)]], 15),
+        ("a part's change, lowest", 2, &[&[both(1, MIN + 2), both(1, 0)]], 0),
+        ("a part's change, too low", 2, &[&[both(1, MIN + 2), both(2, 0)], &[ABSENT, both(1, 3)]], 15),
         ("a part's change on the way", 3, &[&[both(1, MAX), both(1, 3), both(1, 0)]], 0),
         ("the sum of last equities", 2, &[&[both(1, MAX), both(1, 1)]], 0),
         ("an account's total, highest", 1, &[&[both(1, MAX)], &[both(1, 2)]], 0),
         ("an account's total, too high", 2, &[&[both(1, MAX), both(9, 9)], &[both(1, 3), both(9, 7)]], 15),
+        ("an account's total, lowest", 1, &[&[both(1, MIN + 2)], &[both(1, 0)]], 0),
+        ("an account's total, too low", 2, &[&[both(1, MIN + 2), both(9, 9)], &[both(2, 0), both(9, 11)]], 15),
         ("an account's total on the way", 1, &[&[both(1, MAX)], &[both(1, 3)], &[both(3, 2)]], 0),
         ("the group's total, highest", 2, &[&[both(1, MAX)], &[ABSENT, both(1, 2)]], 0),
         ("the group's total, too high", 2, &[&[both(1, MAX)], &[ABSENT, both(1, 3)]], 15),
+        ("the group's total, lowest", 2, &[&[both(1, MIN + 2)], &[ABSENT, both(1, 0)]], 0),
+        ("the group's total, too low", 2, &[&[both(1, MIN + 2)], &[ABSENT, both(2, 0)]], 15),
         ("the group's total on the way", 2, &[&[both(1, MAX)], &[ABSENT, both(1, 3)], &[ABSENT, both(3, 2)]], 0),
     ];
     for (what, accounts, parts, number) in range {

@@ -4,13 +4,20 @@
 use super::group::Group;
 use super::reference::Sums;
 use scenario::Random;
+use std::ops::Range;
 
 /// The last number of i64 and the first past it, at either end.
 pub const ENDS: [i128; 4] = [i64::MAX as i128, i64::MAX as i128 + 1, i64::MIN as i128, i64::MIN as i128 - 1];
 
+/// The amounts of which the library adds low words alone; beyond them it adds both.
+pub const LOW_WORDS: Range<i64> = -(1 << 55)..1 << 55;
+
+/// The first amounts beyond.
+pub const BEYOND: [i64; 2] = [LOW_WORDS.start - 1, LOW_WORDS.end];
+
 pub fn draw(random: &mut Random) -> Group {
     let shape = shape(random);
-    match random.below(16) {
+    match random.below(17) {
         0..=5 => everyday(random, shape),
         6 => far(random, shape),
         7..=9 => balanced(random, shape),
@@ -20,6 +27,7 @@ pub fn draw(random: &mut Random) -> Group {
             first_sum(random, &mut group);
             group
         }
+        14 => low_words(random, shape),
         _ => steep(random),
     }
 }
@@ -132,6 +140,32 @@ fn far(random: &mut Random, (accounts, parts): (usize, usize)) -> Group {
         };
     }
     leave_out(random, &mut group);
+    group
+}
+
+/// Amounts at the ends of `LOW_WORDS` or inside, the first ones mostly positive. In some groups one is just beyond, where it counts or
+/// where either end is absent; some are large, and change by so much that the group's change alone leaves i64.
+fn low_words(random: &mut Random, (accounts, parts): (usize, usize)) -> Group {
+    let large = random.one_in(16);
+    let mut group = if large { Group::new(32, 8) } else { Group::new(accounts.max(3), parts) };
+    let (least, most) = (LOW_WORDS.start, LOW_WORDS.end - 1);
+    let (inside, falls) = (random.one_in(2), random.one_in(2));
+    for ends in group.equities.chunks_exact_mut(2) {
+        let last = if large { falls } else { random.one_in(2) };
+        for (equity, low) in ends.iter_mut().zip([!large && random.one_in(8), last]) {
+            let end = if low { least } else { most };
+            *equity = if inside && random.one_in(4) { end / (1 + random.below(9) as i64) } else { end };
+        }
+    }
+    let at = random.below(group.marks.len() as u64) as usize;
+    match random.below(3) {
+        0 => {}
+        1 => group.equities[at] = random.pick(&BEYOND),
+        _ => {
+            group.equities[at] = random.pick(&BEYOND);
+            group.marks[at ^ random.below(2) as usize] = 0;
+        }
+    }
     group
 }
 

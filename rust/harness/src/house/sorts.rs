@@ -1,6 +1,6 @@
 //! What groups a run met: each sort must be, or the run fails.
 
-use super::draw::ENDS;
+use super::draw::{BEYOND, ENDS, LOW_WORDS};
 use super::group::Group;
 use super::reference::{KINDS, Sums, fits};
 use std::fmt;
@@ -29,6 +29,7 @@ const SORTS: &[Sort] = &[
     ("of -1", |s| s.sums.firsts.contains(&-1)),
     ("14 for the last part alone", |s| s.answer == 14 && s.first_14() == Some(s.group.parts - 1)),
     ("15 in a later part than 14", |s| s.later_15()),
+    ("15 though every amount is within -2^55 and 2^55 - 1", |s| s.answer == 15 && s.within()),
     ("15 for a finished change alone, and 14", |s| s.finished_leave() && s.first_14().is_some()),
 ];
 
@@ -39,6 +40,15 @@ const DONE: &[Sort] = &[
     ("an account that begins a part as it ended the last", |s| s.goes_on(true)),
     ("after a deposit or withdrawal", |s| s.goes_on(false)),
     ("a first sum of 1", |s| s.sums.firsts.contains(&1)),
+    ("every amount within -2^55 and 2^55 - 1, and some at either", |s| s.within() && s.at_both()),
+    ("-2^55 - 1 alone beyond, at a first end", |s| s.alone_beyond(0, BEYOND[0])),
+    ("at a last end", |s| s.alone_beyond(1, BEYOND[0])),
+    ("2^55 alone beyond, at a first end", |s| s.alone_beyond(0, BEYOND[1])),
+    ("at a last end", |s| s.alone_beyond(1, BEYOND[1])),
+    ("-2^55 - 1 behind a mark alone beyond", |s| s.left_out_alone(0, BEYOND[0])),
+    ("2^55", |s| s.left_out_alone(0, BEYOND[1])),
+    ("-2^55 - 1 alone beyond, the other end absent", |s| s.left_out_alone(1, BEYOND[0])),
+    ("2^55", |s| s.left_out_alone(1, BEYOND[1])),
     ("a first sum that leaves i64 on the way", |s| s.parts().any(|part| on_the_way(part, |[first, _]| first))),
     ("a part's change", |s| s.parts().any(|part| on_the_way(part, |[first, last]| last - first))),
     ("an account's change", |s| s.accounts().any(|parts| on_the_way(parts, |[first, last]| last - first))),
@@ -94,6 +104,35 @@ impl Seen<'_> {
     fn accounts(&self) -> impl Iterator<Item = impl Iterator<Item = [i64; 2]>> {
         let group = self.group;
         (0..group.accounts).map(move |account| (0..group.parts).filter_map(move |part| group.ends(part, account)))
+    }
+
+    /// The amounts that count, each with its end.
+    fn amounts(&self) -> impl Iterator<Item = (usize, i64)> {
+        self.parts().flatten().flat_map(|ends| (0..).zip(ends))
+    }
+
+    fn beyond(&self) -> impl Iterator<Item = (usize, i64)> {
+        self.amounts().filter(|(_, equity)| !LOW_WORDS.contains(equity))
+    }
+
+    fn within(&self) -> bool {
+        self.beyond().next().is_none()
+    }
+
+    fn at_both(&self) -> bool {
+        [LOW_WORDS.start, LOW_WORDS.end - 1].iter().all(|end| self.amounts().any(|(_, equity)| equity == *end))
+    }
+
+    fn alone_beyond(&self, end: usize, equity: i64) -> bool {
+        let mut beyond = self.beyond();
+        beyond.next() == Some((end, equity)) && beyond.next().is_none()
+    }
+
+    /// It has this mark and does not count, and no other number is beyond, be it read or not.
+    fn left_out_alone(&self, mark: u8, equity: i64) -> bool {
+        let Group { marks, equities, .. } = self.group;
+        let mut beyond = marks.iter().zip(equities).filter(|(_, equity)| !LOW_WORDS.contains(equity));
+        beyond.next() == Some((&mark, &equity)) && beyond.next().is_none() && self.within()
     }
 
     fn throughout(&self) -> bool {

@@ -40,6 +40,12 @@ impl Part {
     pub fn counted(&self) -> usize {
         self.ends.iter().filter(|said| said.what.whole()).count()
     }
+
+    /// Of those that are; where it fits i64 it is exact, whatever it comes to on the way.
+    pub fn first_sum(&self) -> i64 {
+        let whole = self.ends.iter().filter(|said| said.what.whole());
+        whole.filter_map(|said| said.what.first).fold(0, i64::wrapping_add)
+    }
 }
 
 #[derive(Clone, Debug)]
@@ -76,6 +82,7 @@ fn take(house: &mut House, line: usize, word: &str, rest: &str) -> Result<(), St
             if rest.is_empty() { Err("a part has a label".into()) } else { Ok(()) }
         }
         ("name" | "accounts", Some(_)) => Err(format!("'{word}' comes before the first part")),
+        ("name", None) if rest.is_empty() => Err("'name' names nothing".into()),
         ("name", None) => {
             house.name = rest.into();
             Ok(())

@@ -3,7 +3,7 @@
 use super::returns::Told;
 use super::text::{ACCOUNTS, PARTS, accounts, average, parts, rate};
 use crate::html::{self, escaped};
-use crate::text::{count, money};
+use crate::text::{count, money, share};
 use std::fmt::Write;
 
 const FOOTER: &str = "The house return, sums, changes, growths and each account's own return come from code that is proved to \
@@ -44,15 +44,15 @@ fn head(out: &mut String, told: &Told) {
 fn changes(out: &mut String, told: &Told) {
     let ends = told.changes.iter().map(|change| *change as f64);
     let (low, high) = ends.fold((0.0, 0.0), |(low, high): (f64, f64), change| (low.min(change), high.max(change)));
-    let share = |change: f64| if high > low { 100.0 * change / (high - low) } else { 0.0 };
+    let of_all = |change: f64| share(if high > low { 100.0 * change / (high - low) } else { 0.0 });
     let _ = writeln!(
         out,
-        "<section>\n<h2>Change of each account</h2>\n<table class=\"changes\" style=\"--zero:{:.2}%\">",
-        share(-low)
+        "<section>\n<h2>Change of each account</h2>\n<table class=\"changes\" style=\"--zero:{}\">",
+        of_all(-low)
     );
     for (name, change) in told.house.accounts.iter().zip(&told.changes) {
-        let (side, width) = (if *change < 0 { "loss" } else { "gain" }, share((*change as f64).abs()));
-        let bar = format!("<i class=\"{side}\" style=\"width:{width:.2}%\"></i>");
+        let (side, width) = (if *change < 0 { "loss" } else { "gain" }, of_all((*change as f64).abs()));
+        let bar = format!("<i class=\"{side}\" style=\"width:{width}\"></i>");
         let _ = writeln!(
             out,
             "<tr><td>{}</td><td><div class=\"about-zero\">{}</div></td><td>{}</td></tr>",

@@ -2,10 +2,10 @@
 
 use super::group::{House, Part};
 use crate::lines::Said;
-use crate::text::{count, refused};
+use crate::text::{money, refused};
 use std::fmt;
 use std::ops::Range;
-use threshcoil::{Group, HouseReturn, PartReturn, Refusal, figures};
+use threshcoil::{Group, HouseReturn, PartReturn, Refusal};
 
 pub struct Told<'a> {
     pub house: &'a House,
@@ -68,10 +68,10 @@ fn alone(account: usize) -> Range<usize> {
     account..account + 1
 }
 
+/// The figure of the account's own group, which is the total return of its growths.
 fn own_return(house: &House, account: usize) -> Result<f64, Refusal> {
     let (told, _) = asked(alone(account), house.parts.iter().filter(|part| part.counts(account)))?;
-    let returns: Vec<f64> = told.parts().iter().map(|part| part.growth).collect();
-    Ok(figures(&returns)?.total_return)
+    Ok(told.figure)
 }
 
 impl Told<'_> {
@@ -122,7 +122,11 @@ fn fault(house: &House, refusal: Refusal) -> Refused {
         },
         Refusal::OutOfRange => out_of_range(house, refusal),
         _ => match house.parts.iter().find(|part| refused_in(part, house.all(), refusal)) {
-            Some(part) => (Some(part.line), format!("part {} counts {}", part.label, count(part.counted(), "account"))),
+            Some(part) => {
+                let sum = money(part.first_sum());
+                let nobody = if part.counted() == 0 { ", nobody being there at both ends" } else { "" };
+                (Some(part.line), format!("the first sum of part {} is {sum}{nobody}", part.label))
+            }
             None => (None, "in a part".into()),
         },
     };
