@@ -16,7 +16,7 @@ use Rattle.house.specs.Group.{Ends, Group}
 use Rattle.house.specs.Places.{endsAt, groupIn, column}
 use Rattle.house.specs.Inner.Raised.{half, lowered, sumN}
 use Rattle.house.specs.Inner.Parts.{Known}
-use Rattle.house.specs.Inner.Low.{away, step, firstWord, lastWord, stepWord, lowSum, Within, LowAdded, LowSummed}
+use Rattle.house.specs.Inner.Low.{away, step, firstWord, lastWord, stepWord, lowSum, BothWithin, LowAdded, LowSummed}
 use Rattle.house.specs.declared.low.LowPart.{LowPart}
 use Rattle.house.specs.declared.low.LowParts.{LowParts}
 use Rattle.house.proofs.Columns.{below-or-at, column-first, filled-on}
@@ -62,7 +62,7 @@ pub record LowAdding (n : ℕ) (ends : ℕ → Ends) (lo₀ lo : List ℕ) (f g 
   pub long : length lo ≡ 32
   pub first : f ≡ lowSum a (λ i. firstWord (ends i))
   pub gain : g ≡ lowSum a (λ i. stepWord (ends i))
-  pub near : (bound i : ℕ) → s < bound → i < a → Within bound (ends i)
+  pub near : (bound i : ℕ) → s < bound → i < a → BothWithin bound (ends i)
   pub known : (i : ℕ) → i < a → Known (ends i)
   pub totals : Words (λ i. stepWord (ends i)) lo₀ lo a
 
@@ -96,7 +96,7 @@ module _ (n : ℕ) (ends : ℕ → Ends) (lo₀ : List ℕ) where
             let one = away (firstWord (ends a)) in
             let other = away (lastWord (ends a)) in
             let r = or-right s (bitOr one other) bound o in
-            below-or-at (λ j. Within bound (ends j)) a i (rw (add-one a) at z) (h .near bound i (or-left s (bitOr one other) bound o)) (or-left one other bound r, or-right one other bound r);
+            below-or-at (λ j. BothWithin bound (ends j)) a i (rw (add-one a) at z) (h .near bound i (or-left s (bitOr one other) bound o)) (or-left one other bound r, or-right one other bound r);
         known = λ i z. below-or-at (λ j. Known (ends j)) a i (rw (add-one a) at z) (h .known i) k;
         totals = words-on _ lo₀ lo a (h .totals) (omega arith) t y (h .long) et ey;
       }
@@ -135,7 +135,7 @@ module _ (n m : ℕ) (marks : List ℕ) (equities : List ℤ) where
     pub within : p ≤ m
     pub place : at ≡ p * n
     pub long : length lo ≡ 32
-    pub near : (bound q a : ℕ) → s < bound → q < p → a < n → Within bound (g q a)
+    pub near : (bound q a : ℕ) → s < bound → q < p → a < n → BothWithin bound (g q a)
     pub known : (q a : ℕ) → q < p → a < n → Known (g q a)
     pub firsts : fs ≡ column 64 (pos 0) p (λ q. lowered (lowSum n (λ a. firstWord (g q a))))
     pub gains : gs ≡ column 64 (pos 0) p (λ q. lowered (lowSum n (λ a. stepWord (g q a))))
@@ -178,7 +178,7 @@ module _ (n m : ℕ) (marks : List ℕ) (equities : List ℤ) where
           place = rw (h .place, add-one p) (omega arith);
           long = d .long;
           near = λ bound q i o z w.
-              below-or-at (λ j. Within bound (g j i)) p q (rw (add-one p) at z) (λ u. h .near bound q i (or-left s (r .spread) bound o) u w) (d .near bound i (or-right s (r .spread) bound o) w);
+              below-or-at (λ j. BothWithin bound (g j i)) p q (rw (add-one p) at z) (λ u. h .near bound q i (or-left s (r .spread) bound o) u w) (d .near bound i (or-right s (r .spread) bound o) w);
           known = λ q i z w. below-or-at (λ j. Known (g j i)) p q (rw (add-one p) at z) (λ u. h .known q i u w) (d .known i w);
           firsts = filled-on 64 (pos 0) _ p fs x (omega arith) (h .firsts) (ex ∙ ap lowered (d .first));
           gains = filled-on 64 (pos 0) _ p gs y (omega arith) (h .gains) (ey ∙ ap lowered (d .gain));

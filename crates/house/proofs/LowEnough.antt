@@ -16,7 +16,7 @@ use Rattle.house.specs.Group.{Ends, Group, firstOf, changeOf, every, inI
 use Rattle.house.specs.Places.{groupIn, column}
 use Rattle.house.specs.Inner.Raised.{half, raised, lastOf, between, moved, lowered, sumN, begun, summed, ended, totalAt}
 use Rattle.house.specs.Inner.Parts.{Known, firstEnded, gainEnded, partFits, Summed}
-use Rattle.house.specs.Inner.Low.{away, step, firstWord, lastWord, stepWord, lowSum, Within, LowSummed}
+use Rattle.house.specs.Inner.Low.{away, step, firstWord, lastWord, stepWord, lowSum, BothWithin, LowSummed}
 use Rattle.house.specs.declared.sum.Finished.{Finished}
 use Rattle.house.specs.declared.low.LowParts.{LowParts}
 use Rattle.house.proofs.Raised.{raised-parts, raised-lt, in-is, in-yes, sumN-cong, ended-fits}

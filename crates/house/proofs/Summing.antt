@@ -16,7 +16,7 @@ use Rattle.sums.proofs.TwoWords.{valueOf-wide, valueOf-words}
 use Rattle.house.specs.Group.{Group, every}
 use Rattle.house.specs.Places.{endsAt, groupIn, column}
 use Rattle.house.specs.Inner.Raised.{moved, sumN, begun, summed, ended, totalAt}
-use Rattle.house.specs.Inner.Parts.{Known, Room, Added, firstEnded, gainEnded, partFits, Summed}
+use Rattle.house.specs.Inner.Parts.{Known, SumsWithRoom, Added, firstEnded, gainEnded, partFits, Summed}
 use Rattle.house.specs.declared.sum.Finished.{Finished}
 use Rattle.house.specs.declared.part.Part.{Part}
 use Rattle.house.specs.declared.part.Parts.{Parts}
@@ -81,7 +81,7 @@ module _ (n m : ℕ) (marks : List ℕ) (equities : List ℤ) where
       none false = omega arith
 
   module _ (hi lo : List ℕ) (fs gs : List ℤ) (b : Bool) (at p : ℕ) (s : Summing hi lo fs gs b at p) where
-    pub summing-room : m ≤ 64 → Room hi lo
+    pub summing-room : m ≤ 64 → SumsWithRoom hi lo
     summing-room h = record { long-hi = s .long-hi; long-lo = s .long-lo; low = λ i l. rw (s .totals i l) (total-low n m g p i h (s .within)) }
 
     -- the part's places are there

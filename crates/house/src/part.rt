@@ -6,7 +6,7 @@ ghost use Rattle.sums.specs.Wide.{wide};
 ghost use Rattle.house.specs.Group.{firstOf, changeOf, inI64, every};
 ghost use Rattle.house.specs.Places.{endsAt};
 ghost use Rattle.house.specs.Inner.Raised.{raised, moved, summed, totalAt};
-ghost use Rattle.house.specs.Inner.Parts.{Room, Added, Summed};
+ghost use Rattle.house.specs.Inner.Parts.{SumsWithRoom, Added, Summed};
 use crate::entry::entry_of;
 use crate::low::sum_low;
 use crate::sum::finish;
@@ -39,7 +39,7 @@ fn sum_part(
     lo: &mut [u64; 32],
 ) -> Part
     requires { ⌜ (n ≤ 32) × (2 * (at + n) ≤ length (now marks)) × (2 * (at + n) ≤ length (now equities)) ⌝ }
-    requires { ⌜ Room (now hi) (now lo) ⌝ }
+    requires { ⌜ SumsWithRoom (now hi) (now lo) ⌝ }
     ensures { λ r. ⌜ Added n (λ a. endsAt (now (marks .entry)) (now (equities .entry)) (at + a)) r (now (hi .entry)) (now (lo .entry)) (now (hi .exit)) (now (lo .exit)) ⌝ }
 {
     let mut first = start(n as u64);

@@ -42,19 +42,19 @@ abbrev pub lowSum : ℕ → (ℕ → ℕ) → ℕ
 lowSum n f = (half + sumN n f) % 2 ^ 64
 
 -- below 2 ^ 56 where both ends are
-abbrev pub Within : ℕ → Ends → Type 0
-Within bound e = (away (firstWord e) < bound) × (away (lastWord e) < bound)
+abbrev pub BothWithin : ℕ → Ends → Type 0
+BothWithin bound e = (away (firstWord e) < bound) × (away (lastWord e) < bound)
 
 pub record LowAdded (n : ℕ) (ends : ℕ → Ends) (r : LowPart) (lo₀ lo : List ℕ) : Type 0 where
   pub first : r .first ≡ lowSum n (λ a. firstWord (ends a))
   pub gain : r .gain ≡ lowSum n (λ a. stepWord (ends a))
-  pub near : (bound a : ℕ) → r .spread < bound → a < n → Within bound (ends a)
+  pub near : (bound a : ℕ) → r .spread < bound → a < n → BothWithin bound (ends a)
   pub known : (a : ℕ) → a < n → Known (ends a)
   pub long : length lo ≡ 32
   pub totals : (i : ℕ) → i < 32 → getD lo i 0 ≡ (getD lo₀ i 0 + cond (ltb i n) (stepWord (ends i)) 0) % 2 ^ 64
 
 pub record LowSummed (n m : ℕ) (marks : List ℕ) (equities : List ℤ) (r : LowParts) : Type 0 where
-  pub near : (bound p a : ℕ) → r .spread < bound → p < m → a < n → Within bound (groupIn n marks equities p a)
+  pub near : (bound p a : ℕ) → r .spread < bound → p < m → a < n → BothWithin bound (groupIn n marks equities p a)
   pub known : (p a : ℕ) → p < m → a < n → Known (groupIn n marks equities p a)
   pub firsts : r .firsts ≡ column 64 (pos 0) m (λ p. lowered (lowSum n (λ a. firstWord (groupIn n marks equities p a))))
   pub gains : r .gains ≡ column 64 (pos 0) m (λ p. lowered (lowSum n (λ a. stepWord (groupIn n marks equities p a))))

@@ -35,7 +35,7 @@ pub record Entered (e : Ends) (r : Entry) : Type 0 where
   pub known : Known e
 
 -- two columns of words, with room for more in each sum
-pub record Room (hi lo : List ℕ) : Type 0 where
+pub record SumsWithRoom (hi lo : List ℕ) : Type 0 where
   pub long-hi : length hi ≡ 32
   pub long-lo : length lo ≡ 32
   pub low : (i : ℕ) → i < 32 → totalAt hi lo i < 2 ^ 96
