@@ -102,7 +102,7 @@ enum tc_answer {
     TC_TWICE = 3,           /* a symbol stands twice in one list */
     TC_BAD_PRICE = 4,       /* a price is below 1 */
     TC_BAD_WEIGHT = 5,      /* a weight is not finite */
-    TC_TOO_LONG = 6,        /* a list or series is over its bound or no whole number of entries, parts are not 1 to TC_MAX_PARTS, or a place to write has another length */
+    TC_TOO_LONG = 6,        /* a list or series is over its bound or no whole number of entries, parts are not 1 to TC_MAX_PARTS, or marks, equities or places to write are of another count */
     TC_TOO_MANY = 7,        /* held symbols and target symbols together exceed 64 */
     TC_NO_RECORD_ROOM = 8,  /* recording is on and the record buffer has too few places */
     TC_NOT_HELD = 9,        /* a close names an absent or flat position */
@@ -167,9 +167,10 @@ uint64_t tc_figures(const double *returns, size_t return_count, double *rates, s
 
 /* ---- the house return: one figure for a group of accounts over the parts of a period. Marks (1: there, 0: absent) and equities
  * stand part by part, in a part account by account, for each its first end and its last: 2 * accounts * parts of either. An
- * account with a mark 0 at either end is left out of that part, and neither of its numbers there is looked at. Rates are the figure and each part's growth, 1 + parts places; changes the group's and each
- * account's, 1 + accounts places; firsts and gains each part's first sum and summed change, parts places each. Refusals in this
- * order: 13, 6 (parts, or another length anywhere), 1 (a mark above 1), 15, 14. */
+ * account with a mark 0 at either end is left out of that part, and neither of its numbers there matters. Rates are the figure
+ * and each part's growth, 1 + parts places; changes the group's and each account's, 1 + accounts places; firsts and gains each
+ * part's first sum and summed change, parts places each. Refusals in this order: 13, 6 (parts, or another length anywhere), 1 (a
+ * mark above 1), 15, 14. */
 uint64_t tc_house_return(uint64_t accounts, uint64_t parts, const uint8_t *marks, size_t mark_count,
                          const int64_t *equities, size_t equity_count, double *rates, size_t rate_places,
                          int64_t *changes, size_t change_places, int64_t *firsts, size_t first_places,

@@ -7,7 +7,7 @@ use lib.IntN.{ℤ, pos}
 use lib.ListN.{length, getD}
 use Rattle.house.specs.Group.{Equity, given, absent, Ends, Group, every}
 
--- An equity is there where its mark is 1; else the number behind the mark is not looked at.
+-- An equity is there where its mark is 1; else the number behind the mark does not matter.
 abbrev pub marked : ℕ → ℤ → Equity
 marked mark equity = cond (eqb mark 1) (given equity) absent
 

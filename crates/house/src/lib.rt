@@ -134,7 +134,7 @@ fn report_of(n: usize, m: usize, marks: &[u8], equities: &[i64]) -> House
 }
 
 // Marks and equities stand part by part, in a part account by account, for each its first end and its last. A mark is 1 where the equity is there and 0
-// where it is absent, and then the number is not looked at.
+// where it is absent, and then the number does not matter.
 pub fn house_return(accounts: u64, parts: u64, marks: &[u8], equities: &[i64]) -> House
     ensures { λ r. ⌜ r ≡ houseOf accounts parts (now (marks .entry)) (now (equities .entry)) ⌝ }
 {

@@ -100,8 +100,8 @@ fn sum_exactly(n: usize, m: usize, marks: &[u8], equities: &[i64]) -> Parts
     }
 }
 
-// By low words alone where they are enough, which no everyday amounts are beyond; else with both. All sums of small amounts are in i64, and then
-// the upper word of an account's total is the count of parts.
+// By low words alone where they are enough, which no everyday amounts are beyond; else with both. By part and by account all sums of small amounts are in
+// i64, and then the upper word of an account's total is the count of parts.
 pub(crate) fn sum_parts(n: usize, m: usize, marks: &[u8], equities: &[i64]) -> Parts
     requires { ⌜ (n ≤ 32) × (m ≤ 64) × (length (now marks) ≡ 2 * (m * n)) × (length (now equities) ≡ 2 * (m * n)) ⌝ }
     ensures { λ r. ⌜ Summed n m (now (marks .entry)) (now (equities .entry)) r ⌝ }

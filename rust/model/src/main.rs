@@ -155,7 +155,9 @@ fn publish(out: &mut impl Write, asked: &Asked, plan: &Plan, unread: &[Unread], 
 
 fn read(file: &PathBuf) -> io::Result<String> {
     let bytes = std::fs::read(file).map_err(|e| io::Error::new(e.kind(), format!("{}: {e}", file.display())))?;
-    Ok(String::from_utf8_lossy(&bytes).into_owned())
+    let text = String::from_utf8_lossy(&bytes);
+    // A byte order mark that an editor put first is no word of the file.
+    Ok(text.strip_prefix('\u{feff}').unwrap_or(&text).into())
 }
 
 /// How far a long run is, on a terminal whose output goes elsewhere; nothing in a pipe.

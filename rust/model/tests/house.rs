@@ -102,6 +102,7 @@ fn a_bad_line_is_told_with_its_number_and_nothing_is_written() {
         ("twice", "accounts B\n".to_string() + GOOD, 2, "'B' stands twice among the accounts"),
         ("none", "accounts # A\n".to_string() + GOOD, 1, "no account is named"),
         ("no-name", "name # A\n".to_string() + GOOD, 1, "'name' names nothing"),
+        ("two-names", "name A\nname A\n".to_string() + GOOD, 2, "the house has a name already, on line 1"),
         (
             "reserved",
             "accounts part\n".to_string() + GOOD,
@@ -229,7 +230,7 @@ fn an_account_without_a_return_is_left_out_of_the_average_and_told() {
     assert!(row(&said, "B none 60.00 1 of 1") && row(&said, "Lost none 0.00 0 of 1"), "{said}");
     for left in [
         "B has no return of its own and is left out of the average: its first equity in one is not positive.",
-        "Lost has no return of its own and is left out of the average: it is in no part.",
+        "Lost has no return of its own and is left out of the average: it is at both ends of no part.",
     ] {
         assert!(said.contains(left) && page.contains(left), "{said}");
     }
@@ -252,6 +253,27 @@ fn a_figure_without_a_number_says_so() {
     assert_eq!(out.status.code(), Some(0));
     assert!(said(&out).contains("House return                  not finite"), "{}", said(&out));
     assert!(page.unwrap().contains("<p class=\"equity\">not finite</p>"));
+}
+
+/// 2^57 times as much seventeen times, and then 2^50 times: of 2^1019 there is a double, of 100 times as much there is none.
+#[test]
+fn a_figure_whose_percent_has_no_number_says_so() {
+    let leap = "part p\nA 0.01 1441151880758558.72\n".repeat(17) + "part p\nA 0.01 11258999068426.24\n";
+    let (out, page) = house("high", Some(&format!("accounts A\n{leap}")), &[]);
+    assert_eq!(out.status.code(), Some(0));
+    assert!(said(&out).contains("House return                above 1e308%"), "{}", said(&out));
+    assert!(page.unwrap().contains("<p class=\"equity\">above 1e308%</p>"));
+}
+
+/// A name longer than a cell can be padded, and a file that begins with a byte order mark.
+#[test]
+fn names_of_any_length_and_a_mark_before_the_first_word_are_taken() {
+    let long = "x".repeat(65_536);
+    let text = format!("\u{feff}accounts {long} B\npart {long}\n{long} 1.00 2.00\nB 1.00 2.00\n");
+    let (out, page) = house("long", Some(&text), &[]);
+    assert_eq!(out.status.code(), Some(0), "{}", said(&out));
+    assert!(row(&said(&out), &format!("{long} 100.00% 1.00 1 of 1")));
+    assert!(page.unwrap().contains(&format!("<td>{long}</td>")));
 }
 
 /// A cent lost of a million; and nobody lost, so that the zero line is at the left end.

@@ -1,4 +1,4 @@
-//! Leaves that are lent slices of numbers. Each returns document 01's number and 256 times a count of records; a refusal leaves
+//! Leaves that are lent slices of numbers. Each returns the documents' number and 256 times a count of records; a refusal leaves
 //! every slice as found.
 #![allow(clippy::too_many_arguments)]
 

@@ -51,6 +51,8 @@ impl Part {
 #[derive(Clone, Debug)]
 pub struct House {
     pub name: String,
+    /// Where it has its name from.
+    named: Option<usize>,
     pub accounts: Vec<Said<String>>,
     pub parts: Vec<Part>,
 }
@@ -67,7 +69,7 @@ const WORDS: [&str; 3] = ["name", "accounts", "part"];
 
 /// Reads the whole text. What can't be read stands in the second list, line by line.
 pub fn read(text: &str) -> (House, Vec<Said<String>>) {
-    let mut house = House { name: "House".into(), accounts: Vec::new(), parts: Vec::new() };
+    let mut house = House { name: "House".into(), named: None, accounts: Vec::new(), parts: Vec::new() };
     let mut unread = Vec::new();
     for (line, word, rest) in lines(text) {
         unread.extend(take(&mut house, line, word, rest).err().map(|what| Said { line, what }));
@@ -83,10 +85,13 @@ fn take(house: &mut House, line: usize, word: &str, rest: &str) -> Result<(), St
         }
         ("name" | "accounts", Some(_)) => Err(format!("'{word}' comes before the first part")),
         ("name", None) if rest.is_empty() => Err("'name' names nothing".into()),
-        ("name", None) => {
-            house.name = rest.into();
-            Ok(())
-        }
+        ("name", None) => match house.named.replace(line) {
+            Some(first) => Err(format!("the house has a name already, on line {first}")),
+            None => {
+                house.name = rest.into();
+                Ok(())
+            }
+        },
         ("accounts", None) => take_accounts(&mut house.accounts, line, rest),
         (_, Some(part)) => match house.accounts.iter().position(|said| said.what == word) {
             Some(account) => take_ends(part, line, account, word, rest),

@@ -89,7 +89,7 @@ impl Told<'_> {
             let counts = |part: &&Part| part.counts(account) && refused_in(part, alone(account), refusal);
             let why = match parts.iter().find(counts) {
                 Some(part) => format!("its first equity in {} is not positive", part.label),
-                None => "it is in no part".into(),
+                None => "it is at both ends of no part".into(),
             };
             Some(format!("{} has no return of its own and is left out of the average: {why}.", accounts[account].what))
         };

@@ -6,9 +6,13 @@ use crate::text::{count, money, percent};
 use std::io::{self, Write};
 use threshcoil::PartReturn;
 
-/// A rate, or words where the doubles have no number for it.
+/// A rate, or words where the doubles have no number for it, or none for its percent.
 pub fn rate(x: f64) -> String {
-    if x.is_finite() { percent(x) } else { "not finite".into() }
+    match (x.is_finite(), (x * 100.0).is_finite()) {
+        (true, true) => percent(x),
+        (true, false) => if x < 0.0 { "below -1e308%" } else { "above 1e308%" }.into(),
+        (false, _) => "not finite".into(),
+    }
 }
 
 pub const PARTS: [&str; 5] = ["Part", "Growth", "Change", "First sum", "Accounts"];
@@ -61,6 +65,9 @@ pub fn summary(out: &mut impl Write, told: &Told) -> io::Result<()> {
     table(out, ACCOUNTS, &accounts(told), &told.without_return())
 }
 
+/// The most that a cell can be padded to.
+const WIDEST: usize = u16::MAX as usize;
+
 /// The first column to the left, the others to the right, each as wide as its widest cell; then what is said of them.
 fn table<const N: usize>(
     out: &mut impl Write,
@@ -70,7 +77,8 @@ fn table<const N: usize>(
 ) -> io::Result<()> {
     let head = head.map(String::from);
     let all = || std::iter::once(&head).chain(rows);
-    let width: [usize; N] = std::array::from_fn(|k| all().map(|row| row[k].chars().count()).max().unwrap_or(0));
+    let widest = |k: usize| all().map(|row| row[k].chars().count()).max().unwrap_or(0);
+    let width: [usize; N] = std::array::from_fn(|k| widest(k).min(WIDEST));
     writeln!(out)?;
     for row in all() {
         let cells = row.iter().zip(width).enumerate();
