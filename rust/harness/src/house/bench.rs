@@ -109,6 +109,10 @@ fn timed(entry: Entry, groups: &[Group], places: &mut Places, calls: usize) -> f
     start.elapsed().as_secs_f64() / calls as f64 * 1e9
 }
 
+/// What it is called, one account in how many is absent from a part, and whether an equity is beyond what low words alone are added of.
+const SORTS: [(&str, u64, bool); 3] =
+    [("all there", 0, false), ("one account in ten absent", 10, false), ("all there, one at 2^55", 0, true)];
+
 /// The best of several turns that go back and forth between the two.
 pub fn bench(seed: u64) -> bool {
     const TURNS: usize = 25;
@@ -116,8 +120,11 @@ pub fn bench(seed: u64) -> bool {
     println!("house: nanoseconds a call, best of {TURNS} turns over {GROUPS} groups of each sort");
     let mut random = Random::new(seed);
     for (accounts, parts) in [(32, 64), (8, 12), (2, 4)] {
-        for (sort, absent) in [("all there", 0), ("one account in ten absent", 10)] {
-            let groups: Vec<Group> = (0..GROUPS).map(|_| group(&mut random, accounts, parts, absent)).collect();
+        for (sort, absent, far) in SORTS {
+            let mut groups: Vec<Group> = (0..GROUPS).map(|_| group(&mut random, accounts, parts, absent)).collect();
+            if far {
+                groups.iter_mut().for_each(|group| group.put(0, 0, [1 << 55; 2]));
+            }
             let (mut places, calls) = (Places::of(accounts, parts), 2_000_000 / (accounts * parts));
             let (mut rust, mut port) = (f64::MAX, f64::MAX);
             for _ in 0..TURNS {
