@@ -189,8 +189,8 @@ pub fn write_ledger<'a>(
     total: &'a [i64; 64],
     bytes: &mut [u8],
 )
-    ensures { λ _. ⌜ now (bytes .exit)
-        ≡ writtenAccount (accountWith h (cols (now (symbol .entry)) (now (quantity .entry)) (now (average .entry)) (now (realized .entry)) (now (total .entry)))) (now (bytes .entry)) ⌝ }
+    ensures { λ _. ⌜ (let c = cols (now (symbol .entry)) (now (quantity .entry)) (now (average .entry)) (now (realized .entry)) (now (total .entry)) in
+        now (bytes .exit) ≡ writtenAccount (accountWith h c) (now (bytes .entry))) ⌝ }
 {
     if bytes.len() != ACCOUNT_BYTES {
         return;

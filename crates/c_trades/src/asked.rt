@@ -35,7 +35,8 @@ fn unsound_or<'a>(
     total: &'a [i64; 64],
     other: Answer,
 ) -> Answer
-    ensures { λ r. ⌜ r ≡ unless (soundAccount (accountWith h (cols (now (symbol .entry)) (now (quantity .entry)) (now (average .entry)) (now (realized .entry)) (now (total .entry))))) Unsound other ⌝ }
+    ensures { λ r. ⌜ (let c = cols (now (symbol .entry)) (now (quantity .entry)) (now (average .entry)) (now (realized .entry)) (now (total .entry)) in
+        r ≡ unless (soundAccount (accountWith h c)) Unsound other) ⌝ }
 {
     if sound_account(h, symbol, quantity, average, realized, total) {
         other
@@ -55,7 +56,8 @@ pub(crate) fn early<'a>(
     kind: u64,
     whole: bool,
 ) -> Answer
-    ensures { λ r. ⌜ r ≡ earlyOn (accountWith h (cols (now (symbol .entry)) (now (quantity .entry)) (now (average .entry)) (now (realized .entry)) (now (total .entry)))) kind whole ⌝ }
+    ensures { λ r. ⌜ (let c = cols (now (symbol .entry)) (now (quantity .entry)) (now (average .entry)) (now (realized .entry)) (now (total .entry)) in
+        r ≡ earlyOn (accountWith h c) kind whole) ⌝ }
 {
     if 1 < kind {
         return unsound_or(

@@ -61,7 +61,8 @@ pub fn is_unused_zero<'a>(
     total: &'a [i64; 64],
     n: usize,
 ) -> bool
-    ensures { λ r. ⌜ r ≡ unused n (cols (now (symbol .entry)) (now (quantity .entry)) (now (average .entry)) (now (realized .entry)) (now (total .entry))) ⌝ }
+    ensures { λ r. ⌜ (let c = cols (now (symbol .entry)) (now (quantity .entry)) (now (average .entry)) (now (realized .entry)) (now (total .entry)) in
+        r ≡ unused n c) ⌝ }
 {
     let s = no_symbol_from(&symbol[..], n);
     let q = zero_from(&quantity[..], n);
@@ -80,7 +81,8 @@ pub fn is_ordered<'a>(
     total: &'a [i64; 64],
     n: usize,
 ) -> bool
-    ensures { λ r. ⌜ r ≡ ordered n (cols (now (symbol .entry)) (now (quantity .entry)) (now (average .entry)) (now (realized .entry)) (now (total .entry))) ⌝ }
+    ensures { λ r. ⌜ (let c = cols (now (symbol .entry)) (now (quantity .entry)) (now (average .entry)) (now (realized .entry)) (now (total .entry)) in
+        r ≡ ordered n c) ⌝ }
 {
     if 64 < n {
         return false;
