@@ -12,7 +12,7 @@ use crate::run::number_at;
 use crate::run::put_words;
 use crate::setting_words::are_settings;
 use crate::setting_words::both;
-use crate::setting_words::is_zero;
+use crate::setting_words::is_spare;
 use crate::setting_words::settings_at;
 use crate::setting_words::settings_words;
 use crate::sizes::ACCOUNT_BYTES;
@@ -63,8 +63,8 @@ fn counters_of(bytes: &[u8]) -> Counters
 fn spare_counters(bytes: &[u8]) -> bool
     ensures { λ r. ⌜ r ≡ spareCounters (wordsOf (now (bytes .entry))) ⌝ }
 {
-    let open_count = is_zero(word_at(bytes, OPEN_COUNT_AT));
-    let closed_total = is_zero(word_at(bytes, CLOSED_TOTAL_AT));
+    let open_count = is_spare(word_at(bytes, OPEN_COUNT_AT));
+    let closed_total = is_spare(word_at(bytes, CLOSED_TOTAL_AT));
     both(open_count, closed_total)
 }
 

@@ -19,7 +19,8 @@ use Rattle.fills.specs.declared.order.Terms.{Terms}
 use Rattle.fills.specs.declared.record.ExecutionRecord.{ExecutionRecord}
 use Rattle.fills.specs.Records.{wordsOfRecord, intsOfRecord, Buffers, buffers, room, stored, storedAll}
 use Rattle.fills.specs.Fill.{fillAll}
-use Rattle.fills.specs.Inner.Runs.{order, orders, state, keptIn, recordsOf, Fills, Runs, Given}
+use Rattle.fills.specs.Orders.{order}
+use Rattle.fills.specs.Inner.Runs.{orders, state, keptIn, recordsOf, Fills, Runs, Given}
 
 -- ---- records in the lent slices
 pub stored-append : (rs qs : List ExecutionRecord) (l : Buffers) → storedAll (rs ++ qs) l ≡ storedAll qs (storedAll rs l)
