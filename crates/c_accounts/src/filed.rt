@@ -1,8 +1,8 @@
 // Accounts out of lent bytes and back into them.
 ghost use mathlib.Core.Path.{_≡_};
 ghost use Rattle.answer.specs.Numbers.{numberOf};
+ghost use Rattle.account.specs.Inner.Answers.{unlessUnsound};
 ghost use Rattle.c_accounts.specs.Entries.{accountIn, accountTold};
-ghost use Rattle.c_accounts.specs.Inner.Entries.{unlessUnsound};
 ghost use Rattle.c_accounts.specs.Inner.Setters.{setterTold};
 use account::Account;
 use account::Changed;

@@ -5,11 +5,11 @@ use mathlib.Core.List.{List}
 use mathlib.Core.Bool.{true, false}
 use native.Mathlib.Omega.{arith}
 use lib.ListN.{length, take, drop, getD}
-use lib.Seq.{length-take-le, getD-take}
+use lib.Seq.{getD-take}
 use borrow.Author.Needs.{needs}
 use Rattle.table.specs.Keyed.{ascending}
 use Rattle.table.proofs.Keyed.{ascending-on, ascending-not, ascending-end}
-use Rattle.table.proofs.Places.{used-within, used-same}
+use Rattle.table.proofs.Places.{in-use, used-within, used-same}
 use Rattle.table.proofs.order.ascends.Statement.{statement}
 use Rattle.table.proofs.order.ascends.Tie as tie
 
@@ -20,21 +20,18 @@ abbrev μ-loop : tie.MeasureT-loop
 μ-loop keys n m i₀ i = m - i
 
 module _ (keys : List ℕ) (m i : ℕ) (fits : m ≤ length keys) where
-  in-use : length (take m keys) ≡ m
-  in-use = length-take-le m keys fits
-
   walk-on : i + 1 < m → getD keys i 0 < getD keys (i + 1) 0 → ascending (drop (i + 1) (take m keys)) ≡ ascending (drop i (take m keys))
   walk-on h g =
       let l : i < m = omega arith in
-      sym (ascending-on (take m keys) i (omega (arith, in-use)) (omega (arith, g, getD-take m keys i 0 l, getD-take m keys (i + 1) 0 h)))
+      sym (ascending-on (take m keys) i (omega (arith, in-use keys m fits)) (omega (arith, g, getD-take m keys i 0 l, getD-take m keys (i + 1) 0 h)))
 
   walk-not : i + 1 < m → getD keys (i + 1) 0 ≤ getD keys i 0 → ascending (drop i (take m keys)) ≡ false
   walk-not h g =
       let l : i < m = omega arith in
-      ascending-not (take m keys) i (omega (arith, in-use)) (omega (arith, g, getD-take m keys i 0 l, getD-take m keys (i + 1) 0 h))
+      ascending-not (take m keys) i (omega (arith, in-use keys m fits)) (omega (arith, g, getD-take m keys i 0 l, getD-take m keys (i + 1) 0 h))
 
   walk-end : m ≤ i + 1 → ascending (drop i (take m keys)) ≡ true
-  walk-end h = ascending-end (take m keys) i (omega (arith, in-use))
+  walk-end h = ascending-end (take m keys) i (omega (arith, in-use keys m fits))
 
 module _ (c : tie.After-used Inv-loop μ-loop) where
   room : c .used .result ≤ length (c .before .before .args .keys .now)

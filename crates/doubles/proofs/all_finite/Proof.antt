@@ -1,26 +1,26 @@
--- `metrics::series::all_finite` meets its contract. The invariant: what was found before the place, and the rest, give what the whole series gives.
+-- What was found before the place, and the rest, give what the whole list gives.
 use borrow.Author.Needs.{needs}
 use Prim.Native.Nat.{_-_}
 use native.Mathlib.Omega.{arith}
 use lib.ListN.{length}
-use Rattle.metrics.proofs.Gathering.{Looking, finite-first, finite-on, finite-last}
-use Rattle.metrics.proofs.series.all_finite.Statement.{statement}
-use Rattle.metrics.proofs.series.all_finite.Tie as tie
+use Rattle.doubles.proofs.Finite.{Looking, finite-first, finite-on, finite-last}
+use Rattle.doubles.proofs.all_finite.Statement.{statement}
+use Rattle.doubles.proofs.all_finite.Tie as tie
 
 abbrev Inv-loop : tie.InvT-loop
-Inv-loop returns finite₀ i₀ finite i = Looking returns finite i
+Inv-loop xs finite₀ i₀ finite i = Looking xs finite i
 
 abbrev μ-loop : tie.MeasureT-loop
-μ-loop returns finite₀ i₀ finite i = length returns - i
+μ-loop xs finite₀ i₀ finite i = length xs - i
 
 loop-holds : tie.Need-loop-holds Inv-loop μ-loop
 loop-holds c = finite-first _
 
-mul-r : tie.Need-mul-r Inv-loop μ-loop
-mul-r c = search needs
+mul-x : tie.Need-mul-x Inv-loop μ-loop
+mul-x c = search needs
 
-shared-slice-read-r : tie.Need-shared-slice-read-r Inv-loop μ-loop
-shared-slice-read-r c = search needs
+shared-slice-read-x : tie.Need-shared-slice-read-x Inv-loop μ-loop
+shared-slice-read-x c = search needs
 
 is-finite-requires : tie.Need-is-finite-requires Inv-loop μ-loop
 is-finite-requires c κs = search needs
@@ -46,8 +46,8 @@ all-finite-spec =
     Inv-loop
     μ-loop
     loop-holds
-    mul-r
-    shared-slice-read-r
+    mul-x
+    shared-slice-read-x
     is-finite-requires
     add-i
     loop-less
