@@ -5,7 +5,7 @@ ghost use Rattle.word_bytes.specs.Words.{wordsOf};
 ghost use Rattle.table.specs.Rows.{cols};
 ghost use Rattle.account.specs.Inner.Account.{accountWith, ledgerOf};
 ghost use Rattle.account_bytes.specs.Sizes.{accountLength};
-ghost use Rattle.account_bytes.specs.Account.{countWords, countersOf, spareCounters, seriesOf, accountOf, readAccount, writtenAccount, writtenSeries};
+ghost use Rattle.account_bytes.specs.Account.{countWords, countersOf, spareCounters, seriesOf, accountOf, readAccount, accountIn, writtenAccount, writtenSeries};
 use crate::columns::put_columns;
 use crate::columns::read_columns;
 use crate::run::number_at;
@@ -177,6 +177,14 @@ pub fn read_account(bytes: &[u8]) -> ReadAccount
         good: true,
         account: account_of(bytes),
     }
+}
+
+// The same without the mark. All zeros are no sound account, so every call on bytes that hold none answers 11.
+pub fn account_in(bytes: &[u8]) -> Account
+    ensures { λ r. ⌜ r ≡ accountIn (now (bytes .entry)) ⌝ }
+{
+    let r = read_account(bytes);
+    r.account
 }
 
 // The account of a ledger and five columns into its bytes. Nothing is written where the length is another.

@@ -6,6 +6,7 @@ mod setting_words;
 mod sizes;
 
 pub use account_words::ReadAccount;
+pub use account_words::account_in;
 pub use account_words::is_account;
 pub use account_words::read_account;
 pub use account_words::read_ledger;

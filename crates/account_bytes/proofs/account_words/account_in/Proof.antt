@@ -1,9 +1,9 @@
 -- The account of what is read.
 use mathlib.Core.Path.{ap}
 use borrow.Author.Needs.{needs}
 use Rattle.account_bytes.specs.declared.account_words.ReadAccount.{ReadAccount}
-use Rattle.c_accounts.proofs.filed.account_in.Statement.{statement}
-use Rattle.c_accounts.proofs.filed.account_in.Tie as tie
+use Rattle.account_bytes.proofs.account_words.account_in.Statement.{statement}
+use Rattle.account_bytes.proofs.account_words.account_in.Tie as tie
 
 read-account-requires : tie.Need-read-account-requires
 read-account-requires c κs = search needs
