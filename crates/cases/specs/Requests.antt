@@ -16,7 +16,7 @@ use Rattle.account.specs.declared.account.Account.{Account}
 use Rattle.account.specs.Settings.{ofCosts, openingSettings, withRecording, withCashFirst}
 use Rattle.account.specs.Account.{heldIn, tableOf}
 use Rattle.account.specs.Calls.{zeroAccount}
-use Rattle.wanted.specs.declared.plan.PlannedOrder.{PlannedOrder}
+use Rattle.wanted.specs.declared.planned.PlannedOrder.{PlannedOrder}
 use Rattle.wanted.specs.Plan.{planned}
 use Rattle.admission.specs.Running.{cashFirst}
 use Rattle.portfolio.specs.Rebalance.{Outcome, rebalanced}

@@ -7,7 +7,7 @@ use Rattle.account.specs.declared.account.Account.{Account}
 use Rattle.fills.specs.declared.order.Order.{Order}
 use Rattle.fills.specs.Fill.{fillAll}
 use Rattle.call_lists.specs.Lists.{priceOf}
-use Rattle.wanted.specs.declared.plan.PlannedOrder.{PlannedOrder}
+use Rattle.wanted.specs.declared.planned.PlannedOrder.{PlannedOrder}
 use Rattle.admission.specs.Running.{only, parted, bySymbol, cashFirst, inRunningOrder}
 use Rattle.portfolio.specs.Answers.{rebalanceAnswer}
 use Rattle.portfolio.specs.Rebalance.{orderOf, admittedPlan, accountAfter, afterPlan, refused, afterRebalance, rebalanced}

@@ -32,7 +32,7 @@ use Rattle.account.specs.Account.{soundAccount, heldIn}
 use Rattle.account.proofs.Columns.{rows-length}
 use Rattle.account.proofs.SoundAccounts.{account-cash, account-settings, account-costs, account-ordered, account-positions, parts-account, series-keep-sound}
 use Rattle.account.proofs.Tables.{table-sound}
-use Rattle.wanted.specs.declared.plan.PlannedOrder.{PlannedOrder}
+use Rattle.wanted.specs.declared.planned.PlannedOrder.{PlannedOrder}
 use Rattle.wanted.specs.Equity.{equityOf}
 use Rattle.wanted.specs.Plan.{wanted}
 use Rattle.wanted.proofs.Plans as planning

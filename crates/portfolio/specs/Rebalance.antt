@@ -18,7 +18,7 @@ use Rattle.fills.specs.Fill.{fillAll}
 use Rattle.account.specs.declared.account.Account.{Account}
 use Rattle.account.specs.declared.settings.Settings.{Settings}
 use Rattle.account.specs.Account.{heldIn, tableOf}
-use Rattle.wanted.specs.declared.plan.PlannedOrder.{PlannedOrder}
+use Rattle.wanted.specs.declared.planned.PlannedOrder.{PlannedOrder}
 use Rattle.wanted.specs.Equity.{equityOf}
 use Rattle.admission.specs.Running.{planOf, inRunningOrder, notionalFrom}
 use Rattle.portfolio.specs.Answers.{isDone, rebalanceAnswer}

@@ -14,7 +14,7 @@ use Rattle.table.specs.Rows.{holding}
 use Rattle.sizing.specs.Sizing.{sized, cutTo, drift}
 use Rattle.call_lists.specs.Lists.{among}
 use Rattle.account.specs.declared.settings.Settings.{Settings}
-use Rattle.wanted.specs.declared.plan.PlannedOrder.{PlannedOrder}
+use Rattle.wanted.specs.declared.planned.PlannedOrder.{PlannedOrder}
 
 abbrev pub planned : ℕ → ℤ → ℤ → Float → PlannedOrder
 planned s q p d = record { symbol = symbol s; quantity = shares q; price = p; «drift_bps» = d }

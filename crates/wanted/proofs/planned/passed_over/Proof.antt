@@ -1,7 +1,7 @@
 -- Quantity, price and drift are 0.
 use lib.Ieee.{ofBits}
-use Rattle.wanted.proofs.plan.passed_over.Statement.{statement}
-use Rattle.wanted.proofs.plan.passed_over.Tie as tie
+use Rattle.wanted.proofs.planned.passed_over.Statement.{statement}
+use Rattle.wanted.proofs.planned.passed_over.Tie as tie
 use mathlib.Core.Path.{refl}
 
 returns : tie.Need-returns

@@ -3,8 +3,8 @@ use mathlib.Core.Path.{sym, ap, _∙_}
 use borrow.Author.Needs.{needs}
 use mir.Facts.{toZ-ofZ}
 use Rattle.wanted.specs.Plan.{planned, allowedOrder}
-use Rattle.wanted.proofs.plan.allowed_order.Statement.{statement}
-use Rattle.wanted.proofs.plan.allowed_order.Tie as tie
+use Rattle.wanted.proofs.planned.allowed_order.Statement.{statement}
+use Rattle.wanted.proofs.planned.allowed_order.Tie as tie
 
 within-band-requires : tie.Need-within-band-requires
 within-band-requires c κs = search needs

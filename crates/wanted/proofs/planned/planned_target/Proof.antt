@@ -9,8 +9,8 @@ use mir.Facts.{toZ-ofZ}
 use Rattle.sizing.specs.Sizing.{sized, drift}
 use Rattle.call_lists.proofs.Lists.{below-one}
 use Rattle.wanted.specs.Plan.{planned, gapOf, allowedOrder, plannedTarget}
-use Rattle.wanted.proofs.plan.planned_target.Statement.{statement}
-use Rattle.wanted.proofs.plan.planned_target.Tie as tie
+use Rattle.wanted.proofs.planned.planned_target.Statement.{statement}
+use Rattle.wanted.proofs.planned.planned_target.Tie as tie
 
 passed-over-requires : tie.Need-passed-over-requires
 passed-over-requires c κs = search needs

@@ -7,8 +7,8 @@ use mir.Val.{SFits}
 use mir.Facts.{toZ-ofZ}
 use Rattle.call_lists.proofs.Lists.{below-one}
 use Rattle.wanted.specs.Plan.{plannedClose}
-use Rattle.wanted.proofs.plan.planned_close.Statement.{statement}
-use Rattle.wanted.proofs.plan.planned_close.Tie as tie
+use Rattle.wanted.proofs.planned.planned_close.Statement.{statement}
+use Rattle.wanted.proofs.planned.planned_close.Tie as tie
 
 passed-over-requires : tie.Need-passed-over-requires
 passed-over-requires c κs = search needs

@@ -5,8 +5,8 @@ use mir.Syntax.{w64}
 use mir.Val.{SFits}
 use mir.Facts.{toZ-ofZ}
 use Rattle.wanted.specs.Plan.{gapOf}
-use Rattle.wanted.proofs.plan.gap_of.Statement.{statement}
-use Rattle.wanted.proofs.plan.gap_of.Tie as tie
+use Rattle.wanted.proofs.planned.gap_of.Statement.{statement}
+use Rattle.wanted.proofs.planned.gap_of.Tie as tie
 
 i64-to-f64-requires : tie.Need-i64-to-f64-requires
 i64-to-f64-requires c κs = search needs
