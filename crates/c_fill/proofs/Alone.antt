@@ -22,7 +22,7 @@ use Rattle.table.specs.Inner.Rows.{CountedCols, countedCols, Ordered, posted, h
 use Rattle.table.proofs.Keyed.{both-true}
 use Rattle.table.proofs.Posting.{held-is-holding, posted-puts}
 use Rattle.fills.specs.declared.fill.Filled.{Filled}
-use Rattle.fills.specs.declared.order.Book.{Book}
+use Rattle.fills.specs.declared.terms.Book.{Book}
 use Rattle.fills.specs.Records.{allWords, allInts, fronted, buffers, stored}
 use Rattle.fills.specs.Fill.{fill}
 use Rattle.fills.specs.Inner.Runs.{recordsOf, Fills}

@@ -18,8 +18,8 @@ use Rattle.cost_model.specs.Costs.{goodCosts}
 use Rattle.call_lists.specs.Checks.{unless}
 use Rattle.table.specs.Keyed.{pick, both}
 use Rattle.table.specs.Rows.{holding}
-use Rattle.fills.specs.declared.order.Order.{Order}
-use Rattle.fills.specs.declared.order.Terms.{Terms}
+use Rattle.fills.specs.declared.terms.Order.{Order}
+use Rattle.fills.specs.declared.terms.Terms.{Terms}
 use Rattle.fills.specs.declared.record.ExecutionRecord.{ExecutionRecord}
 use Rattle.fills.specs.Orders.{State, order}
 use Rattle.fills.specs.Records.{kindOf, goodKind, allWords, allInts, fronted}

@@ -13,7 +13,7 @@ use Rattle.cost_model.specs.Costs.{cost, model, zero, free}
 use Rattle.sizing.specs.Sizing.{sized, drift}
 use Rattle.sizing.specs.Afford.{need}
 use Rattle.table.specs.Rows.{holding}
-use Rattle.fills.specs.declared.order.Terms.{Terms}
+use Rattle.fills.specs.declared.terms.Terms.{Terms}
 use Rattle.fills.specs.declared.record.ExecutionKind.the-variants.{Rebalance}
 use Rattle.fills.specs.Orders.{State, cashOnly, order}
 use Rattle.fills.specs.Fill.{fill, fillAll}

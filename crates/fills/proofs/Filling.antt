@@ -24,9 +24,9 @@ use Rattle.table.proofs.Keyed.{seek-key}
 use Rattle.table.proofs.Posting.{held-is-holding, posted-puts}
 use Rattle.fills.specs.declared.deal.Deal.{Deal}
 use Rattle.fills.specs.declared.fill.Filled.{Filled}
-use Rattle.fills.specs.declared.order.Book.{Book}
-use Rattle.fills.specs.declared.order.Order.{Order}
-use Rattle.fills.specs.declared.order.Terms.{Terms}
+use Rattle.fills.specs.declared.terms.Book.{Book}
+use Rattle.fills.specs.declared.terms.Order.{Order}
+use Rattle.fills.specs.declared.terms.Terms.{Terms}
 use Rattle.fills.specs.declared.record.ExecutionRecord.{ExecutionRecord}
 use Rattle.fills.specs.Orders.{State, buys, paid}
 use Rattle.fills.specs.Records.{recordOf}

@@ -7,8 +7,8 @@ use lib.Signed.{ltZ}
 use Rattle.position.specs.declared.position.Position.{Position}
 use Rattle.position.specs.Rows.{shares, symbol}
 use Rattle.cost_model.specs.Costs.{effective}
-use Rattle.fills.specs.declared.order.Order.{Order}
-use Rattle.fills.specs.declared.order.Terms.{Terms}
+use Rattle.fills.specs.declared.terms.Order.{Order}
+use Rattle.fills.specs.declared.terms.Terms.{Terms}
 use Rattle.fills.specs.declared.record.ExecutionRecord.{ExecutionRecord}
 
 -- what fills change: cash, the positions in symbol order, the two trim counters, the running record count, and the records made

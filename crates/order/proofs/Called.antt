@@ -32,7 +32,7 @@ use Rattle.portfolio.specs.Answers.{hasRoom, notHeld, rebalanceAnswer}
 use Rattle.portfolio.specs.Rebalance.{admittedPlan}
 use Rattle.order.specs.Running.{swap, total}
 use Rattle.order.specs.Statement.{cashRaised, allWhole}
-use Rattle.fills.specs.declared.order.Order.{Order}
+use Rattle.fills.specs.declared.terms.Order.{Order}
 use Rattle.order.specs.Examples.{sell}
 use Rattle.order.specs.CashFirst.{Call, InCashFirst, FillsAll, left, begins, terms}
 use Rattle.order.proofs.CashFirst.{carries-demand-3}

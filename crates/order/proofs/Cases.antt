@@ -15,7 +15,7 @@ use Rattle.cost_model.specs.Costs.{cost, commission, atLeast, uncapped, atMost,
 use Rattle.sizing.specs.Sizing.{above}
 use Rattle.sizing.specs.Afford.{need, fits, largest, affordable}
 use Rattle.sizing.specs.Cash.{cashTaken, cashChange}
-use Rattle.fills.specs.declared.order.Terms.{Terms}
+use Rattle.fills.specs.declared.terms.Terms.{Terms}
 use Rattle.fills.specs.Orders.{cashOnly, paid}
 use Rattle.fills.specs.Fill.{fillsWhole, made, counted, settled, trimmedFill, fill, fillAll}
 use Rattle.admission.specs.Running.{parted}

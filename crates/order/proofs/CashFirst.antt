@@ -4,7 +4,7 @@ use mathlib.Core.Bool.{Bool, true, false, not}
 use mathlib.Core.Path.{_≡_, refl, sym, ap, _∙_, subst}
 use Rattle.table.specs.Keyed.{pick}
 use Rattle.account.specs.declared.account.Account.{Account}
-use Rattle.fills.specs.declared.order.Order.{Order}
+use Rattle.fills.specs.declared.terms.Order.{Order}
 use Rattle.fills.specs.Fill.{fillAll}
 use Rattle.call_lists.specs.Lists.{priceOf}
 use Rattle.wanted.specs.declared.planned.PlannedOrder.{PlannedOrder}

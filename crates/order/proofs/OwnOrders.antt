@@ -35,7 +35,7 @@ use Rattle.admission.specs.Admission.{notionalOf, insertBy, reached, added, add
 use Rattle.admission.specs.Inner.Kept.{Each, Start, none, last, more}
 use Rattle.admission.specs.Running.{planOf}
 use Rattle.admission.proofs.Kept.{wanted-all, added-keeps, addedAll-all, admitted-is-start}
-use Rattle.fills.specs.declared.order.Order.{Order}
+use Rattle.fills.specs.declared.terms.Order.{Order}
 use Rattle.portfolio.specs.Answers.{isDone, notHeld, rebalanceAnswer}
 use Rattle.portfolio.specs.Rebalance.{orderOf, admittedPlan}
 use Rattle.portfolio.proofs.Refusals.{rebalance-done}

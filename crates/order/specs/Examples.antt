@@ -9,8 +9,8 @@ use lib.Ieee.{fin}
 use Rattle.position.specs.declared.position.Position.{Position}
 use Rattle.position.specs.Rows.{fresh, keyOf, realized}
 use Rattle.cost_model.specs.Costs as Costs
-use Rattle.fills.specs.declared.order.Order.{Order}
-use Rattle.fills.specs.declared.order.Terms.{Terms}
+use Rattle.fills.specs.declared.terms.Order.{Order}
+use Rattle.fills.specs.declared.terms.Terms.{Terms}
 use Rattle.fills.specs.declared.record.ExecutionKind.the-variants.{Rebalance}
 use Rattle.fills.specs.Orders.{State, cashOnly, order}
 use Rattle.fills.specs.Fill.{fillAll}

@@ -21,7 +21,7 @@ use Rattle.table.proofs.Keyed.{by-test, both-true, rising-ascends}
 use Rattle.table.proofs.Zipped.{keys-of}
 use Rattle.call_lists.specs.Lists.{allGood, priceOf}
 use Rattle.call_lists.proofs.Prices.{price-fits}
-use Rattle.fills.specs.declared.order.Order.{Order}
+use Rattle.fills.specs.declared.terms.Order.{Order}
 use Rattle.fills.specs.declared.record.ExecutionKind.{ExecutionKind}
 use Rattle.fills.specs.Orders.{State}
 use Rattle.fills.specs.Fill.{fillAll}

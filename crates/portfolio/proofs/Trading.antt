@@ -10,8 +10,8 @@ use lib.IntN.{ℤ, pos}
 use borrow.Author.Tests.{leb-true}
 use Rattle.answer.specs.declared.Answer.the-variants.{Done}
 use Rattle.table.specs.Rows.{Cols, holding}
-use Rattle.fills.specs.declared.order.Book.{Book}
-use Rattle.fills.specs.declared.order.Order.{Order}
+use Rattle.fills.specs.declared.terms.Book.{Book}
+use Rattle.fills.specs.declared.terms.Order.{Order}
 use Rattle.fills.specs.declared.record.ExecutionKind.{ExecutionKind}
 use Rattle.fills.specs.declared.record.ExecutionRecord.{ExecutionRecord}
 use Rattle.fills.specs.Records.{Buffers, buffers, allWords, allInts, fronted}

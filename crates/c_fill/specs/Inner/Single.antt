@@ -9,7 +9,7 @@ use Rattle.table.specs.declared.found.Found.the-variants.{Absent}
 use Rattle.table.specs.Keyed.{pick}
 use Rattle.table.specs.Rows.{Cols, holding}
 use Rattle.table.specs.Inner.Rows.{CountedCols, countedCols, posted}
-use Rattle.fills.specs.declared.order.Book.{Book}
+use Rattle.fills.specs.declared.terms.Book.{Book}
 use Rattle.fills.specs.declared.record.ExecutionRecord.{ExecutionRecord}
 use Rattle.fills.specs.Orders.{State}
 use Rattle.fills.specs.Inner.Runs.{recordsOf}

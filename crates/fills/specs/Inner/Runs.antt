@@ -12,9 +12,9 @@ use Rattle.table.specs.Rows.{zip2, give, Cols, rows}
 use Rattle.table.specs.Inner.Rows.{Ordered}
 use Rattle.fills.specs.declared.deal.Deal.{Deal}
 use Rattle.fills.specs.declared.fill.Filled.{Filled}
-use Rattle.fills.specs.declared.order.Book.{Book}
-use Rattle.fills.specs.declared.order.Order.{Order}
-use Rattle.fills.specs.declared.order.Terms.{Terms}
+use Rattle.fills.specs.declared.terms.Book.{Book}
+use Rattle.fills.specs.declared.terms.Order.{Order}
+use Rattle.fills.specs.declared.terms.Terms.{Terms}
 use Rattle.fills.specs.declared.record.ExecutionRecord.{ExecutionRecord}
 use Rattle.fills.specs.Orders.{State, order, nextCount}
 use Rattle.fills.specs.Records.{Buffers, storedAll}

@@ -4,8 +4,8 @@ use mathlib.Core.Bool.{Bool, true, false}
 use borrow.Author.Needs.{needs}
 use borrow.Author.Tests.{lt-leb, le-leb}
 use Rattle.table.specs.Rows.{ordered}
-use Rattle.table.proofs.order.is_ordered.Statement.{statement}
-use Rattle.table.proofs.order.is_ordered.Tie as tie
+use Rattle.table.proofs.ordered.is_ordered.Statement.{statement}
+use Rattle.table.proofs.ordered.is_ordered.Tie as tie
 
 returns : tie.Need-returns
 unfolding ordered

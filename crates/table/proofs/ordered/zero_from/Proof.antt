@@ -11,8 +11,8 @@ use Rattle.position.proofs.Counts.{zero-bits}
 use Rattle.table.specs.Keyed.{both}
 use Rattle.table.specs.Rows.{isZero, zerosZ}
 use Rattle.table.proofs.Ordering.{all-on, all-end}
-use Rattle.table.proofs.order.zero_from.Statement.{statement}
-use Rattle.table.proofs.order.zero_from.Tie as tie
+use Rattle.table.proofs.ordered.zero_from.Statement.{statement}
+use Rattle.table.proofs.ordered.zero_from.Tie as tie
 
 abbrev Inv-loop : tie.InvT-loop
 Inv-loop numbers n none₀ i₀ none i = both none (zerosZ (drop i numbers)) ≡ zerosZ (drop n numbers)

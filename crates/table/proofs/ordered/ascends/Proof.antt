@@ -10,8 +10,8 @@ use borrow.Author.Needs.{needs}
 use Rattle.table.specs.Keyed.{ascending}
 use Rattle.table.proofs.Keyed.{ascending-on, ascending-not, ascending-end}
 use Rattle.table.proofs.Places.{in-use, used-within, used-same}
-use Rattle.table.proofs.order.ascends.Statement.{statement}
-use Rattle.table.proofs.order.ascends.Tie as tie
+use Rattle.table.proofs.ordered.ascends.Statement.{statement}
+use Rattle.table.proofs.ordered.ascends.Tie as tie
 
 abbrev Inv-loop : tie.InvT-loop
 Inv-loop keys n m i₀ i = (i ≤ m) × (ascending (drop i (take m keys)) ≡ ascending (take m keys))

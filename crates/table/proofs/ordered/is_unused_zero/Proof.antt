@@ -1,8 +1,8 @@
 -- Each column's test is one of the five.
 use Rattle.table.specs.Rows.{unused}
 use borrow.Author.Needs.{needs}
-use Rattle.table.proofs.order.is_unused_zero.Statement.{statement}
-use Rattle.table.proofs.order.is_unused_zero.Tie as tie
+use Rattle.table.proofs.ordered.is_unused_zero.Statement.{statement}
+use Rattle.table.proofs.ordered.is_unused_zero.Tie as tie
 
 no-symbol-from-requires : tie.Need-no-symbol-from-requires
 no-symbol-from-requires c κs = search needs

@@ -7,8 +7,8 @@ use lib.Dec.{eqb}
 use Rattle.table.specs.Keyed.{both}
 use Rattle.table.specs.Rows.{zeros}
 use Rattle.table.proofs.Ordering.{all-on, all-end}
-use Rattle.table.proofs.order.no_symbol_from.Statement.{statement}
-use Rattle.table.proofs.order.no_symbol_from.Tie as tie
+use Rattle.table.proofs.ordered.no_symbol_from.Statement.{statement}
+use Rattle.table.proofs.ordered.no_symbol_from.Tie as tie
 
 abbrev Inv-loop : tie.InvT-loop
 Inv-loop symbols n none₀ i₀ none i = both none (zeros (drop i symbols)) ≡ zeros (drop n symbols)
