@@ -30,7 +30,7 @@ fn is_room(figures: usize, weights: usize) -> bool
     }
 }
 
-fn snapshot_at(p: Prices, a: Account) -> Snapshot
+fn snapshot_at_prices(p: Prices, a: Account) -> Snapshot
     requires { ⌜ p .count ≤ 128 ⌝ }
     ensures { λ r. ⌜ r ≡ toldSnapshot a (take (p .count) (p .symbol)) (take (p .count) (p .price)) ⌝ }
 {
@@ -82,6 +82,6 @@ pub extern "C" fn tc_snapshot(
     if !is_done(answer) {
         return answer::number(answer);
     }
-    let s = snapshot_at(p, a);
+    let s = snapshot_at_prices(p, a);
     put_snapshot(s, figures, weights)
 }

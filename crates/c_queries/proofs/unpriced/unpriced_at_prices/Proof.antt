@@ -1,8 +1,8 @@
 -- As many prices as were read are lent.
 use borrow.Author.Needs.{needs}
 use Rattle.c_queries.proofs.Asking.{LentPrices, lent}
-use Rattle.c_queries.proofs.unpriced.unpriced_at.Statement.{statement}
-use Rattle.c_queries.proofs.unpriced.unpriced_at.Tie as tie
+use Rattle.c_queries.proofs.unpriced.unpriced_at_prices.Statement.{statement}
+use Rattle.c_queries.proofs.unpriced.unpriced_at_prices.Tie as tie
 
 lent-at : (s : tie.Start) → LentPrices (s .args .p)
 lent-at s = lent (s .args .p) (search needs) (search needs) (s .pre)
@@ -25,8 +25,8 @@ unpriced-holding-requires c κs = search needs
 returns : tie.Need-returns
 returns c = search needs
 
-pub unpriced-at-spec : {M : Type 1} → statement M
-unpriced-at-spec =
+pub unpriced-at-prices-spec : {M : Type 1} → statement M
+unpriced-at-prices-spec =
     tie.close
     (tie.spec
     array-share-prefix-symbol

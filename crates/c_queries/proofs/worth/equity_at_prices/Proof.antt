@@ -1,8 +1,8 @@
 -- As many prices as were read are lent.
 use borrow.Author.Needs.{needs}
 use Rattle.c_queries.proofs.Asking.{LentPrices, lent}
-use Rattle.c_queries.proofs.worth.equity_at.Statement.{statement}
-use Rattle.c_queries.proofs.worth.equity_at.Tie as tie
+use Rattle.c_queries.proofs.worth.equity_at_prices.Statement.{statement}
+use Rattle.c_queries.proofs.worth.equity_at_prices.Tie as tie
 
 lent-at : (s : tie.Start) → LentPrices (s .args .p)
 lent-at s = lent (s .args .p) (search needs) (search needs) (s .pre)
@@ -25,8 +25,8 @@ total-equity-requires c κs = search needs
 returns : tie.Need-returns
 returns c = search needs
 
-pub equity-at-spec : {M : Type 1} → statement M
-equity-at-spec =
+pub equity-at-prices-spec : {M : Type 1} → statement M
+equity-at-prices-spec =
     tie.close
     (tie.spec
     array-share-prefix-symbol
