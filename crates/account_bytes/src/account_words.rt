@@ -5,7 +5,7 @@ ghost use Rattle.word_bytes.specs.Words.{wordsOf};
 ghost use Rattle.table.specs.Rows.{cols};
 ghost use Rattle.account.specs.Inner.Account.{accountWith, ledgerOf};
 ghost use Rattle.account_bytes.specs.Sizes.{accountLength};
-ghost use Rattle.account_bytes.specs.Account.{countWords, countersOf, spareCounters, seriesOf, accountOf, readAccount, accountIn, writtenAccount, writtenSeries};
+ghost use Rattle.account_bytes.specs.Account.{counterWords, seriesWords, countersOf, spareCounters, seriesOf, accountOf, readAccount, accountIn, writtenAccount, writtenSeries};
 use crate::columns::put_columns;
 use crate::columns::read_columns;
 use crate::run::number_at;
@@ -19,8 +19,8 @@ use crate::sizes::ACCOUNT_BYTES;
 use crate::sizes::CASH_AT;
 use crate::sizes::CLOSED_TOTAL_AT;
 use crate::sizes::COUNT_AT;
+use crate::sizes::COUNTER_WORDS;
 use crate::sizes::COUNTERS_AT;
-use crate::sizes::COUNTS_WORDS;
 use crate::sizes::EQUITY_COUNT_AT;
 use crate::sizes::LAST_NOTIONAL_AT;
 use crate::sizes::OPEN_COUNT_AT;
@@ -29,6 +29,7 @@ use crate::sizes::PREV_EQUITY_AT;
 use crate::sizes::RECORD_COUNT_AT;
 use crate::sizes::RETURN_COUNT_AT;
 use crate::sizes::SERIES_AT;
+use crate::sizes::SERIES_WORDS;
 use crate::sizes::SETTINGS_AT;
 use crate::sizes::SHORTFALL_AT;
 use crate::sizes::TRIMMED_COUNT_AT;
@@ -134,9 +135,9 @@ fn account_of(bytes: &[u8]) -> Account
     }
 }
 
-// Counters, series and the count of positions.
-fn count_words(k: Counters, s: Series, n: usize) -> [u64; COUNTS_WORDS]
-    ensures { λ r. ⌜ r ≡ countWords k s n ⌝ }
+// The words of counters, 0 where none stands.
+pub fn counter_words(k: Counters) -> [u64; COUNTER_WORDS]
+    ensures { λ r. ⌜ r ≡ counterWords k ⌝ }
 {
     [
         k.last_rebalance_order_count,
@@ -146,11 +147,14 @@ fn count_words(k: Counters, s: Series, n: usize) -> [u64; COUNTS_WORDS]
         k.record_count,
         0,
         0,
-        s.equity_count,
-        s.return_count,
-        unsigned(s.prev_equity),
-        n as u64,
     ]
+}
+
+// The words of a series.
+pub fn series_words(s: Series) -> [u64; SERIES_WORDS]
+    ensures { λ r. ⌜ r ≡ seriesWords s ⌝ }
+{
+    [s.equity_count, s.return_count, unsigned(s.prev_equity)]
 }
 
 // Whether bytes hold an account: so many of them, with words of settings, and 0 where no counter stands.
@@ -206,8 +210,11 @@ pub fn write_ledger<'a>(
     put_word(bytes, CASH_AT, unsigned(h.cash));
     let settings = settings_words(h.settings);
     put_words(bytes, SETTINGS_AT, &settings[..]);
-    let counts = count_words(h.counters, h.series, h.count);
-    put_words(bytes, COUNTERS_AT, &counts[..]);
+    let counters = counter_words(h.counters);
+    put_words(bytes, COUNTERS_AT, &counters[..]);
+    let series = series_words(h.series);
+    put_words(bytes, SERIES_AT, &series[..]);
+    put_word(bytes, COUNT_AT, h.count as u64);
     put_columns(bytes, symbol, quantity, average, realized, total);
 }
 
@@ -244,6 +251,6 @@ pub fn write_series(s: Series, bytes: &mut [u8])
     if !is_account(bytes) {
         return;
     }
-    let words = [s.equity_count, s.return_count, unsigned(s.prev_equity)];
+    let words = series_words(s);
     put_words(bytes, SERIES_AT, &words[..]);
 }

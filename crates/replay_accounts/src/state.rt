@@ -196,7 +196,8 @@ fn flag(on: bool) -> u64 {
 fn same_cap(told: &[u8], cap: TradeCap) -> bool {
     match cap {
         TradeCap::Absent => word_at(told, CAP_MARK_AT) == 0,
-        TradeCap::AtMost(most) => word_at(told, CAP_MARK_AT) == 1 && word_at(told, CAP_COUNT_AT) == most,
+        TradeCap::AtMost(most) => word_at(told, CAP_MARK_AT) == 1
+            && word_at(told, CAP_COUNT_AT) == most,
     }
 }
 

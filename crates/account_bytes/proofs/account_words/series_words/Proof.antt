@@ -2,9 +2,9 @@
 use mir.Val.{SFits}
 use mir.Syntax.{w64}
 use borrow.Author.Needs.{needs}
 use Rattle.account_bytes.proofs.Runs.{stored}
-use Rattle.c_accounts.proofs.query.series_words.Statement.{statement}
-use Rattle.c_accounts.proofs.query.series_words.Tie as tie
+use Rattle.account_bytes.proofs.account_words.series_words.Statement.{statement}
+use Rattle.account_bytes.proofs.account_words.series_words.Tie as tie
 
 equity-fits : (s : tie.Start) → SFits w64 (s .args .s .«prev_equity»)
 equity-fits s = search needs
