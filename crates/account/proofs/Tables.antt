@@ -11,12 +11,12 @@ use Rattle.position.specs.Rows.{row, fresh, keyOf, held, avg, realized, total}
 use Rattle.position.specs.declared.position.Position.{Position}
 use Rattle.table.specs.Keyed.{ascending}
 use Rattle.table.specs.Inner.Keyed.{Rising}
-use Rattle.table.specs.Rows.{zip2, give, Cols, cols, columnsOf, zipped, rows, Full}
+use Rattle.table.specs.Rows.{zip2, give, paddedColumn, Cols, cols, columnsOf, zipped, rows, Full}
 use Rattle.table.specs.Inner.Rows.{Ordered}
 use Rattle.table.specs.declared.table.Table.{Table}
 use Rattle.table.proofs.Keyed.{ascending-rises}
 use Rattle.table.proofs.Zipped.{map-take, symbols-of, quantities-of, averages-of, realized-of, totals-of}
-use Rattle.account.specs.Account.{soundColumns, soundTable, heldIn, paddedColumn, tableOf}
+use Rattle.account.specs.Account.{soundColumns, soundTable, heldIn, tableOf}
 use Rattle.account.specs.Inner.Account.{tableWith}
 use Rattle.account.proofs.Columns.{allSound, rows-length, sound-orders, orders-sound}
 
@@ -44,7 +44,7 @@ map-same (p ∷ ps) = ap (λ l. p ∷ l) (map-same ps)
 -- ---- from columns to a list and back
 -- "Unused places are zero, so equal views are equal accounts"
 module _ (n : ℕ) (c : Cols) (o : Ordered n c) where
-  column : {A : Type 0} (g : Position → A) (l : List A) → map g (zipped c) ≡ l → paddedColumn (g (fresh 0)) (map g (rows n c)) ≡ l
+  column : {A : Type 0} (g : Position → A) (l : List A) → map g (zipped c) ≡ l → paddedColumn 64 (g (fresh 0)) (map g (rows n c)) ≡ l
   column g l e =
       let used : length (map g (rows n c)) ≡ n = length-map (rows n c) g ∙ rows-length c (o .full) n (o .small) in
       let front : map g (rows n c) ≡ take n l = map-take g n (zipped c) ∙ ap (take n) e in
@@ -69,7 +69,7 @@ pub equal-tables : (t u : Table) → Full (columnsOf t) → Full (columnsOf u) �
 equal-tables t u f g a b e = sym (held-table t f a) ∙ ap tableOf e ∙ held-table u g b
 
 -- ---- from a list to columns and back
-padded-length : {A P : Type 0} (z : A) (g : P → A) (ps : List P) → length ps ≤ 64 → length (paddedColumn z (map g ps)) ≡ 64
+padded-length : {A P : Type 0} (z : A) (g : P → A) (ps : List P) → length ps ≤ 64 → length (paddedColumn 64 z (map g ps)) ≡ 64
 padded-length z g ps h = simp (length-append, length-replicate, length-map) (omega arith)
 
 module _ (ps : List Position) (h : length ps ≤ 64) where

@@ -1,15 +1,15 @@
 -- When an account is sound, and the table that holds a list of positions.
-use Prim.Native.Nat.{ℕ, zero, suc, _-_}
+use Prim.Native.Nat.{ℕ, zero, suc}
 use mathlib.Core.Bool.{Bool, true}
-use mathlib.Core.List.{List, _++_, map}
-use lib.ListN.{length, replicate}
+use mathlib.Core.List.{List, map}
+use lib.ListN.{length}
 use lib.IntN.{ℤ, pos}
 use Rattle.position.specs.declared.position.Position.{Position}
 use Rattle.position.specs.Rows.{keyOf, held, avg, realized, total}
 use Rattle.position.specs.Fills.{sound}
 use Rattle.table.specs.declared.table.Table.{Table}
 use Rattle.table.specs.Keyed.{both}
-use Rattle.table.specs.Rows.{Cols, columnsOf, rows, rowAt, ordered}
+use Rattle.table.specs.Rows.{Cols, columnsOf, rows, rowAt, ordered, paddedColumn}
 use Rattle.account.specs.declared.settings.Settings.{Settings}
 use Rattle.account.specs.declared.account.Account.{Account}
 use Rattle.account.specs.declared.account.Series.{Series}
@@ -39,19 +39,15 @@ soundScalars cash s = both (isAtLeast 0 cash) (goodSettings s)
 unfoldable pub soundAccount : Account → Bool
 soundAccount a = both (soundScalars (a .cash) (a .settings)) (soundTable (a .positions))
 
--- ---- the table that holds a list of positions
--- a column with "unused places zero"
-abbrev pub paddedColumn : {A : Type 0} → A → List A → List A
-paddedColumn z l = l ++ replicate (64 - length l) z
-
+-- ---- the table that holds a list of positions, "unused places zero"
 unfoldable pub tableOf : List Position → Table
 tableOf ps = record {
   count = length ps;
-  symbol = paddedColumn 0 (map keyOf ps);
-  quantity = paddedColumn (pos 0) (map held ps);
-  «avg_entry_price» = paddedColumn (pos 0) (map avg ps);
-  «realized_pnl» = paddedColumn (pos 0) (map realized ps);
-  «total_cost» = paddedColumn (pos 0) (map total ps);
+  symbol = paddedColumn 64 0 (map keyOf ps);
+  quantity = paddedColumn 64 (pos 0) (map held ps);
+  «avg_entry_price» = paddedColumn 64 (pos 0) (map avg ps);
+  «realized_pnl» = paddedColumn 64 (pos 0) (map realized ps);
+  «total_cost» = paddedColumn 64 (pos 0) (map total ps);
 }
 
 -- ---- one field changed

@@ -6,7 +6,8 @@ use mathlib.Core.Option.{Option, none, some}
 use lib.Dec.{ltb}
 use lib.ListN.{length, getD, set}
 use lib.IntN.{ℤ, pos}
-use lib.Ieee.{Float, fin}
+use lib.Ieee.{Float}
+use Rattle.doubles.specs.Doubles.{zero}
 use Rattle.answer.specs.declared.Answer.{Answer}
 use Rattle.answer.specs.declared.Answer.the-variants.{Done, BadSetting, BadSymbol, BufferFull, Unsound}
 use Rattle.cost_model.specs.declared.CostModel.{CostModel}
@@ -97,7 +98,7 @@ unfoldable pub toldCount : Bool → ℕ → Count
 toldCount sound n = pick sound (record { answer = Done; count = n }) (record { answer = Unsound; count = 0 })
 
 unfoldable pub toldRate : Bool → Float → Rate
-toldRate sound x = pick sound (record { answer = Done; bps = x }) (record { answer = Unsound; bps = fin false 0 (pos 0) })
+toldRate sound x = pick sound (record { answer = Done; bps = x }) (record { answer = Unsound; bps = zero })
 
 unfoldable pub toldFlag : Bool → Bool → Flag
 toldFlag sound on = pick sound (record { answer = Done; on = on }) (record { answer = Unsound; on = false })

@@ -3,7 +3,8 @@ use Prim.Native.Nat.{ℕ}
 use mathlib.Core.Bool.{Bool, true, false}
 use lib.IntN.{ℤ, pos}
 use lib.Signed.{leZ}
-use lib.Ieee.{Float, fin}
+use lib.Ieee.{Float}
+use Rattle.doubles.specs.Doubles.{zero}
 use Rattle.table.specs.Keyed.{both}
 use Rattle.cost_model.specs.declared.CostModel.{CostModel}
 use Rattle.cost_model.specs.Costs.{free, goodRate, goodCosts}
@@ -56,7 +57,7 @@ ofCosts m = record { «cost_model» = m }
 
 -- what an account opens with: no limits, no cap, no recording, orders as planned
 abbrev pub openingSettings : Rules → ℤ → Settings
-openingSettings r step = settings r step (pos 0) (pos 0) (fin false 0 (pos 0)) Absent (pos 0) false false
+openingSettings r step = settings r step (pos 0) (pos 0) zero Absent (pos 0) false false
 
 -- "all zeros": those of a refused opening
 abbrev pub zeroSettings : Settings

@@ -20,7 +20,8 @@ fn sound_positions<'a>(
     n: usize,
 ) -> bool
     requires { ⌜ n ≤ 64 ⌝ }
-    ensures { λ r. ⌜ r ≡ soundPlaces n (cols (now (symbol .entry)) (now (quantity .entry)) (now (average .entry)) (now (realized .entry)) (now (total .entry))) ⌝ }
+    ensures { λ r. ⌜ (let c = cols (now (symbol .entry)) (now (quantity .entry)) (now (average .entry)) (now (realized .entry)) (now (total .entry)) in
+        r ≡ soundPlaces n c) ⌝ }
 {
     let mut i = 0usize;
     while i < n {
@@ -42,7 +43,8 @@ pub fn sound_columns<'a>(
     total: &'a [i64; 64],
     n: usize,
 ) -> bool
-    ensures { λ r. ⌜ r ≡ soundColumns n (cols (now (symbol .entry)) (now (quantity .entry)) (now (average .entry)) (now (realized .entry)) (now (total .entry))) ⌝ }
+    ensures { λ r. ⌜ (let c = cols (now (symbol .entry)) (now (quantity .entry)) (now (average .entry)) (now (realized .entry)) (now (total .entry)) in
+        r ≡ soundColumns n c) ⌝ }
 {
     if !is_ordered(symbol, quantity, average, realized, total, n) {
         return false;
@@ -69,7 +71,8 @@ pub fn sound_account<'a>(
     realized: &'a [i64; 64],
     total: &'a [i64; 64],
 ) -> bool
-    ensures { λ r. ⌜ r ≡ soundAccount (accountWith h (cols (now (symbol .entry)) (now (quantity .entry)) (now (average .entry)) (now (realized .entry)) (now (total .entry)))) ⌝ }
+    ensures { λ r. ⌜ (let c = cols (now (symbol .entry)) (now (quantity .entry)) (now (average .entry)) (now (realized .entry)) (now (total .entry)) in
+        r ≡ soundAccount (accountWith h c)) ⌝ }
 {
     if !sound_scalars(h.cash, h.settings) {
         return false;

@@ -2,7 +2,7 @@
 use mathlib.Core.Path.{_≡_, refl, sym, _∙_, ap}
 use Prim.Native.Nat.{ℕ, _*_, _/_}
 use native.Mathlib.Omega.{arith}
-use mathlib.Core.List.{List, _++_, map}
+use mathlib.Core.List.{List, [], _∷_, _++_, map}
 use lib.ListN.{length, set, length-append, length-map}
 use lib.Seq.{sets}
 use Rattle.table.specs.Rows.{Cols, Full, columnsOf}
@@ -14,9 +14,9 @@ use Rattle.account.specs.declared.account.Series.{Series}
 use Rattle.word_bytes.specs.Words.{wordsIn, wordsOf, bytesOf, turned}
 use Rattle.word_bytes.specs.Numbers.{unsignedOf}
 use Rattle.word_bytes.proofs.Words.{Octets, bytes-words}
-use Rattle.account_bytes.specs.Sizes.{settingsSize, settingsFrom, countersFrom, countsSize, columnSize, symbolsFrom, quantitiesFrom, averagesFrom, realizedFrom, totalsFrom, accountSize}
+use Rattle.account_bytes.specs.Sizes.{settingsSize, settingsFrom, countersFrom, seriesFrom, countAt, countsSize, columnSize, symbolsFrom, quantitiesFrom, averagesFrom, realizedFrom, totalsFrom, accountSize}
 use Rattle.account_bytes.specs.Settings.{settingsWords}
-use Rattle.account_bytes.specs.Account.{countWords, columnWords, accountWords}
+use Rattle.account_bytes.specs.Account.{counterWords, seriesWords, countWords, columnWords, accountWords}
 
 -- bytes that hold words and nothing else are the bytes of these words
 pub bytes-are : (n : ℕ) (l ws : List ℕ) → Octets l → length l ≡ 8 * n → wordsOf l ≡ ws → l ≡ bytesOf ws
@@ -60,6 +60,17 @@ length-settings s = refl
 pub length-counts : (k : Counters) (s : Series) (n : ℕ) → length (countWords k s n) ≡ countsSize
 unfolding countWords
 length-counts k s n = refl
+
+-- counters, series, count
+pub counts-put : (k : Counters) (s : Series) (n : ℕ) (w0 w1 w2 w3 : List ℕ)
+    → w1 ≡ sets w0 countersFrom (counterWords k)
+    → w2 ≡ sets w1 seriesFrom (seriesWords s)
+    → w3 ≡ set w2 countAt n
+    → w3 ≡ sets w0 countersFrom (countWords k s n)
+unfolding countWords
+counts-put k s n w0 w1 w2 w3 e1 e2 e3 =
+    let d : w3 ≡ sets w1 seriesFrom (seriesWords s ++ (n ∷ [])) = e3 ∙ ap (λ (w : List ℕ). set w countAt n) e2 ∙ sets-append w1 seriesFrom (seriesWords s) (n ∷ []) countAt refl in
+    d ∙ ap (λ (w : List ℕ). sets w seriesFrom (seriesWords s ++ (n ∷ []))) e1 ∙ sets-append w0 countersFrom (counterWords k) (seriesWords s ++ (n ∷ [])) seriesFrom refl
 
 pub length-account : (a : Account) → Full (columnsOf (a .positions)) → length (accountWords a) ≡ accountSize
 unfolding accountWords

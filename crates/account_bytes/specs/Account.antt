@@ -17,7 +17,7 @@ use Rattle.account.specs.Account.{soundAccount, withSeries}
 use Rattle.account.specs.Calls.{series, zeroAccount}
 use Rattle.account_bytes.specs.declared.account_words.ReadAccount.{ReadAccount}
 use Rattle.account_bytes.specs.Sizes.{cashAt, settingsFrom, orderCountAt, lastNotionalAt, trimmedCountAt, shortfallAt, recordCountAt, openCountAt, closedTotalAt, equityCountAt, returnCountAt, prevEquityAt, countAt, columnSize, symbolsFrom, quantitiesFrom, averagesFrom, realizedFrom, totalsFrom, accountLength}
-use Rattle.account_bytes.specs.Settings.{isZero, settingsWords, settingsAt, areSettings}
+use Rattle.account_bytes.specs.Settings.{isSpare, settingsWords, settingsAt, areSettings}
 
 -- ---- counters, with 0 where none stands; series; the count of positions
 abbrev pub counterWords : Counters → List ℕ
@@ -47,7 +47,7 @@ countersOf ws = record {
 }
 
 abbrev pub spareCounters : List ℕ → Bool
-spareCounters ws = both (isZero (getD ws openCountAt 0)) (isZero (getD ws closedTotalAt 0))
+spareCounters ws = both (isSpare (getD ws openCountAt 0)) (isSpare (getD ws closedTotalAt 0))
 
 abbrev pub seriesOf : List ℕ → Series
 seriesOf ws = series (getD ws equityCountAt 0) (getD ws returnCountAt 0) (signedOf (getD ws prevEquityAt 0))

@@ -33,8 +33,8 @@ abbrev pub isNumber : ℕ → Bool
 isNumber w = not (isNan (floatOf w))
 
 -- a word that stands for nothing
-abbrev pub isZero : ℕ → Bool
-isZero w = eqb w 0
+abbrev pub isSpare : ℕ → Bool
+isSpare w = eqb w 0
 
 -- ---- the trade cap: a mark, and the count, 0 where absent
 abbrev pub capMark : TradeCap → ℕ
@@ -113,8 +113,8 @@ areFlags from ws =
 
 abbrev pub spareSettings : ℕ → List ℕ → Bool
 spareSettings from ws =
-    both (isZero (getD ws (from + coverRuleAt) 0))
-    (isZero (getD ws (from + longOnlyAt) 0))
+    both (isSpare (getD ws (from + coverRuleAt) 0))
+    (isSpare (getD ws (from + longOnlyAt) 0))
 
 -- No rate a NaN, the count of an absent cap 0, marks and flags 0 or 1, and 0 where no setting stands. So no two runs of words hold the same settings.
 unfoldable pub areSettings : ℕ → List ℕ → Bool

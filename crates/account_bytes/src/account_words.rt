@@ -5,22 +5,22 @@ ghost use Rattle.word_bytes.specs.Words.{wordsOf};
 ghost use Rattle.table.specs.Rows.{cols};
 ghost use Rattle.account.specs.Inner.Account.{accountWith, ledgerOf};
 ghost use Rattle.account_bytes.specs.Sizes.{accountLength};
-ghost use Rattle.account_bytes.specs.Account.{countWords, countersOf, spareCounters, seriesOf, accountOf, readAccount, writtenAccount, writtenSeries};
+ghost use Rattle.account_bytes.specs.Account.{counterWords, seriesWords, countersOf, spareCounters, seriesOf, accountOf, readAccount, accountIn, writtenAccount, writtenSeries};
 use crate::columns::put_columns;
 use crate::columns::read_columns;
 use crate::run::number_at;
 use crate::run::put_words;
 use crate::setting_words::are_settings;
 use crate::setting_words::both;
-use crate::setting_words::is_zero;
+use crate::setting_words::is_spare;
 use crate::setting_words::settings_at;
 use crate::setting_words::settings_words;
 use crate::sizes::ACCOUNT_BYTES;
 use crate::sizes::CASH_AT;
 use crate::sizes::CLOSED_TOTAL_AT;
 use crate::sizes::COUNT_AT;
+use crate::sizes::COUNTER_WORDS;
 use crate::sizes::COUNTERS_AT;
-use crate::sizes::COUNTS_WORDS;
 use crate::sizes::EQUITY_COUNT_AT;
 use crate::sizes::LAST_NOTIONAL_AT;
 use crate::sizes::OPEN_COUNT_AT;
@@ -29,6 +29,7 @@ use crate::sizes::PREV_EQUITY_AT;
 use crate::sizes::RECORD_COUNT_AT;
 use crate::sizes::RETURN_COUNT_AT;
 use crate::sizes::SERIES_AT;
+use crate::sizes::SERIES_WORDS;
 use crate::sizes::SETTINGS_AT;
 use crate::sizes::SHORTFALL_AT;
 use crate::sizes::TRIMMED_COUNT_AT;
@@ -63,8 +64,8 @@ fn counters_of(bytes: &[u8]) -> Counters
 fn spare_counters(bytes: &[u8]) -> bool
     ensures { λ r. ⌜ r ≡ spareCounters (wordsOf (now (bytes .entry))) ⌝ }
 {
-    let open_count = is_zero(word_at(bytes, OPEN_COUNT_AT));
-    let closed_total = is_zero(word_at(bytes, CLOSED_TOTAL_AT));
+    let open_count = is_spare(word_at(bytes, OPEN_COUNT_AT));
+    let closed_total = is_spare(word_at(bytes, CLOSED_TOTAL_AT));
     both(open_count, closed_total)
 }
 
@@ -134,9 +135,9 @@ fn account_of(bytes: &[u8]) -> Account
     }
 }
 
-// Counters, series and the count of positions.
-fn count_words(k: Counters, s: Series, n: usize) -> [u64; COUNTS_WORDS]
-    ensures { λ r. ⌜ r ≡ countWords k s n ⌝ }
+// The words of counters, 0 where none stands.
+pub fn counter_words(k: Counters) -> [u64; COUNTER_WORDS]
+    ensures { λ r. ⌜ r ≡ counterWords k ⌝ }
 {
     [
         k.last_rebalance_order_count,
@@ -146,11 +147,14 @@ fn count_words(k: Counters, s: Series, n: usize) -> [u64; COUNTS_WORDS]
         k.record_count,
         0,
         0,
-        s.equity_count,
-        s.return_count,
-        unsigned(s.prev_equity),
-        n as u64,
     ]
+}
+
+// The words of a series.
+pub fn series_words(s: Series) -> [u64; SERIES_WORDS]
+    ensures { λ r. ⌜ r ≡ seriesWords s ⌝ }
+{
+    [s.equity_count, s.return_count, unsigned(s.prev_equity)]
 }
 
 // Whether bytes hold an account: so many of them, with words of settings, and 0 where no counter stands.
@@ -179,6 +183,14 @@ pub fn read_account(bytes: &[u8]) -> ReadAccount
     }
 }
 
+// The same without the mark. All zeros are no sound account, so every call on bytes that hold none answers 11.
+pub fn account_in(bytes: &[u8]) -> Account
+    ensures { λ r. ⌜ r ≡ accountIn (now (bytes .entry)) ⌝ }
+{
+    let r = read_account(bytes);
+    r.account
+}
+
 // The account of a ledger and five columns into its bytes. Nothing is written where the length is another.
 pub fn write_ledger<'a>(
     h: Ledger,
@@ -189,8 +201,8 @@ pub fn write_ledger<'a>(
     total: &'a [i64; 64],
     bytes: &mut [u8],
 )
-    ensures { λ _. ⌜ now (bytes .exit)
-        ≡ writtenAccount (accountWith h (cols (now (symbol .entry)) (now (quantity .entry)) (now (average .entry)) (now (realized .entry)) (now (total .entry)))) (now (bytes .entry)) ⌝ }
+    ensures { λ _. ⌜ (let c = cols (now (symbol .entry)) (now (quantity .entry)) (now (average .entry)) (now (realized .entry)) (now (total .entry)) in
+        now (bytes .exit) ≡ writtenAccount (accountWith h c) (now (bytes .entry))) ⌝ }
 {
     if bytes.len() != ACCOUNT_BYTES {
         return;
@@ -198,8 +210,11 @@ pub fn write_ledger<'a>(
     put_word(bytes, CASH_AT, unsigned(h.cash));
     let settings = settings_words(h.settings);
     put_words(bytes, SETTINGS_AT, &settings[..]);
-    let counts = count_words(h.counters, h.series, h.count);
-    put_words(bytes, COUNTERS_AT, &counts[..]);
+    let counters = counter_words(h.counters);
+    put_words(bytes, COUNTERS_AT, &counters[..]);
+    let series = series_words(h.series);
+    put_words(bytes, SERIES_AT, &series[..]);
+    put_word(bytes, COUNT_AT, h.count as u64);
     put_columns(bytes, symbol, quantity, average, realized, total);
 }
 
@@ -236,6 +251,6 @@ pub fn write_series(s: Series, bytes: &mut [u8])
     if !is_account(bytes) {
         return;
     }
-    let words = [s.equity_count, s.return_count, unsigned(s.prev_equity)];
+    let words = series_words(s);
     put_words(bytes, SERIES_AT, &words[..]);
 }

@@ -6,9 +6,12 @@ mod setting_words;
 mod sizes;
 
 pub use account_words::ReadAccount;
+pub use account_words::account_in;
+pub use account_words::counter_words;
 pub use account_words::is_account;
 pub use account_words::read_account;
 pub use account_words::read_ledger;
+pub use account_words::series_words;
 pub use account_words::write_account;
 pub use account_words::write_ledger;
 pub use account_words::write_series;

@@ -4,7 +4,7 @@ ghost use Prim.Native.Nat.{_+_, _≤_};
 ghost use Rattle.word_bytes.specs.Words.{wordsOf};
 ghost use Rattle.table.specs.Keyed.{both};
 ghost use Rattle.account_bytes.specs.Sizes.{settingsFrom};
-ghost use Rattle.account_bytes.specs.Settings.{flagWord, isFlag, isNumber, isZero, capMark, capCount, capOf, isCap, costsAt, settingsWords, settingsAt, areRates, areFlags, spareSettings, areSettings, readSettings, writtenSettings};
+ghost use Rattle.account_bytes.specs.Settings.{flagWord, isFlag, isNumber, isSpare, capMark, capCount, capOf, isCap, costsAt, settingsWords, settingsAt, areRates, areFlags, spareSettings, areSettings, readSettings, writtenSettings};
 use crate::run::number_at;
 use crate::run::put_words;
 use crate::run::rate_at;
@@ -60,8 +60,8 @@ fn is_number(w: u64) -> bool
 }
 
 // A word that stands for nothing is 0.
-pub(crate) fn is_zero(w: u64) -> bool
-    ensures { λ r. ⌜ r ≡ isZero w ⌝ }
+pub(crate) fn is_spare(w: u64) -> bool
+    ensures { λ r. ⌜ r ≡ isSpare w ⌝ }
 {
     w == 0
 }
@@ -132,8 +132,8 @@ fn spare_settings(bytes: &[u8], from: usize) -> bool
     requires { ⌜ from ≤ settingsFrom ⌝ }
     ensures { λ r. ⌜ r ≡ spareSettings from (wordsOf (now (bytes .entry))) ⌝ }
 {
-    let cover_rule = is_zero(word_at(bytes, from + COVER_RULE_AT));
-    let long_only = is_zero(word_at(bytes, from + LONG_ONLY_AT));
+    let cover_rule = is_spare(word_at(bytes, from + COVER_RULE_AT));
+    let long_only = is_spare(word_at(bytes, from + LONG_ONLY_AT));
     both(cover_rule, long_only)
 }
 

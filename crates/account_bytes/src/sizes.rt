@@ -73,8 +73,6 @@ pub const RETURN_COUNT_AT: usize = 24;
 pub const PREV_EQUITY_AT: usize = 25;
 
 pub const COUNT_AT: usize = 26;
-// Counters, series and count.
-pub const COUNTS_WORDS: usize = 11;
 
 pub const SYMBOLS_AT: usize = 27;
 

@@ -16,7 +16,7 @@ use Rattle.table.proofs.Places.{shorter-below}
 use Rattle.account.specs.declared.settings.Settings.{Settings}
 use Rattle.account.specs.declared.settings.TradeCap.{TradeCap}
 use Rattle.account.specs.declared.settings.TradeCap.the-variants.{Absent, AtMost}
-use Rattle.wanted.specs.declared.plan.PlannedOrder.{PlannedOrder}
+use Rattle.wanted.specs.declared.planned.PlannedOrder.{PlannedOrder}
 use Rattle.admission.specs.Admission.{capped, drawnBefore, insertBy, added, reached, notionalOf, admittedFrom, admitted}
 use Rattle.admission.specs.Inner.Admission.{mostIn, mostOf}
 use Rattle.admission.specs.Inner.Columns.{PlanCols, FullPlan, plans}

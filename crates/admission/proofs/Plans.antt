@@ -10,7 +10,7 @@ use lib.ListN.{length}
 use borrow.Author.Tests.{ltb-true, ltb-false}
 use Rattle.table.specs.Inner.Places.{shorter}
 pub use Rattle.table.proofs.Places.{shorter-same}
-use Rattle.wanted.specs.declared.plan.PlannedOrder.{PlannedOrder}
+use Rattle.wanted.specs.declared.planned.PlannedOrder.{PlannedOrder}
 use Rattle.admission.specs.Inner.Columns.{PlanCols, orderAt, from, plans, placeOf}
 
 -- ---- what stands from a place on

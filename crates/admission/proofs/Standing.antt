@@ -10,7 +10,7 @@ use Rattle.cost_model.specs.declared.CostModel.{CostModel}
 use Rattle.table.specs.Inner.Places.{shorter}
 use Rattle.table.proofs.Places.{shorter-within}
 use Rattle.account.specs.declared.settings.Settings.{Settings}
-use Rattle.wanted.specs.declared.plan.PlannedOrder.{PlannedOrder}
+use Rattle.wanted.specs.declared.planned.PlannedOrder.{PlannedOrder}
 use Rattle.admission.specs.Admission.{admitted}
 use Rattle.admission.specs.Inner.Columns.{PlanCols, FullPlan, orderAt, from, plans, CountedPlan, countedPlan, laidPlan}
 use Rattle.admission.specs.Inner.Offers.{cutPlan}

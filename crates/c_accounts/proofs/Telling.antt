@@ -23,7 +23,7 @@ use Rattle.account.specs.Calls.{absent, present, presentOr, positionOf, positio
 use Rattle.account_bytes.specs.Sizes.{settingsLength}
 use Rattle.account_bytes.specs.Settings.{settingsWords, writtenSettings}
 use Rattle.c_accounts.specs.Entries.{accountIn, settingsIn, soundIn, accountTold, answering}
-use Rattle.c_accounts.specs.Inner.Entries.{unlessUnsound}
+use Rattle.account.specs.Inner.Answers.{unlessUnsound}
 use Rattle.c_accounts.specs.Queries.{queried, heldWords, settingsTold}
 use Rattle.c_accounts.specs.Inner.Queries.{tellIn}
 use Rattle.account_bytes.proofs.Sound.{sound-in}

@@ -5,8 +5,8 @@ ghost use Rattle.account.specs.Settings.{withStep, withMinOrder, withMaxOrder, 
 ghost use Rattle.account_bytes.specs.Settings.{isFlag, flagOf, isCap, capOf};
 ghost use Rattle.c_accounts.specs.Entries.{settingsIn, accountTold};
 ghost use Rattle.c_accounts.specs.Setters.{setIn};
-use crate::filed::account_in;
 use crate::filed::file;
+use account_bytes::account_in;
 use account_bytes::cap_of;
 use account_bytes::is_cap;
 use account_bytes::is_flag;

@@ -1,22 +1,13 @@
-// Accounts out of lent bytes and back into them.
+// What is answered of an account in lent bytes, and the account back into them.
 ghost use mathlib.Core.Path.{_≡_};
 ghost use Rattle.answer.specs.Numbers.{numberOf};
-ghost use Rattle.c_accounts.specs.Entries.{accountIn, accountTold};
-ghost use Rattle.c_accounts.specs.Inner.Entries.{unlessUnsound};
+ghost use Rattle.account.specs.Inner.Answers.{unlessUnsound};
+ghost use Rattle.c_accounts.specs.Entries.{accountTold};
 ghost use Rattle.c_accounts.specs.Inner.Setters.{setterTold};
 use account::Account;
 use account::Changed;
-use account_bytes::read_account;
 use account_bytes::write_account;
 use answer::Answer;
-
-// Bytes that hold no account give all zeros, which is no sound account, so every call on it answers 11.
-pub(crate) fn account_in(bytes: &[u8]) -> Account
-    ensures { λ r. ⌜ r ≡ accountIn (now (bytes .entry)) ⌝ }
-{
-    let r = read_account(bytes);
-    r.account
-}
 
 // The number of an answer, which 11 goes before.
 pub(crate) fn unless_unsound(a: Account, answer: Answer) -> u64

@@ -3,19 +3,16 @@ ghost use mathlib.Core.Path.{_≡_};
 ghost use Prim.Native.Nat.{_*_, _≤_};
 ghost use lib.ListN.{length};
 ghost use Rattle.word_bytes.specs.Words.{wordsOf, turned};
-ghost use Rattle.account_bytes.specs.Account.{counterWords, seriesWords};
 ghost use Rattle.c_accounts.specs.Entries.{accountTold};
 ghost use Rattle.c_accounts.specs.Queries.{heldWords, cashTold, settingsTold, countersTold, seriesTold, positionTold, positionAtTold};
 ghost use Rattle.c_accounts.specs.Inner.Queries.{tellIn};
-use crate::filed::account_in;
 use crate::filed::unless_unsound;
-use account::Counters;
 use account::Held;
-use account::Series;
-use account_bytes::COUNTER_WORDS;
-use account_bytes::SERIES_WORDS;
 use account_bytes::SETTINGS_BYTES;
+use account_bytes::account_in;
+use account_bytes::counter_words;
 use account_bytes::flag_word;
+use account_bytes::series_words;
 use account_bytes::write_settings;
 use answer::Answer;
 use position::Symbol;
@@ -52,26 +49,6 @@ fn tell(number: u64, words: &[u64], out: &mut [u8]) -> u64
     }
     put_words(words, out);
     number
-}
-
-fn counter_words(k: Counters) -> [u64; COUNTER_WORDS]
-    ensures { λ r. ⌜ r ≡ counterWords k ⌝ }
-{
-    [
-        k.last_rebalance_order_count,
-        unsigned(k.last_rebalance_notional),
-        k.trimmed_fill_count,
-        unsigned(k.trimmed_shortfall_cents),
-        k.record_count,
-        0,
-        0,
-    ]
-}
-
-fn series_words(s: Series) -> [u64; SERIES_WORDS]
-    ensures { λ r. ⌜ r ≡ seriesWords s ⌝ }
-{
-    [s.equity_count, s.return_count, unsigned(s.prev_equity)]
 }
 
 // The word that a symbol's text is.

@@ -18,11 +18,11 @@ use Rattle.table.specs.declared.found.Found.the-variants.{Absent}
 use Rattle.table.specs.Keyed.{pick}
 use Rattle.table.specs.Inner.Places.{Finds}
 use Rattle.table.specs.Rows.{Cols, cols, zipped, rows}
-use Rattle.table.specs.Inner.Rows.{Counted, countedCols, Ordered, posted, heldAt}
+use Rattle.table.specs.Inner.Rows.{CountedCols, countedCols, Ordered, posted, heldAt}
 use Rattle.table.proofs.Keyed.{both-true}
 use Rattle.table.proofs.Posting.{held-is-holding, posted-puts}
 use Rattle.fills.specs.declared.fill.Filled.{Filled}
-use Rattle.fills.specs.declared.order.Book.{Book}
+use Rattle.fills.specs.declared.terms.Book.{Book}
 use Rattle.fills.specs.Records.{allWords, allInts, fronted, buffers, stored}
 use Rattle.fills.specs.Fill.{fill}
 use Rattle.fills.specs.Inner.Runs.{recordsOf, Fills}
@@ -45,22 +45,22 @@ empty-ordered = record {
   rest = refl;
 }
 
-pub record Holds (ps : List Position) (t : Counted) : Type 0 where
+pub record HoldsPositions (ps : List Position) (t : CountedCols) : Type 0 where
   pub ordered : Ordered (t .count) (t .columns)
   pub same : rows (t .count) (t .columns) ≡ ps
 
-entered-by : (p : Position) (b : Bool) → Holds (pick b [] (p ∷ [])) (pick b (countedCols 0 empty) (posted (Absent 0) p (countedCols 0 empty)))
+entered-by : (p : Position) (b : Bool) → HoldsPositions (pick b [] (p ∷ [])) (pick b (countedCols 0 empty) (posted (Absent 0) p (countedCols 0 empty)))
 entered-by p true = record { ordered = empty-ordered; same = refl }
 entered-by p false = let h = posted-puts 0 empty (Absent 0) p empty-ordered refl in record { ordered = h .ordered; same = h .same }
 
-pub entered-holds : (p : Position) (t : Counted) → t ≡ enteredIn p empty → Holds (heldOf p) t
-entered-holds p t e = subst (Holds (heldOf p)) (sym e) (entered-by p (isNone p))
+pub entered-holds : (p : Position) (t : CountedCols) → t ≡ enteredIn p empty → HoldsPositions (heldOf p) t
+entered-holds p t e = subst (HoldsPositions (heldOf p)) (sym e) (entered-by p (isNone p))
 
 -- ---- the fill on it
 abbrev pub withCount : ℕ → Book → Book
 withCount n b = record { cash = b .cash; count = n; trimmed = b .trimmed; shortfall = b .shortfall; sequence = b .sequence; written = b .written; hint = b .hint }
 
-module _ (a : Ask) (b : Book) (p : Position) (n : ℕ) (c d : Cols) (f : Filled) (h : Holds (heldOf p) (countedCols n c))
+module _ (a : Ask) (b : Book) (p : Position) (n : ℕ) (c d : Cols) (f : Filled) (h : HoldsPositions (heldOf p) (countedCols n c))
     (hf : Ordered n c → Fills (askedTerms a) (askedOrder a) (withCount n b) c f d) where
   pub filled-ordered : Ordered (f .book .count) d
   filled-ordered = hf (h .ordered) .ordered

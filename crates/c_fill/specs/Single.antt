@@ -10,7 +10,7 @@ use Rattle.answer.specs.declared.Answer.{Answer}
 use Rattle.answer.specs.declared.Answer.the-variants.{Done, BadSetting, BadPrice, NoRecordRoom, Unsound}
 use Rattle.answer.specs.Numbers.{numberOf}
 use Rattle.position.specs.declared.position.Position.{Position}
-use Rattle.position.specs.Rows.{shares, symbol, row, held, avg, realized, total}
+use Rattle.position.specs.Rows.{row, held, realized, numbersOf}
 use Rattle.position.specs.Shares.{isZero}
 use Rattle.position.specs.Fills.{sound}
 use Rattle.cost_model.specs.declared.CostModel.{CostModel}
@@ -18,10 +18,10 @@ use Rattle.cost_model.specs.Costs.{goodCosts}
 use Rattle.call_lists.specs.Checks.{unless}
 use Rattle.table.specs.Keyed.{pick, both}
 use Rattle.table.specs.Rows.{holding}
-use Rattle.fills.specs.declared.order.Order.{Order}
-use Rattle.fills.specs.declared.order.Terms.{Terms}
+use Rattle.fills.specs.declared.terms.Order.{Order}
+use Rattle.fills.specs.declared.terms.Terms.{Terms}
 use Rattle.fills.specs.declared.record.ExecutionRecord.{ExecutionRecord}
-use Rattle.fills.specs.Orders.{State}
+use Rattle.fills.specs.Orders.{State, order}
 use Rattle.fills.specs.Records.{kindOf, goodKind, allWords, allInts, fronted}
 use Rattle.fills.specs.Fill.{fill}
 use Rattle.c_fill.specs.declared.Ask.{Ask}
@@ -35,7 +35,7 @@ abbrev pub askedTerms : Ask → Terms
 askedTerms a = record { costs = a .costs; «quantity_step» = a .«quantity_step»; recording = true; «period_index» = a .period; kind = kindOf (a .kind) }
 
 abbrev pub askedOrder : Ask → Order
-askedOrder a = record { symbol = symbol (a .symbol); quantity = shares (a .quantity); price = a .price }
+askedOrder a = order (a .symbol) (a .quantity) (a .price)
 
 -- ---- the lent places: cash, shortfall, and the position's quantity, average, realized profit and total cost; the counts of trimmed fills and of records;
 -- and room for records, four words and eight numbers each
@@ -50,9 +50,6 @@ slots ms ts ws is = record { money = ms; tallies = ts; words = ws; ints = is }
 
 abbrev pub positionIn : ℕ → List ℤ → Position
 positionIn s ms = row s (getD ms 2 (pos 0)) (getD ms 3 (pos 0)) (getD ms 4 (pos 0)) (getD ms 5 (pos 0))
-
-abbrev pub numbersOf : Position → List ℤ
-numbersOf p = held p ∷ avg p ∷ realized p ∷ total p ∷ []
 
 -- a flat position that realized nothing stands for none
 abbrev pub isNone : Position → Bool

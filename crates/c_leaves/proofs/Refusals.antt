@@ -14,11 +14,12 @@ use Rattle.answer.specs.declared.Answer.the-variants.{Done, BadPrice, Unsound}
 use Rattle.answer.specs.Numbers.{numberOf}
 use Rattle.position.specs.declared.position.Position.{Position}
 use Rattle.position.specs.declared.position.Filled.{Filled}
+use Rattle.position.specs.Rows.{numbersOf}
 use Rattle.position.specs.Fills.{sound, applied, applyFill}
-use Rattle.c_leaves.specs.Lent.{numbersOf, positionOf, answerToFill, afterFill, answerToFigures, ratesAfter, countsAfter}
+use Rattle.c_leaves.specs.Lent.{positionFrom, answerToFill, afterFill, answerToFigures, ratesAfter, countsAfter}
 
 -- Four numbers are those of their position.
-numbers-back : (s : ℕ) (ns : List ℤ) → length ns ≡ 4 → numbersOf (positionOf s ns) ≡ ns
+numbers-back : (s : ℕ) (ns : List ℤ) → length ns ≡ 4 → numbersOf (positionFrom s ns) ≡ ns
 numbers-back s [] h = absurd (omega (arith, h))
 numbers-back s (a ∷ []) h = absurd (omega (arith, h))
 numbers-back s (a ∷ b ∷ []) h = absurd (omega (arith, h))
@@ -28,7 +29,7 @@ numbers-back s (a ∷ b ∷ c ∷ d ∷ e ∷ ns) h = absurd (omega (arith, h))
 
 module _ (s : ℕ) (ns : List ℤ) (q price : ℤ) where
   abbrev found : Position
-  found = positionOf s ns
+  found = positionFrom s ns
 
   -- By the two refusals of a fill.
   abbrev filledBy : Bool → Bool → Filled

@@ -9,24 +9,21 @@ use lib.ListN.{length, getD}
 use Rattle.answer.specs.declared.Answer.the-variants.{TooLong, Unsound}
 use Rattle.answer.specs.Numbers.{numberOf}
 use Rattle.position.specs.declared.position.Position.{Position}
-use Rattle.position.specs.Rows.{row, held, avg, realized, total}
+use Rattle.position.specs.Rows.{row, numbersOf}
 use Rattle.position.specs.Fills.{applyFill}
 use Rattle.metrics.specs.declared.Figures.{Figures}
 use Rattle.metrics.specs.Answers.{metricsOf}
 
 -- ---- a position: its symbol, and quantity, average, realized profit and total cost in four places
-abbrev pub numbersOf : Position → List ℤ
-numbersOf p = held p ∷ avg p ∷ realized p ∷ total p ∷ []
-
-abbrev pub positionOf : ℕ → List ℤ → Position
-positionOf s ns = row s (getD ns 0 (pos 0)) (getD ns 1 (pos 0)) (getD ns 2 (pos 0)) (getD ns 3 (pos 0))
+abbrev pub positionFrom : ℕ → List ℤ → Position
+positionFrom s ns = row s (getD ns 0 (pos 0)) (getD ns 1 (pos 0)) (getD ns 2 (pos 0)) (getD ns 3 (pos 0))
 
 -- "Account bytes of the wrong length answer 11": so do a position's numbers of another count than four.
 unfoldable pub answerToFill : ℕ → List ℤ → ℤ → ℤ → ℕ
-answerToFill s ns q price = cond (eqb (length ns) 4) (numberOf (applyFill (positionOf s ns) q price .answer)) (numberOf Unsound)
+answerToFill s ns q price = cond (eqb (length ns) 4) (numberOf (applyFill (positionFrom s ns) q price .answer)) (numberOf Unsound)
 
 unfoldable pub afterFill : ℕ → List ℤ → ℤ → ℤ → List ℤ
-afterFill s ns q price = cond (eqb (length ns) 4) (numbersOf (applyFill (positionOf s ns) q price .position)) ns
+afterFill s ns q price = cond (eqb (length ns) 4) (numbersOf (applyFill (positionFrom s ns) q price .position)) ns
 
 -- ---- the figures: six rates and three counts
 abbrev pub ratesOf : Figures → List Float

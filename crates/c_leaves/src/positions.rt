@@ -1,10 +1,10 @@
 // A position as numbers: its symbol, and quantity, average, realized profit and total cost.
 ghost use mathlib.Core.Path.{_≡_};
 ghost use lib.ListN.{length};
-ghost use Rattle.position.specs.Rows.{row};
+ghost use Rattle.position.specs.Rows.{row, numbersOf};
 ghost use Rattle.position.specs.Symbols.{goodSymbol};
 ghost use Rattle.position.specs.Fills.{sound, marketValue, unrealizedPnl};
-ghost use Rattle.c_leaves.specs.Lent.{numbersOf, afterFill, answerToFill};
+ghost use Rattle.c_leaves.specs.Lent.{afterFill, answerToFill};
 use position::Position;
 use position::Shares;
 use position::Symbol;

@@ -1,22 +1,14 @@
 // What a query with prices is refused for before it is made: 11, then 6.
 ghost use mathlib.Core.Path.{_≡_};
-ghost use Rattle.c_queries.specs.Asked.{accountIn};
-ghost use Rattle.c_queries.specs.Inner.Asked.{tooLong, early};
+ghost use Rattle.answer.specs.declared.Answer.the-variants.{TooLong};
+ghost use Rattle.account.specs.Inner.Answers.{unlessUnsound};
+ghost use Rattle.c_queries.specs.Inner.Asked.{early};
 use account::Account;
-use account_bytes::read_account;
 use answer::Answer;
-
-// Bytes that hold no account give all zeros, which is no sound account, so every query of it answers 11.
-pub(crate) fn account_in(bytes: &[u8]) -> Account
-    ensures { λ r. ⌜ r ≡ accountIn (now (bytes .entry)) ⌝ }
-{
-    let r = read_account(bytes);
-    r.account
-}
 
 // 6, unless the account is not sound.
 fn too_long(a: Account) -> Answer
-    ensures { λ r. ⌜ r ≡ tooLong a ⌝ }
+    ensures { λ r. ⌜ r ≡ unlessUnsound a TooLong ⌝ }
 {
     if a.is_sound() {
         Answer::TooLong

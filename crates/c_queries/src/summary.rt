@@ -7,9 +7,9 @@ ghost use Rattle.table.specs.Keyed.{both};
 ghost use Rattle.queries.specs.Answers.{toldSnapshot};
 ghost use Rattle.c_queries.specs.Told.{tellBoth};
 ghost use Rattle.c_queries.specs.Reports.{snapshotTold, snapshotIn};
-use crate::asked::account_in;
 use crate::asked::early;
 use account::Account;
+use account_bytes::account_in;
 use answer::is_done;
 use list_bytes::Prices;
 use list_bytes::read_prices;
@@ -30,7 +30,7 @@ fn is_room(figures: usize, weights: usize) -> bool
     }
 }
 
-fn snapshot_at(p: Prices, a: Account) -> Snapshot
+fn snapshot_at_prices(p: Prices, a: Account) -> Snapshot
     requires { ⌜ p .count ≤ 128 ⌝ }
     ensures { λ r. ⌜ r ≡ toldSnapshot a (take (p .count) (p .symbol)) (take (p .count) (p .price)) ⌝ }
 {
@@ -82,6 +82,6 @@ pub extern "C" fn tc_snapshot(
     if !is_done(answer) {
         return answer::number(answer);
     }
-    let s = snapshot_at(p, a);
+    let s = snapshot_at_prices(p, a);
     put_snapshot(s, figures, weights)
 }

@@ -5,9 +5,9 @@ ghost use lib.ListN.{length, take};
 ghost use Rattle.queries.specs.Answers.{toldUnpriced};
 ghost use Rattle.c_queries.specs.Told.{tellQuery};
 ghost use Rattle.c_queries.specs.Reports.{unpricedTold, unpricedIn};
-use crate::asked::account_in;
 use crate::asked::early;
 use account::Account;
+use account_bytes::account_in;
 use account_bytes::flag_word;
 use answer::is_done;
 use list_bytes::Prices;
@@ -17,7 +17,7 @@ use queries::unpriced_holding;
 use word_bytes::put_symbol;
 use word_bytes::put_word;
 
-fn unpriced_at(p: Prices, a: Account) -> Unpriced
+fn unpriced_at_prices(p: Prices, a: Account) -> Unpriced
     requires { ⌜ p .count ≤ 128 ⌝ }
     ensures { λ r. ⌜ r ≡ toldUnpriced a (take (p .count) (p .symbol)) (take (p .count) (p .price)) ⌝ }
 {
@@ -52,6 +52,6 @@ pub extern "C" fn tc_unpriced_holding(account: &[u8], prices: &[u8], out: &mut [
     if !is_done(answer) {
         return answer::number(answer);
     }
-    let u = unpriced_at(p, a);
+    let u = unpriced_at_prices(p, a);
     put_unpriced(u, out)
 }

@@ -5,9 +5,9 @@ ghost use lib.ListN.{take};
 ghost use Rattle.queries.specs.Answers.{toldWeights};
 ghost use Rattle.c_queries.specs.Told.{tellQuery};
 ghost use Rattle.c_queries.specs.Reports.{weightsTold, currentWeightsIn};
-use crate::asked::account_in;
 use crate::asked::early;
 use account::Account;
+use account_bytes::account_in;
 use answer::is_done;
 use list_bytes::Prices;
 use list_bytes::read_prices;
@@ -15,7 +15,7 @@ use list_bytes::write_weights;
 use queries::Weights;
 use queries::current_weights;
 
-fn weights_at(p: Prices, a: Account) -> Weights
+fn weights_at_prices(p: Prices, a: Account) -> Weights
     requires { ⌜ p .count ≤ 128 ⌝ }
     ensures { λ r. ⌜ r ≡ toldWeights a (take (p .count) (p .symbol)) (take (p .count) (p .price)) ⌝ }
 {
@@ -52,6 +52,6 @@ pub extern "C" fn tc_current_weights(account: &[u8], prices: &[u8], out: &mut [u
     if !is_done(answer) {
         return answer::number(answer);
     }
-    let w = weights_at(p, a);
+    let w = weights_at_prices(p, a);
     put_weights(w, out)
 }

@@ -5,10 +5,10 @@ ghost use lib.ListN.{length, take};
 ghost use Rattle.portfolio.specs.Queries.{toldEquity};
 ghost use Rattle.c_queries.specs.Told.{tellQuery};
 ghost use Rattle.c_queries.specs.Reports.{equityTold, equityIn};
-use crate::asked::account_in;
 use crate::asked::early;
 use account::Account;
 use account::Cents;
+use account_bytes::account_in;
 use answer::is_done;
 use list_bytes::Prices;
 use list_bytes::read_prices;
@@ -16,7 +16,7 @@ use portfolio::total_equity;
 use word_bytes::put_word;
 use word_bytes::unsigned;
 
-fn equity_at(p: Prices, a: Account) -> Cents
+fn equity_at_prices(p: Prices, a: Account) -> Cents
     requires { ⌜ p .count ≤ 128 ⌝ }
     ensures { λ r. ⌜ r ≡ toldEquity a (take (p .count) (p .symbol)) (take (p .count) (p .price)) ⌝ }
 {
@@ -50,6 +50,6 @@ pub extern "C" fn tc_total_equity(account: &[u8], prices: &[u8], out: &mut [u8])
     if !is_done(answer) {
         return answer::number(answer);
     }
-    let c = equity_at(p, a);
+    let c = equity_at_prices(p, a);
     put_equity(c, out)
 }

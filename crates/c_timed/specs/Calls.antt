@@ -6,16 +6,18 @@ use lib.Dec.{eqb}
 use lib.IntN.{ℤ, pos}
 use lib.Ieee.{Float, binary64, ofBits}
 use lib.ListN.{length, replicate}
+use Rattle.answer.specs.declared.Answer.the-variants.{TooLong}
 use Rattle.table.specs.Keyed.{pick, both}
 use Rattle.fills.specs.declared.record.ExecutionKind.the-variants.{Rebalance}
 use Rattle.account.specs.declared.account.Account.{Account}
 use Rattle.account.specs.declared.change.Changed.{Changed}
+use Rattle.account.specs.Inner.Answers.{unlessUnsound}
 use Rattle.list_bytes.specs.Entries.{wholeList}
 use Rattle.list_bytes.specs.Lists.{symbolsIn, weightsIn, pricesIn}
 use Rattle.portfolio.specs.Rebalance.{Outcome, rebalanced}
 use Rattle.portfolio.specs.Returns.{Recorded, recorded}
 use Rattle.queries.specs.Answers.{toldSnapshot}
-use Rattle.c_timed.specs.Made.{tooLong, Left, refusing, left, LeftBoth, refusingBoth, leftBoth}
+use Rattle.c_timed.specs.Made.{Left, refusing, left, LeftBoth, refusingBoth, leftBoth}
 -- bytes that hold no account stand for all zeros, which is no sound account, so that each call is refused
 pub use Rattle.account_bytes.specs.Account.{accountIn}
 
@@ -30,7 +32,7 @@ unfoldable pub rebalancesIn : List ℕ → List ℕ → List ℕ → List ℕ �
 rebalancesIn b ts ps l =
     pick (both (wholeList 64 ts) (both (wholeList 128 ps) (eqb (length l) (length b))))
     (left (rebalanceCall (accountIn b) (symbolsIn ts) (weightsIn ts) (symbolsIn ps) (pricesIn ps)) l)
-    (refusing l (tooLong (accountIn b)))
+    (refusing l (unlessUnsound (accountIn b) TooLong))
 
 -- ---- a return, into series of 64 places
 abbrev pub ofRecorded : Recorded → Changed
@@ -43,11 +45,11 @@ unfoldable pub returnsIn : List ℕ → List ℕ → List ℕ → Left
 returnsIn b ps l =
     pick (both (wholeList 128 ps) (eqb (length l) (length b)))
     (left (returnCall (accountIn b) (symbolsIn ps) (pricesIn ps)) l)
-    (refusing l (tooLong (accountIn b)))
+    (refusing l (unlessUnsound (accountIn b) TooLong))
 
 -- ---- a snapshot: four words, and room for 64 weights of 16 bytes
 unfoldable pub snapshotsIn : List ℕ → List ℕ → List ℕ → List ℕ → LeftBoth
 snapshotsIn b ps fs ws =
     pick (both (wholeList 128 ps) (both (eqb (length fs) 32) (eqb (length ws) 1024)))
     (leftBoth (toldSnapshot (accountIn b) (symbolsIn ps) (pricesIn ps)) fs ws)
-    (refusingBoth fs ws (tooLong (accountIn b)))
+    (refusingBoth fs ws (unlessUnsound (accountIn b) TooLong))

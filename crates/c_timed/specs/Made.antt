@@ -3,22 +3,14 @@
 use Prim.Native.Nat.{ℕ}
 use mathlib.Core.List.{List, [], _∷_}
 use Rattle.answer.specs.declared.Answer.{Answer}
-use Rattle.answer.specs.declared.Answer.the-variants.{TooLong, Unsound}
 use Rattle.answer.specs.Numbers.{numberOf, isDone}
 use Rattle.table.specs.Keyed.{pick}
-use Rattle.call_lists.specs.Checks.{unless}
 use Rattle.word_bytes.specs.Numbers.{unsignedOf}
-use Rattle.account.specs.declared.account.Account.{Account}
 use Rattle.account.specs.declared.change.Changed.{Changed}
-use Rattle.account.specs.Account.{soundAccount}
 use Rattle.account_bytes.specs.Account.{writtenAccount}
 use Rattle.list_bytes.specs.Inner.Records.{putAll}
 use Rattle.list_bytes.specs.Weights.{writtenWeights}
 use Rattle.queries.specs.declared.answered.Snapshot.{Snapshot}
-
--- "Check order where several apply: 11, .. 6": of a list that is not whole, or a place of another length
-abbrev pub tooLong : Account → Answer
-tooLong a = unless (soundAccount a) Unsound TooLong
 
 -- ---- of a call that changes the account
 pub record Left : Type 0 where

@@ -1,7 +1,9 @@
 // What is told of calls that were made over and over.
 ghost use mathlib.Core.Path.{_≡_};
+ghost use Rattle.answer.specs.declared.Answer.the-variants.{TooLong};
 ghost use Rattle.answer.specs.Numbers.{numberOf};
-ghost use Rattle.c_timed.specs.Made.{tooLong, leave, left};
+ghost use Rattle.account.specs.Inner.Answers.{unlessUnsound};
+ghost use Rattle.c_timed.specs.Made.{leave, left};
 use account::Account;
 use account::Changed;
 use account_bytes::write_account;
@@ -9,7 +11,7 @@ use answer::is_done;
 
 // 6 for a list that is not whole or a place of another length, unless the account is not sound.
 pub(crate) fn too_long(a: Account) -> u64
-    ensures { λ r. ⌜ r ≡ numberOf (tooLong a) ⌝ }
+    ensures { λ r. ⌜ r ≡ numberOf (unlessUnsound a TooLong) ⌝ }
 {
     if a.is_sound() { 6 } else { 11 }
 }

@@ -1,13 +1,11 @@
 -- The code's order of tests and document 01's answer the same, since a call tells an unsound account itself.
-use Prim.Native.Nat.{ℕ, min, _≤_, _<_}
-use mathlib.Core.Path.{_≡_, refl, sym, ap}
+use Prim.Native.Nat.{ℕ}
+use mathlib.Core.Path.{_≡_, refl, sym}
 use mathlib.Core.Bool.{Bool, true, false}
 use mathlib.Core.List.{List}
 use native.Mathlib.Omega.{arith}
-use lib.Dec.{leb}
 use lib.IntN.{ℤ}
 use lib.Ieee.{Float}
-use borrow.Author.Tests.{le-leb, lt-leb, leb-true, leb-false}
 use Rattle.answer.specs.declared.Answer.{Answer}
 use Rattle.answer.specs.declared.Answer.the-variants.{Done, BadSetting, TooLong, Unsound}
 use Rattle.table.specs.Keyed.{pick, both}
@@ -17,7 +15,7 @@ use Rattle.fills.specs.Records.{goodKind}
 use Rattle.account.specs.declared.account.Account.{Account}
 use Rattle.account.specs.Account.{soundAccount}
 use Rattle.account_bytes.specs.Account.{readAccount}
-use Rattle.portfolio.specs.Answers.{isDone, hasRoom, closeAnswer, rebalanceAnswer, returnAnswer}
+use Rattle.portfolio.specs.Answers.{isDone, closeAnswer, rebalanceAnswer, returnAnswer}
 use Rattle.portfolio.specs.Rebalance.{refused, rebalanced}
 use Rattle.portfolio.specs.Close.{positionClosed}
 use Rattle.portfolio.specs.Returns.{recorded}
@@ -64,31 +62,14 @@ pub early-whole : (b : List ℕ) (kind : ℕ) (w : Bool) → isDone (early (read
 unfolding early
 early-whole b kind w e = whole-by (readAccount b .good) (soundAccount (accountIn b)) (goodKind kind) w e
 
--- ---- room for as many as are asked for is all that counts
-enough : (k q : ℕ) (t : Bool) → leb k q ≡ t → leb k (min q k) ≡ t
-enough k q true e = let h = leb-true k q e in let g : k ≤ min q k = omega arith in le-leb k (min q k) g
-enough k q false e = let h = leb-false k q e in let g : min q k < k = omega arith in lt-leb k (min q k) g
-
-pub room-enough : (a : Account) (k q : ℕ) → hasRoom a k (min q k) ≡ hasRoom a k q
-unfolding hasRoom
-room-enough a k q = ap (λ t. pick (a .settings .recording) t true) (enough k q (leb k q) refl)
-
 -- ---- a close
 module _ (a : Account) (s : ℕ) (price : ℤ) (period : ℕ) (kind : ExecutionKind) where
-  pub close-room : (q : ℕ) → positionClosed a s price period kind (min q 1) ≡ positionClosed a s price period kind q
-  unfolding positionClosed closeAnswer
-  close-room q = simp (room-enough a 1 q)
-
   pub close-unsound : (q : ℕ) → soundAccount a ≡ false → positionClosed a s price period kind q ≡ refused Unsound a
   unfolding positionClosed closeAnswer
   close-unsound q e = simp e
 
 -- ---- a rebalance
 module _ (a : Account) (ts : List ℕ) (ws : List Float) (ps : List ℕ) (vs : List ℤ) (period : ℕ) (kind : ExecutionKind) where
-  pub rebalance-room : (q : ℕ) → rebalanced a ts ws ps vs period kind (min q 64) ≡ rebalanced a ts ws ps vs period kind q
-  unfolding rebalanced rebalanceAnswer
-  rebalance-room q = simp (room-enough a 64 q)
-
   pub rebalance-unsound : (q : ℕ) → soundAccount a ≡ false → rebalanced a ts ws ps vs period kind q ≡ refused Unsound a
   unfolding rebalanced rebalanceAnswer
   rebalance-unsound q e = simp e

@@ -7,7 +7,8 @@ use lib.IntN.{ℤ}
 use lib.ListN.{length, take, drop, length-append}
 use lib.Seq.{length-take-le}
 use Rattle.fills.specs.Records.{allWords, allInts, fronted}
-use Rattle.list_bytes.proofs.Records.{words-of, records-written}
+use Rattle.fills.proofs.Fronts.{words-long as words-of}
+use Rattle.list_bytes.proofs.Records.{records-written}
 use Rattle.portfolio.specs.declared.trade.Traded.{Traded}
 use Rattle.portfolio.specs.Answers.{recordPlaces}
 use Rattle.portfolio.specs.Rebalance.{Outcome}

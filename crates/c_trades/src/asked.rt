@@ -1,11 +1,9 @@
 // What a call is refused for before it is made.
 ghost use mathlib.Core.Path.{_≡_};
-ghost use Rattle.answer.specs.declared.Answer.the-variants.{Unsound};
 ghost use Rattle.table.specs.Keyed.{both};
 ghost use Rattle.table.specs.Rows.{cols};
-ghost use Rattle.call_lists.specs.Checks.{unless};
-ghost use Rattle.account.specs.Account.{soundAccount};
 ghost use Rattle.account.specs.Inner.Account.{accountWith};
+ghost use Rattle.account.specs.Inner.Answers.{unlessUnsound};
 ghost use Rattle.c_trades.specs.Asked.{wholeRun};
 ghost use Rattle.c_trades.specs.Inner.Asked.{earlyOn};
 use account::Ledger;
@@ -35,7 +33,8 @@ fn unsound_or<'a>(
     total: &'a [i64; 64],
     other: Answer,
 ) -> Answer
-    ensures { λ r. ⌜ r ≡ unless (soundAccount (accountWith h (cols (now (symbol .entry)) (now (quantity .entry)) (now (average .entry)) (now (realized .entry)) (now (total .entry))))) Unsound other ⌝ }
+    ensures { λ r. ⌜ (let c = cols (now (symbol .entry)) (now (quantity .entry)) (now (average .entry)) (now (realized .entry)) (now (total .entry)) in
+        r ≡ unlessUnsound (accountWith h c) other) ⌝ }
 {
     if sound_account(h, symbol, quantity, average, realized, total) {
         other
@@ -55,7 +54,8 @@ pub(crate) fn early<'a>(
     kind: u64,
     whole: bool,
 ) -> Answer
-    ensures { λ r. ⌜ r ≡ earlyOn (accountWith h (cols (now (symbol .entry)) (now (quantity .entry)) (now (average .entry)) (now (realized .entry)) (now (total .entry)))) kind whole ⌝ }
+    ensures { λ r. ⌜ (let c = cols (now (symbol .entry)) (now (quantity .entry)) (now (average .entry)) (now (realized .entry)) (now (total .entry)) in
+        r ≡ earlyOn (accountWith h c) kind whole) ⌝ }
 {
     if 1 < kind {
         return unsound_or(

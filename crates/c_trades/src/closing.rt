@@ -39,8 +39,9 @@ fn file_close(
     records: &mut [u8],
 ) -> u64
     requires { ⌜ length (now words) / 4 ≤ min (length (now records) / 96) 64 ⌝ }
-    ensures { λ r. ⌜ tellTrade r (now (account .exit)) (now (records .exit))
-        ≡ tradeTold (positionClosed (accountWith h (cols (now (symbol .entry)) (now (quantity .entry)) (now (average .entry)) (now (realized .entry)) (now (total .entry)))) s price period (kindOf kind) (recordPlaces (length (now (words .entry))) (length (now (ints .entry))))) (now (account .entry)) (now (records .entry)) ⌝ }
+    ensures { λ r. ⌜ (let c = cols (now (symbol .entry)) (now (quantity .entry)) (now (average .entry)) (now (realized .entry)) (now (total .entry)) in
+        tellTrade r (now (account .exit)) (now (records .exit))
+        ≡ tradeTold (positionClosed (accountWith h c) s price period (kindOf kind) (recordPlaces (length (now (words .entry))) (length (now (ints .entry))))) (now (account .entry)) (now (records .entry))) ⌝ }
 {
     let k = fills::kind_of(kind);
     let t = close_on(
@@ -86,8 +87,9 @@ fn close_in_room(
     account: &mut [u8],
     records: &mut [u8],
 ) -> u64
-    ensures { λ r. ⌜ tellTrade r (now (account .exit)) (now (records .exit))
-        ≡ tradeTold (positionClosed (accountWith h (cols (now (symbol .entry)) (now (quantity .entry)) (now (average .entry)) (now (realized .entry)) (now (total .entry)))) s price period (kindOf kind) (length (now (records .entry)) / 96)) (now (account .entry)) (now (records .entry)) ⌝ }
+    ensures { λ r. ⌜ (let c = cols (now (symbol .entry)) (now (quantity .entry)) (now (average .entry)) (now (realized .entry)) (now (total .entry)) in
+        tellTrade r (now (account .exit)) (now (records .exit))
+        ≡ tradeTold (positionClosed (accountWith h c) s price period (kindOf kind) (length (now (records .entry)) / 96)) (now (account .entry)) (now (records .entry))) ⌝ }
 {
     let mut words = [0u64; 4];
     let mut ints = [0i64; 8];

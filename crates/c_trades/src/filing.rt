@@ -32,8 +32,9 @@ pub(crate) fn finish<'a>(
     records: &mut [u8],
 ) -> u64
     requires { ⌜ t .records ≤ 64 ⌝ }
-    ensures { λ r. ⌜ tellTrade r (now (account .exit)) (now (records .exit))
-        ≡ finished (tradedOn t (cols (now (symbol .entry)) (now (quantity .entry)) (now (average .entry)) (now (realized .entry)) (now (total .entry)))) (now (words .entry)) (now (ints .entry)) (now (account .entry)) (now (records .entry)) ⌝ }
+    ensures { λ r. ⌜ (let c = cols (now (symbol .entry)) (now (quantity .entry)) (now (average .entry)) (now (realized .entry)) (now (total .entry)) in
+        tellTrade r (now (account .exit)) (now (records .exit))
+        ≡ finished (tradedOn t c) (now (words .entry)) (now (ints .entry)) (now (account .entry)) (now (records .entry))) ⌝ }
 {
     let answer = t.answer;
     if !is_done(answer) {

@@ -46,10 +46,11 @@ fn file_rebalance(
     records: &mut [u8],
 ) -> u64
     requires { ⌜ (wholeList 64 (now targets) ≡ true) × (wholeList 128 (now prices) ≡ true) × (length (now words) / 4 ≤ min (length (now records) / 96) 64) ⌝ }
-    ensures { λ r. ⌜ tellTrade r (now (account .exit)) (now (records .exit))
-        ≡ tradeTold (rebalanced (accountWith h (cols (now (symbol .entry)) (now (quantity .entry)) (now (average .entry)) (now (realized .entry)) (now (total .entry))))
+    ensures { λ r. ⌜ (let c = cols (now (symbol .entry)) (now (quantity .entry)) (now (average .entry)) (now (realized .entry)) (now (total .entry)) in
+        tellTrade r (now (account .exit)) (now (records .exit))
+        ≡ tradeTold (rebalanced (accountWith h c)
         (symbolsIn (now (targets .entry))) (weightsIn (now (targets .entry))) (symbolsIn (now (prices .entry))) (pricesIn (now (prices .entry)))
-        period (kindOf kind) (recordPlaces (length (now (words .entry))) (length (now (ints .entry))))) (now (account .entry)) (now (records .entry)) ⌝ }
+        period (kindOf kind) (recordPlaces (length (now (words .entry))) (length (now (ints .entry))))) (now (account .entry)) (now (records .entry))) ⌝ }
 {
     let k = fills::kind_of(kind);
     let mut ts = [0u64; 64];
@@ -104,10 +105,11 @@ fn rebalance_in_room(
     records: &mut [u8],
 ) -> u64
     requires { ⌜ (wholeList 64 (now targets) ≡ true) × (wholeList 128 (now prices) ≡ true) ⌝ }
-    ensures { λ r. ⌜ tellTrade r (now (account .exit)) (now (records .exit))
-        ≡ tradeTold (rebalanced (accountWith h (cols (now (symbol .entry)) (now (quantity .entry)) (now (average .entry)) (now (realized .entry)) (now (total .entry))))
+    ensures { λ r. ⌜ (let c = cols (now (symbol .entry)) (now (quantity .entry)) (now (average .entry)) (now (realized .entry)) (now (total .entry)) in
+        tellTrade r (now (account .exit)) (now (records .exit))
+        ≡ tradeTold (rebalanced (accountWith h c)
         (symbolsIn (now (targets .entry))) (weightsIn (now (targets .entry))) (symbolsIn (now (prices .entry))) (pricesIn (now (prices .entry)))
-        period (kindOf kind) (length (now (records .entry)) / 96)) (now (account .entry)) (now (records .entry)) ⌝ }
+        period (kindOf kind) (length (now (records .entry)) / 96)) (now (account .entry)) (now (records .entry))) ⌝ }
 {
     let mut words = [0u64; 256];
     let mut ints = [0i64; 512];

@@ -8,12 +8,13 @@ use lib.IntN.{ℤ}
 use lib.Ieee.{Float}
 use lib.ListN.{length}
 use borrow.Author.Tests.{leb-true, eqb-true}
+use Rattle.doubles.specs.Doubles.{allFinite}
 use Rattle.answer.specs.declared.Answer.the-variants.{Done, BadSymbol, Twice, BadPrice, BadWeight, TooLong}
 use Rattle.answer.specs.Numbers.{isDone}
 use Rattle.answer.proofs.Answers.{passed}
 use Rattle.table.specs.Keyed.{both}
 use Rattle.table.proofs.Keyed.{both-true}
-use Rattle.call_lists.specs.Lists.{allGood, distinct, allFinite, allPriced}
+use Rattle.call_lists.specs.Lists.{allGood, distinct, allPriced}
 use Rattle.call_lists.specs.Checks.{shortEnough, listsAnswer}
 
 pub record Accepted (ts : List ℕ) (ws : List Float) (ps : List ℕ) (vs : List ℤ) : Type 0 where

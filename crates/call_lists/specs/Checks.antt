@@ -6,11 +6,12 @@ use lib.Dec.{eqb, leb}
 use lib.IntN.{ℤ}
 use lib.ListN.{length}
 use lib.Ieee.{Float}
+use Rattle.doubles.specs.Doubles.{allFinite}
 use Rattle.answer.specs.declared.Answer.{Answer}
 use Rattle.answer.specs.declared.Answer.the-variants.{Done, BadSymbol, Twice, BadPrice, BadWeight, TooLong}
 pub use Rattle.answer.specs.Numbers.{unless}
 use Rattle.table.specs.Keyed.{both}
-use Rattle.call_lists.specs.Lists.{allGood, distinct, allFinite, allPriced}
+use Rattle.call_lists.specs.Lists.{allGood, distinct, allPriced}
 
 -- "64 targets, 128 prices"; paired lists have one length
 unfoldable pub shortEnough : List ℕ → List Float → List ℕ → List ℤ → Bool

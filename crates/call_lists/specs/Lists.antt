@@ -5,8 +5,6 @@ use mathlib.Core.List.{List, [], _∷_}
 use lib.Dec.{eqb}
 use lib.IntN.{ℤ, pos}
 use lib.Signed.{leZ}
-use lib.Ieee.{Float}
-use Rattle.doubles.specs.Doubles.{finite}
 use Rattle.position.specs.Symbols.{goodSymbol}
 use Rattle.table.specs.Keyed.{pick, both, all}
 
@@ -23,10 +21,6 @@ allGood = all goodSymbol
 unfoldable pub distinct : List ℕ → Bool
 distinct [] = true
 distinct (s ∷ l) = both (not (among s l)) (distinct l)
-
--- not "a weight is not finite"
-unfoldable pub allFinite : List Float → Bool
-allFinite = all finite
 
 -- not "a price is below 1"
 unfoldable pub allPriced : List ℤ → Bool

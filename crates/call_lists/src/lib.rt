@@ -5,7 +5,6 @@ mod price;
 mod refusal;
 mod sorting;
 
-pub use list::all_finite;
 pub use list::all_good;
 pub use list::all_priced;
 pub use list::is_among;

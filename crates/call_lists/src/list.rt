@@ -1,8 +1,7 @@
 // Tests on one list of a call.
 ghost use mathlib.Core.Path.{_≡_};
 ghost use Rattle.table.specs.Keyed.{ascending};
-ghost use Rattle.call_lists.specs.Lists.{among, allGood, allFinite, allPriced, distinct};
-use doubles::is_finite;
+ghost use Rattle.call_lists.specs.Lists.{among, allGood, allPriced, distinct};
 use position::Symbol;
 use table::ascends;
 
@@ -14,21 +13,6 @@ pub fn all_good(symbols: &[u64]) -> bool
     while i < symbols.len() {
         let s = symbols[i];
         if !Symbol(s).is_good() {
-            return false;
-        }
-        i += 1;
-    }
-    true
-}
-
-// Not "a weight is not finite".
-pub fn all_finite(weights: &[f64]) -> bool
-    ensures { λ r. ⌜ r ≡ allFinite (now (weights .entry)) ⌝ }
-{
-    let mut i = 0;
-    while i < weights.len() {
-        let w = weights[i];
-        if !is_finite(w) {
             return false;
         }
         i += 1;

@@ -1,11 +1,11 @@
 // What the lists of a call are refused for.
 ghost use mathlib.Core.Path.{_≡_};
 ghost use Rattle.call_lists.specs.Checks.{listsAnswer, pricesAnswer};
-use crate::list::all_finite;
 use crate::list::all_good;
 use crate::list::all_priced;
 use crate::list::is_distinct;
 use answer::Answer;
+use doubles::all_finite;
 
 // Targets with their weights, and symbols with their prices, refused in the order 6, 2, 3, 5, 4 or done.
 pub fn check_lists(targets: &[u64], weights: &[f64], symbols: &[u64], prices: &[i64]) -> Answer

@@ -10,11 +10,13 @@ use Rattle.position.specs.Rows.{row, held}
 use Rattle.cost_model.specs.declared.CostModel.{CostModel}
 use Rattle.cost_model.specs.Costs.{model, withCeiling, zero, free, cost, goodCosts}
 use Rattle.fills.specs.declared.record.ExecutionKind.the-variants.{Rebalance}
+use Rattle.fills.specs.Orders.{cashOnly, order}
+use Rattle.fills.specs.Fill.{fill}
 use Rattle.account.specs.declared.account.Account.{Account}
 use Rattle.account.specs.Settings.{ofCosts, openingSettings, withRecording, withCashFirst}
 use Rattle.account.specs.Account.{heldIn, tableOf}
 use Rattle.account.specs.Calls.{zeroAccount}
-use Rattle.wanted.specs.declared.plan.PlannedOrder.{PlannedOrder}
+use Rattle.wanted.specs.declared.planned.PlannedOrder.{PlannedOrder}
 use Rattle.wanted.specs.Plan.{planned}
 use Rattle.admission.specs.Running.{cashFirst}
 use Rattle.portfolio.specs.Rebalance.{Outcome, rebalanced}
@@ -23,9 +25,7 @@ use Rattle.house.specs.declared.House.{House}
 use Rattle.house.specs.Group.{Equity, given, absent, Ends}
 use Rattle.house.specs.House.{houseOf}
 use Rattle.cases.specs.Rows.{Row, says}
-use Rattle.fills.specs.Fill.{fill}
-use Rattle.cases.specs.Table as Table
-use Rattle.cases.specs.Table.{whole, oneIf, tenBps, termsAt, cashOnly, amount, outcome}
+use Rattle.cases.specs.Table.{whole, oneIf, tenBps, termsAt, amount, outcome}
 
 -- ---- 1, cash-first order
 -- the symbols "A" and "B"
@@ -68,17 +68,17 @@ case-1-as-planned = says (leftBy (soldBoth false)) (pos 0 ∷ pos 10 ∷ whole (
 abbrev pub runOf : CostModel → List PlannedOrder → List ℤ
 runOf costs os = map (λ o. pos (o .symbol .0)) (cashFirst costs os)
 
-abbrev pub order : ℕ → ℤ → ℤ → PlannedOrder
-order s q p = planned s q p nan
+abbrev pub plannedOrder : ℕ → ℤ → ℤ → PlannedOrder
+plannedOrder s q p = planned s q p nan
 
 -- a buy worth 0 without commission, behind no buy that costs
 abbrev pub case-1-buy-of-0 : Row
-case-1-buy-of-0 = says (runOf free (order 1 (whole (pos 1)) (pos 100) ∷ order 2 (pos 1) (pos 100) ∷ [])) (pos 2 ∷ pos 1 ∷ [])
+case-1-buy-of-0 = says (runOf free (plannedOrder 1 (whole (pos 1)) (pos 100) ∷ plannedOrder 2 (pos 1) (pos 100) ∷ [])) (pos 2 ∷ pos 1 ∷ [])
 
 -- a sale whose commission takes all it brings; the one for 14 lowers cash
 abbrev pub case-1-sale-for-0 : Row
 case-1-sale-for-0 =
-    says (runOf floor15 (order 1 (whole (negsuc 0)) (pos 14) ∷ order 2 (whole (negsuc 0)) (pos 15) ∷ order 3 (whole (negsuc 0)) (pos 16) ∷ [])) (pos 2 ∷ pos 3 ∷ pos 1 ∷ [])
+    says (runOf floor15 (plannedOrder 1 (whole (negsuc 0)) (pos 14) ∷ plannedOrder 2 (whole (negsuc 0)) (pos 15) ∷ plannedOrder 3 (whole (negsuc 0)) (pos 16) ∷ [])) (pos 2 ∷ pos 3 ∷ pos 1 ∷ [])
 
 -- ---- 2, house return
 -- what is lent of each account in a part; behind a mark of absence stands a number that is not to be read
@@ -214,7 +214,7 @@ case-3-flat = says (cost (withCeiling (pos 100) tenBps) (pos 1000000) ∷ cost (
 abbrev pub boughtUnder : ℤ → List ℤ
 boughtUnder ceiling =
     outcome
-    (fill (termsAt (withCeiling ceiling (model (fin false 5 (pos 1)) zero (pos 0))) (whole (pos 1))) (Table.order 1 (whole (pos 100)) (pos 1000)) (cashOnly (pos 100050)))
+    (fill (termsAt (withCeiling ceiling (model (fin false 5 (pos 1)) zero (pos 0))) (whole (pos 1))) (order 1 (whole (pos 100)) (pos 1000)) (cashOnly (pos 100050)))
 
 abbrev pub case-3-trimmed : Row
 case-3-trimmed = says (boughtUnder (pos 0)) (whole (pos 99) ∷ pos 1 ∷ pos 1000 ∷ pos 951 ∷ [])
@@ -225,7 +225,7 @@ case-3-whole = says (boughtUnder (pos 50)) (whole (pos 100) ∷ pos 0 ∷ pos 0 
 -- one share sold at 20 with cash 5 and 20,000 bps: the commission of 40 would take cash below 0, and a ceiling of 25 takes it to 0
 abbrev pub soldUnder : ℤ → List ℤ
 soldUnder ceiling =
-    outcome (fill (termsAt (withCeiling ceiling (model (fin false 625 (pos 5)) zero (pos 0))) (whole (pos 1))) (Table.order 1 (whole (negsuc 0)) (pos 20)) (cashOnly (pos 5)))
+    outcome (fill (termsAt (withCeiling ceiling (model (fin false 625 (pos 5)) zero (pos 0))) (whole (pos 1))) (order 1 (whole (negsuc 0)) (pos 20)) (cashOnly (pos 5)))
 
 abbrev pub case-3-skipped : Row
 case-3-skipped = says (soldUnder (pos 0)) (pos 0 ∷ pos 0 ∷ pos 0 ∷ pos 5 ∷ [])

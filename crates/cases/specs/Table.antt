@@ -6,17 +6,16 @@ use lib.IntN.{ℤ, pos, negsuc, negℤ}
 use lib.Ieee.{Float, fin}
 use Rattle.sums.specs.Sums.{value}
 use Rattle.position.specs.declared.position.Position.{Position}
-use Rattle.position.specs.Rows.{shares, symbol, fresh, held, avg, realized, total}
+use Rattle.position.specs.Rows.{fresh, held, avg, realized, total, numbersOf as figures}
 use Rattle.position.specs.Fills.{applied}
 use Rattle.cost_model.specs.declared.CostModel.{CostModel}
 use Rattle.cost_model.specs.Costs.{cost, model, zero, free}
 use Rattle.sizing.specs.Sizing.{sized, drift}
 use Rattle.sizing.specs.Afford.{need}
 use Rattle.table.specs.Rows.{holding}
-use Rattle.fills.specs.declared.order.Order.{Order}
-use Rattle.fills.specs.declared.order.Terms.{Terms}
+use Rattle.fills.specs.declared.terms.Terms.{Terms}
 use Rattle.fills.specs.declared.record.ExecutionKind.the-variants.{Rebalance}
-use Rattle.fills.specs.Orders.{State}
+use Rattle.fills.specs.Orders.{State, cashOnly, order}
 use Rattle.fills.specs.Fill.{fill, fillAll}
 use Rattle.account.specs.declared.settings.Settings.{Settings}
 use Rattle.account.specs.Settings.{ofCosts, openingSettings, withBand}
@@ -35,9 +34,6 @@ tenBps = model (fin false 5 (pos 1)) zero (pos 100)
 abbrev pub thousandBps : CostModel
 thousandBps = model (fin false 125 (pos 3)) zero (pos 0)
 
-abbrev pub figures : Position → List ℤ
-figures p = held p ∷ avg p ∷ realized p ∷ total p ∷ []
-
 -- a. Value of 1 micro-share at 999,999: 0; at 1,000,000: 1; of -1 at 999,999: 0.
 abbrev pub case-a : Row
 case-a = says (value (pos 1) (pos 999999) ∷ value (pos 1) (pos 1000000) ∷ value (negsuc 0) (pos 999999) ∷ []) (pos 0 ∷ pos 1 ∷ pos 0 ∷ [])
@@ -53,12 +49,6 @@ case-c = says (cost thousandBps (pos 5) ∷ cost thousandBps (pos 4) ∷ []) (po
 -- ---- fills: of an order for symbol 1 on an account with this cash and no positions
 abbrev pub termsAt : CostModel → ℤ → Terms
 termsAt m step = record { costs = m; «quantity_step» = step; recording = false; «period_index» = 0; kind = Rebalance }
-
-abbrev pub cashOnly : ℤ → State
-cashOnly c = record { cash = c; held = []; trimmed = 0; shortfall = pos 0; sequence = 0; records = [] }
-
-abbrev pub order : ℕ → ℤ → ℤ → Order
-order s q p = record { symbol = symbol s; quantity = shares q; price = p }
 
 abbrev pub floor100 : CostModel
 floor100 = model zero zero (pos 100)

@@ -4,19 +4,10 @@ use mathlib.Core.Bool.{Bool, true, false, cond, _&&_, _||_}
 use lib.IntN.{ℤ, pos, natAbs}
 use lib.Signed.{ltZ, leZ}
 use lib.Ieee.{Float, fin, binary64, add, mul, div, le}
+pub use Rattle.doubles.specs.Doubles.{zero, one, tenThousand}
 use Rattle.doubles.specs.Doubles.{finite, toI64, ofI64, ofU64, roundAway}
 use Rattle.position.specs.Shares.{isZero}
 use Rattle.cost_model.specs.declared.CostModel.{CostModel}
-
-abbrev pub zero : Float
-zero = fin false 0 (pos 0)
-
-abbrev pub one : Float
-one = fin false 1 (pos 0)
-
--- 625 times 2 ^ 4
-abbrev pub tenThousand : Float
-tenThousand = fin false 625 (pos 4)
 
 -- "the two rates and the floor travel together as one value": without a ceiling
 abbrev pub model : Float → Float → ℤ → CostModel

@@ -12,26 +12,17 @@ use lib.Ieee.{Float, nan, inf, fin, binary64, up, down, round, sum, add, mul, di
 use lib.Ieee.Fits.{up-pos, down-pos, mul-fits, div-fits}
 use lib.Ieee.Order.{round-mono}
 use lib.Ieee.Scale.{round-same}
-use Rattle.doubles.specs.Doubles.{finite, toI64, ofI64, ofU64, roundAway}
+use Rattle.doubles.specs.Doubles.{zero as plusZero, one, tenThousand, finite, toI64, ofI64, ofU64, roundAway}
 use Rattle.doubles.proofs.Order.{le-fin→, clear, round-clear, zero-le-clear, no-product}
 use Rattle.doubles.proofs.Signs.{round-neg}
 use Rattle.doubles.proofs.Laws.{toI64-mono, roundAway-mono, ofU64-mono, ofU64-clear, ofU64-finite, finite-below}
 
--- 0.0, -0.0, 1.0, -1.0 and 10000.0
-abbrev pub plusZero : Float
-plusZero = fin false 0 (pos 0)
-
+-- -0.0 and -1.0
 abbrev pub minusZero : Float
 minusZero = fin true 0 (pos 0)
 
-abbrev pub one : Float
-one = fin false 1 (pos 0)
-
 abbrev pub minusOne : Float
 minusOne = fin true 1 (pos 0)
-
-abbrev pub tenThousand : Float
-tenThousand = fin false 625 (pos 4)
 
 -- ---- rounding and the cast after it
 pub cast-mono : (x y : Float) → T (fits binary64 x) → T (fits binary64 y) → T (le x y) → T (leZ (toI64 (roundAway x)) (toI64 (roundAway y)))

@@ -1,5 +1,6 @@
 -- The laws of this crate.
 pub mod Fields
+pub mod Finite
 pub mod Whole
 pub mod Even
 pub mod Signs

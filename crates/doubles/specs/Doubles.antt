@@ -1,13 +1,29 @@
--- What the casts, the rounding and the test of binary64 give. Definitions only. A double is lib.Ieee's `Float`: `nan`, an infinity, or m * 2 ^ e with its sign.
-use mathlib.Core.Bool.{Bool}
+-- Doubles that other definitions name, and what the casts, the rounding and the tests of binary64 give. Definitions only. A double is lib.Ieee's `Float`: `nan`, an infinity, or m * 2 ^ e with its sign.
+use mathlib.Core.Bool.{Bool, true, false, _&&_}
+use mathlib.Core.List.{List, [], _∷_}
 use Prim.Native.Nat.{ℕ, _+_, _*_, _/_}
 use lib.IntN.{ℤ, pos, negsuc}
 use lib.Ieee.{Float, nan, inf, fin, binary64, up, down, round, ofInt, toSigned}
 use lib.Ieee.Scale as Scale
 
+abbrev pub zero : Float
+zero = fin false 0 (pos 0)
+
+abbrev pub one : Float
+one = fin false 1 (pos 0)
+
+-- 625 times 2 ^ 4
+abbrev pub tenThousand : Float
+tenThousand = fin false 625 (pos 4)
+
 -- IEEE 754-2019 5.7.2, isFinite: "zero, subnormal or normal (not infinite or NaN)".
 abbrev pub finite : Float → Bool
 finite x = Scale.finite x
+
+-- no member is an infinity or a NaN
+unfoldable pub allFinite : List Float → Bool
+allFinite [] = true
+allFinite (x ∷ xs) = finite x && allFinite xs
 
 -- Document 01: "f64 to i64 truncates, saturates, and gives 0 for NaN." Rust Reference, Numeric cast, and IEEE 754-2019 5.8 for the values in
 -- range: toward zero; beyond the range, infinities included, to the nearer end; a NaN to 0.

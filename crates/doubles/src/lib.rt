@@ -1,9 +1,9 @@
-// Casts, rounding and the test for finite of binary64, for every input, from a double's sign, exponent and fraction fields.
+// Casts, rounding and the tests for finite of binary64, for every input, from a double's sign, exponent and fraction fields.
 ghost use mathlib.Core.Path.{_≡_};
 ghost use Prim.Native.Nat.{_^_, _<_, _+_};
 ghost use lib.Ieee.Nearest.{closest};
 ghost use Rattle.doubles.specs.Fields.{exponentOf, fractionOf, wholeOf, nearestOf, signedSize};
-ghost use Rattle.doubles.specs.Doubles.{finite, toI64, ofI64, ofU64, roundAway};
+ghost use Rattle.doubles.specs.Doubles.{finite, allFinite, toI64, ofI64, ofU64, roundAway};
 
 // The eleven bits between the sign and the fraction.
 fn exponent(bits: u64) -> u64
@@ -27,6 +27,20 @@ pub fn is_finite(x: f64) -> bool
         return false;
     }
     exponent(f64::to_bits(x)) != 0x7ff
+}
+
+// Whether every double of a list is.
+pub fn all_finite(xs: &[f64]) -> bool
+    ensures { λ r. ⌜ r ≡ allFinite (now (xs .entry)) ⌝ }
+{
+    let mut finite = true;
+    let mut i = 0usize;
+    while i < xs.len() {
+        let x = xs[i];
+        finite = finite & is_finite(x);
+        i += 1;
+    }
+    finite
 }
 
 // The size of the pattern's value cut to a whole number; from 2^63 on, infinities included, 2^63.

@@ -19,8 +19,8 @@ use Rattle.sizing.specs.Cash.{cashTaken}
 use Rattle.sizing.proofs.Buys.{affordable-nonneg, affordable-fits}
 use Rattle.sizing.proofs.Cash.{agree, need-is-taken}
 use Rattle.table.specs.Keyed.{pick}
-use Rattle.fills.specs.declared.order.Order.{Order}
-use Rattle.fills.specs.declared.order.Terms.{Terms}
+use Rattle.fills.specs.declared.terms.Order.{Order}
+use Rattle.fills.specs.declared.terms.Terms.{Terms}
 use Rattle.fills.specs.Orders.{State, buys, paid}
 use Rattle.fills.specs.Fill.{fillsWhole, counted, settled, trimmedFill, fill}
 

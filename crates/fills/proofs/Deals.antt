@@ -7,8 +7,8 @@ use Rattle.position.proofs.Counts.{lt-not-ge, not-lt-ge}
 use Rattle.sums.specs.Sums.{satAdd, satSub}
 use Rattle.sizing.specs.Cash.{cashTaken}
 use Rattle.fills.specs.declared.deal.Deal.{Deal}
-use Rattle.fills.specs.declared.order.Terms.{Terms}
-use Rattle.fills.specs.declared.order.Book.{Book}
+use Rattle.fills.specs.declared.terms.Terms.{Terms}
+use Rattle.fills.specs.declared.terms.Book.{Book}
 use Rattle.fills.specs.Orders.{nextCount}
 use Rattle.fills.specs.Inner.Deal.{dealt, noDeal, saleDeal}
 use Rattle.fills.specs.Inner.Runs.{countedIn}

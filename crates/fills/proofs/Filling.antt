@@ -19,14 +19,14 @@ use Rattle.table.specs.declared.found.Found.{Found}
 use Rattle.table.specs.Keyed.{pick, orElse, seek, put64}
 use Rattle.table.specs.Inner.Places.{Finds, found}
 use Rattle.table.specs.Rows.{Cols, rows, holding}
-use Rattle.table.specs.Inner.Rows.{Counted, countedCols, Ordered, Puts, heldAt, posted}
+use Rattle.table.specs.Inner.Rows.{CountedCols, countedCols, Ordered, Puts, heldAt, posted}
 use Rattle.table.proofs.Keyed.{seek-key}
 use Rattle.table.proofs.Posting.{held-is-holding, posted-puts}
 use Rattle.fills.specs.declared.deal.Deal.{Deal}
 use Rattle.fills.specs.declared.fill.Filled.{Filled}
-use Rattle.fills.specs.declared.order.Book.{Book}
-use Rattle.fills.specs.declared.order.Order.{Order}
-use Rattle.fills.specs.declared.order.Terms.{Terms}
+use Rattle.fills.specs.declared.terms.Book.{Book}
+use Rattle.fills.specs.declared.terms.Order.{Order}
+use Rattle.fills.specs.declared.terms.Terms.{Terms}
 use Rattle.fills.specs.declared.record.ExecutionRecord.{ExecutionRecord}
 use Rattle.fills.specs.Orders.{State, buys, paid}
 use Rattle.fills.specs.Records.{recordOf}
@@ -148,7 +148,7 @@ module _ (t : Terms) (o : Order) (b : Book) (c : Cols) (d : Deal) (e : d ≡ dea
     symbol-is = ap keyOf hw ∙ applied-keeps-symbol p (d .quantity .0) (d .price) ∙ ap keyOf held-is ∙ named (o .symbol .0) (rows (b .count) c)
 
     puts : Puts w (b .count) c m c′
-    puts = subst (λ (x : Counted). Puts w (b .count) c (x .count) (x .columns)) (sym hn)
+    puts = subst (λ (x : CountedCols). Puts w (b .count) c (x .count) (x .columns)) (sym hn)
         (posted-puts (b .count) c f w s (found-is ∙ ap (λ k. found k (take (b .count) (c .symbol))) (sym symbol-is)))
 
     rows-are : rows m c′ ≡ put64 keyOf (applied (holding (o .symbol .0) (rows (b .count) c)) (d .quantity .0) (d .price)) (rows (b .count) c)

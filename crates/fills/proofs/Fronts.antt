@@ -10,9 +10,9 @@ use lib.Seq.{sets, sets-eq, length-sets}
 use Rattle.table.specs.Keyed.{pick}
 use Rattle.table.specs.Rows.{Cols}
 use Rattle.table.proofs.Stores.{sets-append}
-use Rattle.fills.specs.declared.order.Book.{Book}
-use Rattle.fills.specs.declared.order.Order.{Order}
-use Rattle.fills.specs.declared.order.Terms.{Terms}
+use Rattle.fills.specs.declared.terms.Book.{Book}
+use Rattle.fills.specs.declared.terms.Order.{Order}
+use Rattle.fills.specs.declared.terms.Terms.{Terms}
 use Rattle.fills.specs.declared.record.ExecutionRecord.{ExecutionRecord}
 use Rattle.fills.specs.Orders.{State}
 use Rattle.fills.specs.Records.{wordsOfRecord, intsOfRecord, allWords, allInts, fronted, Buffers, buffers, storedAll}

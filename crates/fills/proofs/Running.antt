@@ -13,13 +13,14 @@ use Rattle.table.specs.Rows.{zip2, give, Cols}
 use Rattle.table.specs.Inner.Rows.{Ordered}
 use Rattle.table.proofs.Columns.{zip-length, zip-getD}
 use Rattle.fills.specs.declared.fill.Filled.{Filled}
-use Rattle.fills.specs.declared.order.Book.{Book}
-use Rattle.fills.specs.declared.order.Order.{Order}
-use Rattle.fills.specs.declared.order.Terms.{Terms}
+use Rattle.fills.specs.declared.terms.Book.{Book}
+use Rattle.fills.specs.declared.terms.Order.{Order}
+use Rattle.fills.specs.declared.terms.Terms.{Terms}
 use Rattle.fills.specs.declared.record.ExecutionRecord.{ExecutionRecord}
 use Rattle.fills.specs.Records.{wordsOfRecord, intsOfRecord, Buffers, buffers, room, stored, storedAll}
 use Rattle.fills.specs.Fill.{fillAll}
-use Rattle.fills.specs.Inner.Runs.{order, orders, state, keptIn, recordsOf, Fills, Runs, Given}
+use Rattle.fills.specs.Orders.{order}
+use Rattle.fills.specs.Inner.Runs.{orders, state, keptIn, recordsOf, Fills, Runs, Given}
 
 -- ---- records in the lent slices
 pub stored-append : (rs qs : List ExecutionRecord) (l : Buffers) → storedAll (rs ++ qs) l ≡ storedAll qs (storedAll rs l)

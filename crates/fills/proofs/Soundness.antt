@@ -21,8 +21,8 @@ use Rattle.cost_model.proofs.Costs.{effective-nonneg}
 use Rattle.table.specs.Keyed.{pick, there, orElse, seek, put, put64, all}
 use Rattle.table.specs.Inner.Keyed.{Rising}
 use Rattle.table.proofs.Keyed.{seek-key, seek-put, put64-rises, put64-fits, all-put64, all-seek}
-use Rattle.fills.specs.declared.order.Order.{Order}
-use Rattle.fills.specs.declared.order.Terms.{Terms}
+use Rattle.fills.specs.declared.terms.Order.{Order}
+use Rattle.fills.specs.declared.terms.Terms.{Terms}
 use Rattle.fills.specs.Orders.{State, buys, paid}
 use Rattle.fills.specs.Fill.{made, counted, settled, fill, fillAll}
 use Rattle.fills.specs.Inner.Deal.{dealOf, countedBy}

@@ -12,8 +12,8 @@ use Rattle.position.specs.Fills.{applied}
 use Rattle.sizing.specs.Afford.{need, affordable}
 use Rattle.sizing.specs.Cash.{cashTaken}
 use Rattle.table.specs.Keyed.{pick, orElse, seek, put64}
-use Rattle.fills.specs.declared.order.Order.{Order}
-use Rattle.fills.specs.declared.order.Terms.{Terms}
+use Rattle.fills.specs.declared.terms.Order.{Order}
+use Rattle.fills.specs.declared.terms.Terms.{Terms}
 use Rattle.fills.specs.Orders.{State, buys, paid, nextCount}
 use Rattle.fills.specs.Records.{recordOf}
 

@@ -1,13 +1,14 @@
 -- What a fill is made of: the order, the terms of the call, and what a run of fills changes.
 use Prim.Native.Nat.{ℕ, _+_, _^_, _-_, min}
 use mathlib.Core.Bool.{Bool}
-use mathlib.Core.List.{List}
+use mathlib.Core.List.{List, []}
 use lib.IntN.{ℤ, pos}
 use lib.Signed.{ltZ}
 use Rattle.position.specs.declared.position.Position.{Position}
+use Rattle.position.specs.Rows.{shares, symbol}
 use Rattle.cost_model.specs.Costs.{effective}
-use Rattle.fills.specs.declared.order.Order.{Order}
-use Rattle.fills.specs.declared.order.Terms.{Terms}
+use Rattle.fills.specs.declared.terms.Order.{Order}
+use Rattle.fills.specs.declared.terms.Terms.{Terms}
 use Rattle.fills.specs.declared.record.ExecutionRecord.{ExecutionRecord}
 
 -- what fills change: cash, the positions in symbol order, the two trim counters, the running record count, and the records made
@@ -18,6 +19,13 @@ pub record State : Type 0 where
   pub shortfall : ℤ
   pub sequence : ℕ
   pub records : List ExecutionRecord
+
+-- of cash alone: nothing is held, counted or recorded
+abbrev pub cashOnly : ℤ → State
+cashOnly cash = record { cash = cash; held = []; trimmed = 0; shortfall = pos 0; sequence = 0; records = [] }
+
+abbrev pub order : ℕ → ℤ → ℤ → Order
+order s q p = record { symbol = symbol s; quantity = shares q; price = p }
 
 abbrev pub buys : Order → Bool
 buys o = ltZ (pos 0) (o .quantity .0)

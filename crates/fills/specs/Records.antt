@@ -10,8 +10,8 @@ use Rattle.sums.specs.Sums.{satSub, notional}
 use Rattle.table.specs.Keyed.{pick, both}
 use Rattle.position.specs.Rows.{shares}
 use Rattle.cost_model.specs.Costs.{cost}
-use Rattle.fills.specs.declared.order.Order.{Order}
-use Rattle.fills.specs.declared.order.Terms.{Terms}
+use Rattle.fills.specs.declared.terms.Order.{Order}
+use Rattle.fills.specs.declared.terms.Terms.{Terms}
 use Rattle.fills.specs.declared.record.ExecutionKind.{ExecutionKind}
 use Rattle.fills.specs.declared.record.ExecutionKind.the-variants.{Rebalance, StopExit}
 use Rattle.fills.specs.declared.record.ExecutionRecord.{ExecutionRecord}

@@ -1,8 +1,8 @@
 // What an order comes to before anything is written.
 ghost use mathlib.Core.Path.{_≡_};
 ghost use Rattle.fills.specs.Inner.Deal.{dealt, noDeal, trimmedTo, buyDeal, saleDeal, dealOf};
-use crate::order::Order;
-use crate::order::Terms;
+use crate::terms::Order;
+use crate::terms::Terms;
 use position::Shares;
 
 // Quantity 0: nothing fills. Money is in cents.

@@ -6,8 +6,8 @@ ghost use lib.Seq.{sets};
 ghost use Rattle.fills.specs.Inner.Deal.{recordBy};
 ghost use Rattle.fills.specs.Records.{kindNumber, kindOf, wordsOfRecord, intsOfRecord, buffers, stored};
 use crate::deal::Deal;
-use crate::order::Order;
-use crate::order::Terms;
+use crate::terms::Order;
+use crate::terms::Terms;
 use position::Shares;
 use position::Symbol;
 

@@ -10,10 +10,11 @@ use lib.ListN.{length, take, drop, getD, set, replicate, length-append}
 use lib.Seq.{set-at, take-at, drop-cons}
 use borrow.Author.Tests.{leb-true}
 use Rattle.table.specs.Keyed.{pick}
+use Rattle.table.specs.Rows.{paddedColumn}
 use Rattle.table.proofs.Keyed.{both-true}
 use Rattle.fills.specs.Records.{fronted}
 use Rattle.list_bytes.specs.Entries.{isWhole, atPlaces}
-use Rattle.list_bytes.specs.Inner.Entries.{countOf, paddedColumn}
+use Rattle.list_bytes.specs.Inner.Entries.{countOf}
 
 -- ---- how many are read
 counted : (most n : ℕ) (b : Bool) → isWhole most n ≡ b → pick b (n / 16) 0 ≤ most

@@ -12,6 +12,7 @@ use Rattle.word_bytes.specs.Numbers.{unsignedOf}
 use Rattle.word_bytes.proofs.Words.{length-bytes}
 use Rattle.fills.specs.declared.record.ExecutionRecord.{ExecutionRecord}
 use Rattle.fills.specs.Records.{allWords, allInts, fronted}
+use Rattle.fills.proofs.Fronts.{words-long, ints-long}
 use Rattle.list_bytes.specs.Entries.{atPlaces}
 use Rattle.list_bytes.specs.Records.{recordWords, recordBytes, allBytes}
 use Rattle.list_bytes.specs.Inner.Records.{fourAt, intAt, rowsIn, fitting, writtenRecords, putAll}
@@ -79,16 +80,6 @@ rows-of : (rs : List ExecutionRecord) → length (allRows rs) ≡ 12 * length rs
 rows-of [] = refl
 rows-of (r ∷ rs) = omega (arith, rows-of rs)
 
-pub words-of : (rs : List ExecutionRecord) → length (allWords rs) ≡ 4 * length rs
-unfolding allWords
-words-of [] = refl
-words-of (r ∷ rs) = omega (arith, words-of rs)
-
-pub ints-of : (rs : List ExecutionRecord) → length (allInts rs) ≡ 8 * length rs
-unfolding allInts
-ints-of [] = refl
-ints-of (r ∷ rs) = omega (arith, ints-of rs)
-
 pub bytes-long : (rs : List ExecutionRecord) → length (allBytes rs) ≡ 96 * length rs
 bytes-long rs = ap length (sym (bytes-records rs)) ∙ omega (arith, length-bytes (allRows rs), rows-of rs)
 
@@ -99,8 +90,8 @@ unfolding writtenRecords
 records-written rs x y out h =
     let ws = allWords rs ++ x in
     let is = allInts rs ++ y in
-    let a : 4 * length rs ≤ length ws = simp length-append (omega (arith, words-of rs)) in
-    let b : 8 * length rs ≤ length is = simp length-append (omega (arith, ints-of rs)) in
+    let a : 4 * length rs ≤ length ws = simp length-append (omega (arith, words-long rs)) in
+    let b : 8 * length rs ≤ length is = simp length-append (omega (arith, ints-long rs)) in
     let n : fitting (length rs) (length ws) (length is) (length out) ≡ length rs = omega arith in
     ap (λ k. fronted (bytesOf (rowsIn k ws is)) out) n
     ∙ ap (λ k. fronted (bytesOf k) out) (rows-records rs x y)

@@ -4,8 +4,8 @@ use mathlib.Core.Bool.{Bool, true, false, cond}
 use mathlib.Core.List.{List, [], _∷_, foldl}
 use lib.Dec.{eqb}
 use lib.Ieee.{Float, nan, inf, fin, binary64, unlike, add, mul}
-use Rattle.doubles.specs.Doubles.{finite}
-use Rattle.metrics.specs.Double.{one, allFinite}
+use Rattle.doubles.specs.Doubles.{finite, allFinite}
+use Rattle.metrics.specs.Double.{one}
 use Rattle.metrics.specs.Curve.{compounded, curveAfter}
 use Rattle.metrics.specs.declared.curve.Curve.{Curve}
 

@@ -1,15 +1,13 @@
 -- What the pass over a series has gathered before a place, and that the place moves on.
 use Prim.Native.Nat.{ℕ, _+_, _≤_, _<_}
 use mathlib.Core.Path.{_≡_, refl, sym, ap, _∙_}
-use mathlib.Core.Bool.{Bool, true, false, _&&_}
-use mathlib.Core.List.{List, [], _∷_, foldl}
+use mathlib.Core.Bool.{Bool, true, false}
+use mathlib.Core.List.{List, foldl}
 use native.Mathlib.Omega.{arith}
-use native.Mathlib.Numerals.{add-one}
 use lib.ListN.{length, drop, getD, drop-of-length-le}
-use lib.Seq.{drop-cons}
 use lib.Ieee.{Float}
-use Rattle.doubles.specs.Doubles.{finite}
-use Rattle.metrics.specs.Double.{allFinite}
+use Rattle.doubles.specs.Doubles.{finite, allFinite}
+use Rattle.doubles.proofs.Finite.{drop-next}
 use Rattle.metrics.specs.Curve.{flat, curveAfter}
 use Rattle.metrics.specs.Tally.{wins, loses}
 use Rattle.metrics.specs.Inner.Tally.{countedIf, noReturns, tallyAfter}
@@ -18,11 +16,6 @@ use Rattle.metrics.specs.declared.curve.Curve.{Curve}
 use Rattle.metrics.specs.declared.tally.Tally.{Tally}
 use Rattle.metrics.proofs.FiniteEquity.{equity-finite}
 
--- f says whether all before the place are finite
-pub record Looking (rs : List Float) (f : Bool) (i : ℕ) : Type 0 where
-  pub inside : i ≤ length rs
-  pub all-finite : (f && allFinite (drop i rs)) ≡ allFinite rs
-
 pub record Gathering (rs : List Float) (c : Curve) (t : Tally) (i : ℕ) : Type 0 where
   pub inside : i ≤ length rs
   pub won : t .«winning_periods» ≤ i
@@ -30,39 +23,11 @@ pub record Gathering (rs : List Float) (c : Curve) (t : Tally) (i : ℕ) : Type 
   pub whole-curve : foldl curveAfter c (drop i rs) ≡ foldl curveAfter flat rs
   pub whole-tally : foldl tallyAfter t (drop i rs) ≡ foldl tallyAfter noReturns rs
 
-and-assoc : (a b c : Bool) → ((a && b) && c) ≡ (a && (b && c))
-and-assoc true b c = refl
-and-assoc false b c = refl
-
-and-true : (a : Bool) → (a && true) ≡ a
-and-true true = refl
-and-true false = refl
-
 counted-one : (n i : ℕ) (b : Bool) → n ≤ i → countedIf n b ≤ i + 1
 counted-one n i true l = omega arith
 counted-one n i false l = omega arith
 
 module _ (rs : List Float) where
-  next : (i : ℕ) (d : Float) → i < length rs → drop i rs ≡ getD rs i d ∷ drop (i + 1) rs
-  next i d l = rw add-one (drop-cons rs i d l)
-
-  -- ---- whether all are finite
-  pub finite-first : Looking rs true 0
-  finite-first = record { inside = omega arith; all-finite = refl }
-
-  pub finite-on : (f : Bool) (i : ℕ) (d : Float) → i < length rs → Looking rs f i → Looking rs (f && finite (getD rs i d)) (i + 1)
-  unfolding allFinite
-  finite-on f i d l g =
-      record {
-        inside = omega arith;
-        all-finite = and-assoc f (finite (getD rs i d)) (allFinite (drop (i + 1) rs)) ∙ sym (ap (λ l. f && allFinite l) (next i d l)) ∙ g .all-finite;
-      }
-
-  pub finite-last : (f : Bool) (i : ℕ) → length rs ≤ i → Looking rs f i → f ≡ allFinite rs
-  unfolding allFinite
-  finite-last f i l g = sym (and-true f) ∙ sym (ap (λ l. f && allFinite l) (drop-of-length-le rs l)) ∙ g .all-finite
-
-  -- ---- curve and tally
   pub gather-first : Gathering rs flat noReturns 0
   gather-first = record { inside = omega arith; won = omega arith; lost = omega arith; whole-curve = refl; whole-tally = refl }
 
@@ -75,8 +40,8 @@ module _ (rs : List Float) where
         inside = omega arith;
         won = counted-one (t .«winning_periods») i (wins r) (g .won);
         lost = counted-one (t .«losing_periods») i (loses r) (g .lost);
-        whole-curve = sym (ap (foldl curveAfter c) (next i d l)) ∙ g .whole-curve;
-        whole-tally = sym (ap (foldl tallyAfter t) (next i d l)) ∙ g .whole-tally;
+        whole-curve = sym (ap (foldl curveAfter c) (drop-next rs i d l)) ∙ g .whole-curve;
+        whole-tally = sym (ap (foldl tallyAfter t) (drop-next rs i d l)) ∙ g .whole-tally;
       }
 
   last-curve : (c : Curve) (t : Tally) (i : ℕ) → length rs ≤ i → Gathering rs c t i → c ≡ foldl curveAfter flat rs

@@ -14,7 +14,7 @@ use lib.Ieee.Exact.{HasValue, round-exact}
 use lib.Ieee.Fits.{reach, and-l, and-r, down-pos, round-fits}
 use lib.Ieee.Nearest.{div-same}
 use borrow.Author.Tests.{le-ltb}
-use Rattle.metrics.proofs.SumStart.{minusZero}
+use Rattle.doubles.proofs.Chain.{minusZero}
 
 exponent-le : (i j : ℕ) → 2 ^ i ≤ 2 ^ j → i ≤ j
 exponent-le i j h = let l : i < suc j = lt-of-not-le (λ g. not-le-of-lt (pow-lt g) h) in omega arith

@@ -6,14 +6,10 @@ use mathlib.Core.List.{List, _∷_, foldl}
 use native.Mathlib.Nat.{zero-mul}
 use native.Mathlib.Omega.{arith}
 use lib.Dec.{eqb}
-use lib.IntN.{pos}
 use lib.Ieee.{Float, nan, inf, fin, binary64, up, down, ne, sum, round, add}
 use borrow.Author.Tests.{lt-ltb}
+use Rattle.doubles.proofs.Chain.{minusZero}
 use Rattle.metrics.specs.Double as D
-
--- -0.0
-abbrev pub minusZero : Float
-minusZero = fin true 0 (pos 0)
 
 same-sum : (t : Bool) (a b c : ℕ) → a ≡ 0 → 0 < b → sum binary64 true a t b c ≡ sum binary64 false a t b c
 unfolding sum

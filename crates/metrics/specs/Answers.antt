@@ -4,9 +4,9 @@ use mathlib.Core.List.{List}
 use lib.Dec.{ltb}
 use lib.ListN.{length}
 use lib.Ieee.{Float}
+use Rattle.doubles.specs.Doubles.{allFinite}
 use Rattle.answer.specs.declared.Answer.{Answer}
 use Rattle.answer.specs.declared.Answer.the-variants.{Done, TooLong, BadSeries}
-use Rattle.metrics.specs.Double.{allFinite}
 use Rattle.metrics.specs.Tally.{mostReturns}
 use Rattle.metrics.specs.Figures.{figuresOf, noFigures}
 use Rattle.metrics.specs.declared.Metrics.{Metrics}

@@ -1,15 +1,7 @@
--- The doubles that the figures start from, and what is asked of a double. Definitions only.
-use mathlib.Core.Bool.{Bool, true, false, _&&_}
-use mathlib.Core.List.{List, [], _∷_}
-use lib.IntN.{pos}
+-- The doubles that the figures start from, and the size of one. Definitions only.
+use mathlib.Core.Bool.{false}
 use lib.Ieee.{Float, nan, inf, fin}
-use Rattle.doubles.specs.Doubles.{finite}
-
-abbrev pub zero : Float
-zero = fin false 0 (pos 0)
-
-abbrev pub one : Float
-one = fin false 1 (pos 0)
+pub use Rattle.doubles.specs.Doubles.{zero, one}
 
 -- `f64::INFINITY`
 abbrev pub infinity : Float
@@ -20,8 +12,3 @@ unfoldable pub absolute : Float → Float
 absolute nan = nan
 absolute (inf s) = inf false
 absolute (fin s m e) = fin false m e
-
--- No member is an infinity or a NaN.
-unfoldable pub allFinite : List Float → Bool
-allFinite [] = true
-allFinite (r ∷ rs) = finite r && allFinite rs

@@ -2,11 +2,11 @@
 ghost use mathlib.Core.Path.{_≡_};
 ghost use Prim.Native.Nat.{_≤_};
 ghost use lib.ListN.{length};
-ghost use Rattle.metrics.specs.Double.{allFinite};
 ghost use Rattle.metrics.specs.Tally.{mostReturns};
 ghost use Rattle.metrics.specs.Inner.Gathered.{gathered};
 use crate::curve::Curve;
 use crate::tally::Tally;
+use doubles::all_finite;
 use doubles::is_finite;
 
 // What the returns so far have come to, and whether all of them are finite.
@@ -14,20 +14,6 @@ pub(crate) struct Gathered {
     pub(crate) finite: bool,
     pub(crate) curve: Curve,
     pub(crate) tally: Tally,
-}
-
-// Whether every return is finite.
-fn all_finite(returns: &[f64]) -> bool
-    ensures { λ r. ⌜ r ≡ allFinite (now (returns .entry)) ⌝ }
-{
-    let mut finite = true;
-    let mut i = 0usize;
-    while i < returns.len() {
-        let r = returns[i];
-        finite = finite & is_finite(r);
-        i += 1;
-    }
-    finite
 }
 
 // The figures' passes over the series in one: each reads the returns in the same order. After a return that is not

@@ -15,8 +15,8 @@ use Rattle.account.specs.Account.{tableOf}
 use Rattle.account.specs.Inner.Account.{tableWith}
 use Rattle.account.proofs.SoundAccounts.{account-cash, account-costs}
 use Rattle.account.proofs.Tables.{ordered-table}
-use Rattle.fills.specs.declared.order.Order.{Order}
-use Rattle.fills.specs.declared.order.Terms.{Terms}
+use Rattle.fills.specs.declared.terms.Order.{Order}
+use Rattle.fills.specs.declared.terms.Terms.{Terms}
 use Rattle.fills.specs.Orders.{State}
 use Rattle.fills.specs.Fill.{fillAll}
 use Rattle.order.specs.Running.{Perm, total, Room, NotBelow0, InRange}

@@ -6,10 +6,10 @@ use mathlib.Core.Path.{_≡_, refl, _∙_}
 use lib.IntN.{ℤ, pos, negsuc, _+ℤ_}
 use lib.Ieee.{add, mul, div, lt, le, ofInt, toSigned}
 use Rattle.sums.specs.Sums.{clamp64, satAdd, satSub, satNeg, satAbs, value, notional}
-use Rattle.doubles.specs.Doubles.{roundAway}
+use Rattle.doubles.specs.Doubles.{allFinite, roundAway}
 use Rattle.position.specs.Shares.{isZero}
 use Rattle.position.specs.Rows.{row}
-use Rattle.position.specs.Symbols.{bytesFrom, leading, zeros, padded, goodSymbol}
+use Rattle.position.specs.Symbols.{bytesFrom, leading, padded, goodSymbol}
 use Rattle.position.specs.Fills.{soundNumbers, sound, applied, sameSide, closedBy, gain, realizedBy, closed, reduced}
 use Rattle.cost_model.specs.Costs.{model, zero, cost, commission, atLeast, uncapped, atMost, slippageFactor, slipped, effective, goodRate, goodCeiling, goodCosts}
 use Rattle.sizing.specs.Sizing.{above, drift}
@@ -22,7 +22,7 @@ use Rattle.fills.specs.Fill.{fillsWhole, made, settled, fill, fillAll}
 use Rattle.account.specs.Settings.{ofCosts, openingSettings, withRecording, withCashFirst, goodRules, goodSettings}
 use Rattle.account.specs.Account.{soundAccount, soundScalars, soundColumns, soundPlaces, tableOf}
 use Rattle.account.specs.Calls.{zeroAccount}
-use Rattle.call_lists.specs.Lists.{among, allGood, distinct, allFinite, allPriced, priceOf}
+use Rattle.call_lists.specs.Lists.{among, allGood, distinct, allPriced, priceOf}
 use Rattle.call_lists.specs.Checks.{shortEnough, listsAnswer}
 use Rattle.wanted.specs.Plan.{withinBand, underMaximum, limited, allowedOrder, plannedClose, closing, closings, targetings, wanted}
 use Rattle.wanted.specs.Equity.{worthFrom, equityOf}
@@ -32,7 +32,7 @@ use Rattle.portfolio.specs.Answers.{hasRoom, notHeld, rebalanceAnswer}
 use Rattle.portfolio.specs.Rebalance.{admittedPlan}
 use Rattle.order.specs.Running.{swap, total}
 use Rattle.order.specs.Statement.{cashRaised, allWhole}
-use Rattle.fills.specs.declared.order.Order.{Order}
+use Rattle.fills.specs.declared.terms.Order.{Order}
 use Rattle.order.specs.Examples.{sell}
 use Rattle.order.specs.CashFirst.{Call, InCashFirst, FillsAll, left, begins, terms}
 use Rattle.order.proofs.CashFirst.{carries-demand-3}
@@ -62,7 +62,7 @@ case = record {
 }
 
 pub asked : InCashFirst case
-unfolding total cashRaised above admittedPlan rebalanceAnswer hasRoom notHeld soundAccount soundScalars soundColumns soundPlaces tableOf goodRules goodSettings goodCeiling goodCosts goodRate zipped unused ordered goodSymbol bytesFrom leading zeros padded soundNumbers sound shortEnough listsAnswer among allGood distinct allFinite allPriced priceOf worthFrom equityOf planOf wanted closings closing plannedClose allowedOrder withinBand underMaximum limited targetings drift capped insertBy added addedAll admittedFrom admitted cashChange cashTaken cost commission atLeast uncapped atMost effective slipped slippageFactor value notional clamp64 satAdd satSub satNeg satAbs roundAway add mul div lt le ofInt toSigned isZero
+unfolding total cashRaised above admittedPlan rebalanceAnswer hasRoom notHeld soundAccount soundScalars soundColumns soundPlaces tableOf goodRules goodSettings goodCeiling goodCosts goodRate zipped unused ordered goodSymbol bytesFrom leading padded soundNumbers sound shortEnough listsAnswer among allGood distinct allFinite allPriced priceOf worthFrom equityOf planOf wanted closings closing plannedClose allowedOrder withinBand underMaximum limited targetings drift capped insertBy added addedAll admittedFrom admitted cashChange cashTaken cost commission atLeast uncapped atMost effective slipped slippageFactor value notional clamp64 satAdd satSub satNeg satAbs roundAway add mul div lt le ofInt toSigned isZero
 asked = record {
   columns = record { symbol = refl; quantity = refl; average = refl; realized = refl; total = refl };
   mode = refl;

@@ -15,13 +15,13 @@ use Rattle.cost_model.specs.Costs.{cost, commission, atLeast, uncapped, atMost,
 use Rattle.sizing.specs.Sizing.{above}
 use Rattle.sizing.specs.Afford.{need, fits, largest, affordable}
 use Rattle.sizing.specs.Cash.{cashTaken, cashChange}
-use Rattle.fills.specs.declared.order.Terms.{Terms}
-use Rattle.fills.specs.Orders.{paid}
+use Rattle.fills.specs.declared.terms.Terms.{Terms}
+use Rattle.fills.specs.Orders.{cashOnly, paid}
 use Rattle.fills.specs.Fill.{fillsWhole, made, counted, settled, trimmedFill, fill, fillAll}
 use Rattle.admission.specs.Running.{parted}
 use Rattle.order.specs.Running.{swap, total, nothing, and, NotBelow0, InRange}
 use Rattle.order.specs.Statement.{lowers, cashRaised, Batch, allWhole, AllWhole, SameLeft}
-use Rattle.order.specs.Examples.{floorOf, opened, allComeOut, saleFirst, buyFirst, smallSale, runs, sameSymbol, oneRoom, slipsDown, slippedBuy, slippedSale, badCosts}
+use Rattle.order.specs.Examples.{floorOf, allComeOut, saleFirst, buyFirst, smallSale, runs, sameSymbol, oneRoom, slipsDown, slippedBuy, slippedSale, badCosts}
 use Rattle.order.proofs.Perms.{perm-refl}
 use Rattle.order.proofs.OrderTheorem.{condition-3, parted-whole}
 
@@ -39,9 +39,9 @@ pub record Evaluated : Type 0 where
   pub slipped-sale-lowers-cash : lowers slipsDown slippedSale ≡ true
   good : goodCosts (free .costs) ≡ true
   raised : total (cashRaised free) saleFirst ≡ 80
-  sale-first-at-50 : AllWhole free saleFirst (opened (pos 50))
-  sale-first-at-100 : AllWhole free saleFirst (opened (pos 100))
-  buy-first-at-100 : AllWhole free buyFirst (opened (pos 100))
+  sale-first-at-50 : AllWhole free saleFirst (cashOnly (pos 50))
+  sale-first-at-100 : AllWhole free saleFirst (cashOnly (pos 100))
+  buy-first-at-100 : AllWhole free buyFirst (cashOnly (pos 100))
 
 pub evaluated : Evaluated
 unfolding total cashRaised cashChange allWhole fillAll fill fillsWhole settled trimmedFill counted made cashTaken paid need fits largest affordable above goodCeiling goodCosts goodRate effective slipped slippageFactor cost commission atLeast uncapped atMost applied sameSide entered averaged grown closedBy gain realizedBy closedCost closed partlyClosed reduced isZero value notional priceAt clamp64 satAdd satSub satAbs roundAway add mul div le ofInt toSigned
@@ -64,7 +64,7 @@ evaluated = record {
 two-not-one : _≡_ {A = ℕ} 2 1 → ⊥
 two-not-one e = omega arith
 
-batch : (c : ℤ) → NotBelow0 c → InRange (c +ℤ pos 80) → Batch free saleFirst (opened c)
+batch : (c : ℤ) → NotBelow0 c → InRange (c +ℤ pos 80) → Batch free saleFirst (cashOnly c)
 unfolding isZero total
 batch c low top = record {
   funded = record {
@@ -78,9 +78,9 @@ batch c low top = record {
 }
 
 -- cash 50: a running order fills both, so those not lowering cash first do
-pub case-l-fills : AllWhole free (parted (lowers free) saleFirst) (opened (pos 50))
-case-l-fills = parted-whole free saleFirst (opened (pos 50)) (batch (pos 50) refl refl .funded) saleFirst (perm-refl saleFirst) (evaluated .sale-first-at-50)
+pub case-l-fills : AllWhole free (parted (lowers free) saleFirst) (cashOnly (pos 50))
+case-l-fills = parted-whole free saleFirst (cashOnly (pos 50)) (batch (pos 50) refl refl .funded) saleFirst (perm-refl saleFirst) (evaluated .sale-first-at-50)
 
 -- cash 100: both running orders fill both, and leave the same
-pub case-l-same : SameLeft (fillAll free saleFirst (opened (pos 100))) (fillAll free buyFirst (opened (pos 100)))
-case-l-same = condition-3 free saleFirst (opened (pos 100)) (batch (pos 100) refl refl) .same saleFirst buyFirst (perm-refl saleFirst) swap (evaluated .sale-first-at-100) (evaluated .buy-first-at-100)
+pub case-l-same : SameLeft (fillAll free saleFirst (cashOnly (pos 100))) (fillAll free buyFirst (cashOnly (pos 100)))
+case-l-same = condition-3 free saleFirst (cashOnly (pos 100)) (batch (pos 100) refl refl) .same saleFirst buyFirst (perm-refl saleFirst) swap (evaluated .sale-first-at-100) (evaluated .buy-first-at-100)

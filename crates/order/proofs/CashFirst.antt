@@ -4,10 +4,10 @@ use mathlib.Core.Bool.{Bool, true, false, not}
 use mathlib.Core.Path.{_≡_, refl, sym, ap, _∙_, subst}
 use Rattle.table.specs.Keyed.{pick}
 use Rattle.account.specs.declared.account.Account.{Account}
-use Rattle.fills.specs.declared.order.Order.{Order}
+use Rattle.fills.specs.declared.terms.Order.{Order}
 use Rattle.fills.specs.Fill.{fillAll}
 use Rattle.call_lists.specs.Lists.{priceOf}
-use Rattle.wanted.specs.declared.plan.PlannedOrder.{PlannedOrder}
+use Rattle.wanted.specs.declared.planned.PlannedOrder.{PlannedOrder}
 use Rattle.admission.specs.Running.{only, parted, bySymbol, cashFirst, inRunningOrder}
 use Rattle.portfolio.specs.Answers.{rebalanceAnswer}
 use Rattle.portfolio.specs.Rebalance.{orderOf, admittedPlan, accountAfter, afterPlan, refused, afterRebalance, rebalanced}

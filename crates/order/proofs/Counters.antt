@@ -7,8 +7,8 @@ use lib.ListN.{length}
 use Rattle.cost_model.specs.Costs.{goodCosts}
 use Rattle.table.specs.Keyed.{pick}
 use Rattle.table.proofs.Keyed.{both-true}
-use Rattle.fills.specs.declared.order.Order.{Order}
-use Rattle.fills.specs.declared.order.Terms.{Terms}
+use Rattle.fills.specs.declared.terms.Order.{Order}
+use Rattle.fills.specs.declared.terms.Terms.{Terms}
 use Rattle.fills.specs.Orders.{State, nextCount}
 use Rattle.fills.specs.Fill.{fillsWhole, settled, fill, fillAll}
 use Rattle.order.specs.Running.{Perm, done, keep, swap, then, All, nothing, and}

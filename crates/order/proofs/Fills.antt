@@ -8,8 +8,8 @@ use Rattle.position.specs.Rows.{fresh, keyOf}
 use Rattle.position.proofs.Fills.{applied-keeps-symbol}
 use Rattle.cost_model.specs.Costs.{goodCosts}
 use Rattle.sizing.specs.Cash.{cashTaken}
-use Rattle.fills.specs.declared.order.Order.{Order}
-use Rattle.fills.specs.declared.order.Terms.{Terms}
+use Rattle.fills.specs.declared.terms.Order.{Order}
+use Rattle.fills.specs.declared.terms.Terms.{Terms}
 use Rattle.fills.specs.Orders.{State, buys, paid}
 use Rattle.fills.specs.Fill.{fillsWhole, made, settled, fill}
 use Rattle.fills.proofs.Cash.{whole-is-taken, whole-settles}

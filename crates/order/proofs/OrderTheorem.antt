@@ -6,8 +6,8 @@ use mathlib.Core.Path.{_≡_, refl, sym, ap, _∙_, subst}
 use lib.IntN.{ℤ, pos, _+ℤ_}
 use Rattle.sizing.specs.Cash.{cashChange}
 use Rattle.sizing.proofs.Sizes.{above-is-P}
-use Rattle.fills.specs.declared.order.Order.{Order}
-use Rattle.fills.specs.declared.order.Terms.{Terms}
+use Rattle.fills.specs.declared.terms.Order.{Order}
+use Rattle.fills.specs.declared.terms.Terms.{Terms}
 use Rattle.fills.specs.Orders.{State, paid}
 use Rattle.fills.specs.Fill.{fillsWhole, fill, fillAll}
 use Rattle.admission.specs.Running.{parted}

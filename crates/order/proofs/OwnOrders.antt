@@ -27,7 +27,7 @@ use Rattle.account.specs.declared.account.Account.{Account}
 use Rattle.account.specs.declared.settings.Settings.{Settings}
 use Rattle.account.specs.Account.{heldIn}
 use Rattle.account.proofs.SoundAccounts.{account-ordered}
-use Rattle.wanted.specs.declared.plan.PlannedOrder.{PlannedOrder}
+use Rattle.wanted.specs.declared.planned.PlannedOrder.{PlannedOrder}
 use Rattle.wanted.specs.Equity.{equityOf}
 use Rattle.wanted.specs.Plan.{planned, plannedClose, closing, targeting, closings, targetings, wanted}
 use Rattle.wanted.proofs.Plans as planning
@@ -35,7 +35,7 @@ use Rattle.admission.specs.Admission.{notionalOf, insertBy, reached, added, add
 use Rattle.admission.specs.Inner.Kept.{Each, Start, none, last, more}
 use Rattle.admission.specs.Running.{planOf}
 use Rattle.admission.proofs.Kept.{wanted-all, added-keeps, addedAll-all, admitted-is-start}
-use Rattle.fills.specs.declared.order.Order.{Order}
+use Rattle.fills.specs.declared.terms.Order.{Order}
 use Rattle.portfolio.specs.Answers.{isDone, notHeld, rebalanceAnswer}
 use Rattle.portfolio.specs.Rebalance.{orderOf, admittedPlan}
 use Rattle.portfolio.proofs.Refusals.{rebalance-done}

@@ -6,7 +6,7 @@ use mathlib.Core.Bool.{Bool, true, false, not}
 use lib.Dec.{T, T-not}
 use native.Mathlib.Omega.{arith}
 use Rattle.table.specs.Keyed.{pick}
-use Rattle.wanted.specs.declared.plan.PlannedOrder.{PlannedOrder}
+use Rattle.wanted.specs.declared.planned.PlannedOrder.{PlannedOrder}
 use Rattle.admission.specs.Admission.{insertBy}
 use Rattle.admission.specs.Running.{only, parted, symbolBefore, sortedWith}
 use Rattle.order.specs.Running.{Perm, done, keep, swap, then, total, All, nothing, and, Pairs, Last}

@@ -8,8 +8,8 @@ use lib.Ieee.{Float}
 use Rattle.table.specs.Rows.{columnsOf, Full}
 use Rattle.account.specs.declared.account.Account.{Account}
 use Rattle.account.specs.Account.{tableOf}
-use Rattle.fills.specs.declared.order.Order.{Order}
-use Rattle.fills.specs.declared.order.Terms.{Terms}
+use Rattle.fills.specs.declared.terms.Order.{Order}
+use Rattle.fills.specs.declared.terms.Terms.{Terms}
 use Rattle.fills.specs.declared.record.ExecutionKind.{ExecutionKind}
 use Rattle.fills.specs.Orders.{State}
 use Rattle.fills.specs.Fill.{fillAll}

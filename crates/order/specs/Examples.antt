@@ -7,12 +7,12 @@ use lib.ListN.{drop}
 use lib.IntN.{ℤ, pos, negsuc}
 use lib.Ieee.{fin}
 use Rattle.position.specs.declared.position.Position.{Position}
-use Rattle.position.specs.Rows.{shares, symbol, fresh, keyOf, realized}
+use Rattle.position.specs.Rows.{fresh, keyOf, realized}
 use Rattle.cost_model.specs.Costs as Costs
-use Rattle.fills.specs.declared.order.Order.{Order}
-use Rattle.fills.specs.declared.order.Terms.{Terms}
+use Rattle.fills.specs.declared.terms.Order.{Order}
+use Rattle.fills.specs.declared.terms.Terms.{Terms}
 use Rattle.fills.specs.declared.record.ExecutionKind.the-variants.{Rebalance}
-use Rattle.fills.specs.Orders.{State}
+use Rattle.fills.specs.Orders.{State, cashOnly, order}
 use Rattle.fills.specs.Fill.{fillAll}
 use Rattle.order.specs.Statement.{allWhole}
 
@@ -20,15 +20,12 @@ use Rattle.order.specs.Statement.{allWhole}
 abbrev pub floorOf : ℤ → Terms
 floorOf m = record { costs = Costs.model Costs.zero Costs.zero m; «quantity_step» = pos 1000000; recording = false; «period_index» = 0; kind = Rebalance }
 
-abbrev pub opened : ℤ → State
-opened cash = record { cash = cash; held = []; trimmed = 0; shortfall = pos 0; sequence = 0; records = [] }
-
 -- one share of a symbol bought, and one sold
 abbrev pub buy : ℕ → ℤ → Order
-buy n price = record { symbol = symbol n; quantity = shares (pos 1000000); price = price }
+buy n price = order n (pos 1000000) price
 
 abbrev pub sell : ℕ → ℤ → Order
-sell n price = record { symbol = symbol n; quantity = shares (negsuc 999999); price = price }
+sell n price = order n (negsuc 999999) price
 
 -- a run from some cash under some floor: whether each order fills whole, and the cash that is left
 pub record Run : Type 0 where
@@ -52,8 +49,8 @@ sameTest a b = cond a b (not b)
 
 abbrev pub comesOut : Run → Bool
 comesOut r =
-    sameTest (allWhole (floorOf (r .floor)) (r .orders) (opened (r .cash))) (r .whole)
-    && sameNumber (fillAll (floorOf (r .floor)) (r .orders) (opened (r .cash)) .cash) (r .left)
+    sameTest (allWhole (floorOf (r .floor)) (r .orders) (cashOnly (r .cash))) (r .whole)
+    && sameNumber (fillAll (floorOf (r .floor)) (r .orders) (cashOnly (r .cash)) .cash) (r .left)
 
 abbrev pub allComeOut : List Run → Bool
 allComeOut [] = true
@@ -106,7 +103,7 @@ topLoses =
 
 -- Second: so a running order that raises cash first may fail where another fills whole.
 abbrev pub buyAll : Order
-buyAll = record { symbol = symbol 3; quantity = shares (pos 9223372036854775807); price = pos 1000000 }
+buyAll = order 3 (pos 9223372036854775807) (pos 1000000)
 
 abbrev pub topFails : List Run
 topFails =
@@ -116,7 +113,7 @@ topFails =
 
 -- Non-zero orders: an empty order is skipped where cash is below the floor that it never pays.
 abbrev pub empty : Order
-empty = record { symbol = symbol 2; quantity = shares (pos 0); price = pos 10 }
+empty = order 2 (pos 0) (pos 10)
 
 abbrev pub emptyOrder : List Run
 emptyOrder =
@@ -151,8 +148,8 @@ slippedSale = sell 2 (pos 1)
 
 abbrev pub badCosts : List Bool
 badCosts =
-    allWhole slipsDown (slippedSale ∷ (slippedBuy ∷ [])) (opened (pos 15))
-    ∷ (allWhole slipsDown (slippedBuy ∷ (slippedSale ∷ [])) (opened (pos 15))
+    allWhole slipsDown (slippedSale ∷ (slippedBuy ∷ [])) (cashOnly (pos 15))
+    ∷ (allWhole slipsDown (slippedBuy ∷ (slippedSale ∷ [])) (cashOnly (pos 15))
     ∷ [])
 
 abbrev pub runs : List Run
@@ -164,8 +161,8 @@ profits ps = map realized ps
 
 abbrev pub sameSymbol : List (List ℤ)
 sameSymbol =
-    profits (fillAll (floorOf (pos 0)) (buy 1 (pos 100) ∷ (sell 1 (pos 150) ∷ (buy 1 (pos 200) ∷ []))) (opened (pos 1000)) .held)
-    ∷ (profits (fillAll (floorOf (pos 0)) (buy 1 (pos 100) ∷ (buy 1 (pos 200) ∷ (sell 1 (pos 150) ∷ []))) (opened (pos 1000)) .held)
+    profits (fillAll (floorOf (pos 0)) (buy 1 (pos 100) ∷ (sell 1 (pos 150) ∷ (buy 1 (pos 200) ∷ []))) (cashOnly (pos 1000)) .held)
+    ∷ (profits (fillAll (floorOf (pos 0)) (buy 1 (pos 100) ∷ (buy 1 (pos 200) ∷ (sell 1 (pos 150) ∷ []))) (cashOnly (pos 1000)) .held)
     ∷ [])
 
 -- Room for all: of two new symbols the table takes the one that comes first.

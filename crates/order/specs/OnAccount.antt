@@ -6,8 +6,8 @@ use lib.ListN.{length}
 use lib.IntN.{pos, _+ℤ_}
 use Rattle.account.specs.declared.account.Account.{Account}
 use Rattle.account.specs.Account.{soundAccount, heldIn, tableOf}
-use Rattle.fills.specs.declared.order.Order.{Order}
-use Rattle.fills.specs.declared.order.Terms.{Terms}
+use Rattle.fills.specs.declared.terms.Order.{Order}
+use Rattle.fills.specs.declared.terms.Terms.{Terms}
 use Rattle.fills.specs.Orders.{State}
 use Rattle.order.specs.Running.{total, All, Pairs, Different, Room, InRange}
 use Rattle.order.specs.Statement.{cashRaised, Tradable, symbolOf, placesAsked}

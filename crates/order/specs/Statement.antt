@@ -13,8 +13,8 @@ use Rattle.cost_model.specs.Costs.{goodCosts}
 use Rattle.sizing.specs.Sizing.{above}
 use Rattle.sizing.specs.Cash.{cashChange, lowersCash}
 use Rattle.table.specs.Keyed.{seek, new}
-use Rattle.fills.specs.declared.order.Order.{Order}
-use Rattle.fills.specs.declared.order.Terms.{Terms}
+use Rattle.fills.specs.declared.terms.Order.{Order}
+use Rattle.fills.specs.declared.terms.Terms.{Terms}
 use Rattle.fills.specs.Orders.{State}
 use Rattle.fills.specs.Fill.{fillsWhole, fill, fillAll}
 use Rattle.order.specs.Running.{Perm, total, All, Pairs, Last, Different, Room, NotBelow0, InRange}

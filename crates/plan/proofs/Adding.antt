@@ -8,7 +8,7 @@ use lib.IntN.{ℤ, pos}
 use lib.ListN.{length, take}
 use lib.Ieee.{Float}
 use Rattle.table.specs.Inner.Places.{shorter}
-use Rattle.wanted.specs.declared.plan.PlannedOrder.{PlannedOrder}
+use Rattle.wanted.specs.declared.planned.PlannedOrder.{PlannedOrder}
 use Rattle.table.specs.Rows.{isZero}
 use Rattle.table.proofs.Places.{shorter-below}
 use Rattle.wanted.specs.Plan.{plannedClose}

@@ -20,7 +20,7 @@ use Rattle.table.proofs.Zipped.{zipped-length, zipped-at}
 use Rattle.table.proofs.Posting.{held-is-holding}
 use Rattle.table.proofs.Places.{shorter-same}
 use Rattle.account.specs.declared.settings.Settings.{Settings}
-use Rattle.wanted.specs.declared.plan.PlannedOrder.{PlannedOrder}
+use Rattle.wanted.specs.declared.planned.PlannedOrder.{PlannedOrder}
 use Rattle.wanted.specs.Plan.{closing, closings, targeting, targetings, wanted}
 use Rattle.admission.specs.Admission.{addedAll, admitted}
 use Rattle.admission.specs.Running.{planOf}

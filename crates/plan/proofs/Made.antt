@@ -9,7 +9,7 @@ use lib.Ieee.{Float}
 use lib.Seq.{take-nil}
 use Rattle.table.specs.Keyed.{pick}
 use Rattle.account.specs.declared.settings.Settings.{Settings}
-use Rattle.wanted.specs.declared.plan.PlannedOrder.{PlannedOrder}
+use Rattle.wanted.specs.declared.planned.PlannedOrder.{PlannedOrder}
 use Rattle.wanted.specs.Inner.Plan.{orderCount}
 use Rattle.admission.specs.Admission.{addedAll, admitted}
 use Rattle.admission.specs.Inner.Admission.{mostOf}

@@ -1,5 +1,6 @@
 -- Laws of whole calls on an account.
 pub mod Refusals
+pub mod Rooms
 pub mod Worths
 pub mod Trading
 pub mod Lacking

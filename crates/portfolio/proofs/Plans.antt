@@ -18,7 +18,7 @@ use Rattle.account.specs.declared.account.Account.{Account}
 use Rattle.account.specs.declared.settings.Settings.{Settings}
 use Rattle.account.specs.Account.{heldIn}
 use Rattle.account.proofs.SoundAccounts.{account-ordered}
-use Rattle.wanted.specs.declared.plan.PlannedOrder.{PlannedOrder}
+use Rattle.wanted.specs.declared.planned.PlannedOrder.{PlannedOrder}
 use Rattle.wanted.specs.Equity.{equityOf}
 use Rattle.wanted.specs.Plan.{closings, targetings, wanted}
 use Rattle.wanted.specs.Inner.Plan.{orderCount}

@@ -21,7 +21,7 @@ use Rattle.table.proofs.Keyed.{by-test, both-true, rising-ascends}
 use Rattle.table.proofs.Zipped.{keys-of}
 use Rattle.call_lists.specs.Lists.{allGood, priceOf}
 use Rattle.call_lists.proofs.Prices.{price-fits}
-use Rattle.fills.specs.declared.order.Order.{Order}
+use Rattle.fills.specs.declared.terms.Order.{Order}
 use Rattle.fills.specs.declared.record.ExecutionKind.{ExecutionKind}
 use Rattle.fills.specs.Orders.{State}
 use Rattle.fills.specs.Fill.{fillAll}
@@ -32,7 +32,7 @@ use Rattle.account.specs.Account.{soundAccount, heldIn}
 use Rattle.account.proofs.Columns.{rows-length}
 use Rattle.account.proofs.SoundAccounts.{account-cash, account-settings, account-costs, account-ordered, account-positions, parts-account, series-keep-sound}
 use Rattle.account.proofs.Tables.{table-sound}
-use Rattle.wanted.specs.declared.plan.PlannedOrder.{PlannedOrder}
+use Rattle.wanted.specs.declared.planned.PlannedOrder.{PlannedOrder}
 use Rattle.wanted.specs.Equity.{equityOf}
 use Rattle.wanted.specs.Plan.{wanted}
 use Rattle.wanted.proofs.Plans as planning

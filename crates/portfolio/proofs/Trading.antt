@@ -10,12 +10,13 @@ use lib.IntN.{ℤ, pos}
 use borrow.Author.Tests.{leb-true}
 use Rattle.answer.specs.declared.Answer.the-variants.{Done}
 use Rattle.table.specs.Rows.{Cols, holding}
-use Rattle.fills.specs.declared.order.Book.{Book}
-use Rattle.fills.specs.declared.order.Order.{Order}
+use Rattle.fills.specs.declared.terms.Book.{Book}
+use Rattle.fills.specs.declared.terms.Order.{Order}
 use Rattle.fills.specs.declared.record.ExecutionKind.{ExecutionKind}
 use Rattle.fills.specs.declared.record.ExecutionRecord.{ExecutionRecord}
 use Rattle.fills.specs.Records.{Buffers, buffers, allWords, allInts, fronted}
-use Rattle.fills.specs.Inner.Runs.{order, orders, Runs}
+use Rattle.fills.specs.Orders.{order}
+use Rattle.fills.specs.Inner.Runs.{orders, Runs}
 use Rattle.fills.specs.Fill.{fillAll}
 use Rattle.fills.proofs.Fronts.{run-fronts, unrecorded, unrecorded-run}
 use Rattle.account.specs.declared.account.Account.{Account}

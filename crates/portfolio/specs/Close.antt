@@ -6,7 +6,7 @@ use Rattle.sums.specs.Sums.{satNeg}
 use Rattle.position.specs.Rows.{shares, symbol}
 use Rattle.table.specs.Keyed.{pick}
 use Rattle.table.specs.Rows.{holding}
-use Rattle.fills.specs.declared.order.Order.{Order}
+use Rattle.fills.specs.declared.terms.Order.{Order}
 use Rattle.fills.specs.declared.record.ExecutionKind.{ExecutionKind}
 use Rattle.fills.specs.Orders.{State}
 use Rattle.fills.specs.Fill.{fill}

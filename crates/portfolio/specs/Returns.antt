@@ -6,11 +6,11 @@ use lib.Dec.{ltb}
 use lib.ListN.{length, set}
 use lib.IntN.{ℤ, pos}
 use lib.Signed.{ltZ}
-use lib.Ieee.{Float, fin, binary64, div}
+use lib.Ieee.{Float, binary64, div}
 use Rattle.answer.specs.declared.Answer.{Answer}
 use Rattle.answer.specs.declared.Answer.the-variants.{Done}
 use Rattle.sums.specs.Sums.{satSub}
-use Rattle.doubles.specs.Doubles.{ofI64}
+use Rattle.doubles.specs.Doubles.{zero, ofI64}
 use Rattle.table.specs.Keyed.{pick}
 use Rattle.call_lists.specs.Lists.{priceOf}
 use Rattle.account.specs.declared.account.Account.{Account}
@@ -24,7 +24,7 @@ use Rattle.portfolio.specs.Answers.{isDone, returnAnswer}
 unfoldable pub returnOf : ℤ → ℤ → Float
 unfolding div
 returnOf previous equity =
-    pick (ltZ (pos 0) previous) (div binary64 (ofI64 (satSub equity previous)) (ofI64 previous)) (fin false 0 (pos 0))
+    pick (ltZ (pos 0) previous) (div binary64 (ofI64 (satSub equity previous)) (ofI64 previous)) zero
 
 -- "else 0.0 once a return exists; else none"
 unfoldable pub isDue : Series → Bool

@@ -50,7 +50,7 @@ past-the-end i n e s =
 
 -- ---- zeros
 pub zeros-only : (k i n : ℕ) → k + i ≡ 8 → Spaced i n → zeros (bytesFrom k n) ≡ true → n ≡ 0
-unfolding bytesFrom zeros
+unfolding bytesFrom
 zeros-only zero i n e s z = past-the-end i n e s
 zeros-only (suc k) i n e s z =
     let first = eqb-true (n / 2 ^ 56) 0 (both-true (eqb (n / 2 ^ 56) 0) (zeros (bytesFrom k (n % 2 ^ 56 * 256))) z .0) in
@@ -65,12 +65,12 @@ some-bytes n h ne = go (zeros (symbolBytes n)) refl
     go false z = refl
 
 pub zero-zeros : (k : ℕ) → zeros (bytesFrom k 0) ≡ true
-unfolding bytesFrom zeros
+unfolding bytesFrom
 zero-zeros zero = refl
 zero-zeros (suc k) = zero-zeros k
 
 pub zero-padded : (k : ℕ) → padded (bytesFrom k 0) ≡ true
-unfolding bytesFrom padded zeros
+unfolding bytesFrom padded
 zero-padded zero = refl
 zero-padded (suc k) = zero-zeros k
 

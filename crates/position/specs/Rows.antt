@@ -1,5 +1,6 @@
--- A position from its five numbers.
+-- A position from its five numbers, and back.
 use Prim.Native.Nat.{ℕ}
+use mathlib.Core.List.{List, [], _∷_}
 use lib.IntN.{ℤ, pos}
 use Rattle.position.specs.declared.shares.Shares.{Shares}
 use Rattle.position.specs.declared.symbol.Symbol.{Symbol}
@@ -33,3 +34,6 @@ realized p = p .«realized_pnl»
 
 abbrev pub total : Position → ℤ
 total p = p .«total_cost»
+
+abbrev pub numbersOf : Position → List ℤ
+numbersOf p = held p ∷ avg p ∷ realized p ∷ total p ∷ []

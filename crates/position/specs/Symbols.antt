@@ -4,6 +4,7 @@ use mathlib.Core.Bool.{Bool, true, false, not, cond, _&&_}
 use mathlib.Core.List.{List, [], _∷_}
 use lib.Dec.{leb, ltb, eqb}
 use lib.ListN.{getD}
+use Rattle.answer.specs.Choice.{all}
 
 -- the first k bytes of a number of 64 bits, the highest one first: each takes the top place in its turn
 unfoldable pub bytesFrom : ℕ → ℕ → List ℕ
@@ -25,9 +26,8 @@ ofBytes bs = leading bs 8
 abbrev pub goodByte : ℕ → Bool
 goodByte b = leb 33 b && leb b 126
 
-unfoldable pub zeros : List ℕ → Bool
-zeros [] = true
-zeros (b ∷ bs) = eqb b 0 && zeros bs
+abbrev pub zeros : List ℕ → Bool
+zeros l = all (λ x. eqb x 0) l
 
 -- good bytes, "padded with zeros"
 unfoldable pub padded : List ℕ → Bool

@@ -13,8 +13,7 @@ use Rattle.doubles.specs.Doubles.{ofI64}
 use Rattle.position.specs.declared.position.Position.{Position}
 use Rattle.position.specs.Rows.{fresh, keyOf}
 use Rattle.table.specs.Keyed.{pick}
-use Rattle.table.specs.Rows.{isZero}
-use Rattle.account.specs.Account.{paddedColumn}
+use Rattle.table.specs.Rows.{isZero, paddedColumn}
 use Rattle.queries.specs.declared.answered.Weighed.{Weighed}
 use Rattle.queries.specs.Queries.{Weight, openOnes, weightOf, weigh}
 use Rattle.queries.specs.Answers.{weighed}
@@ -22,18 +21,18 @@ use Rattle.queries.specs.Inner.Places.{PositionPrices, weightColumns, ad
 
 -- ---- a column
 module _ {A : Type 0} (z x : A) (l : List A) (h : length l < 64) where
-  more : (k : ℕ) → 64 - length l ≡ suc k → set (paddedColumn z l) (length l) x ≡ paddedColumn z (l ++ (x ∷ []))
+  more : (k : ℕ) → 64 - length l ≡ suc k → set (paddedColumn 64 z l) (length l) x ≡ paddedColumn 64 z (l ++ (x ∷ []))
   more k e =
       let f : 64 - length (l ++ (x ∷ [])) ≡ k = omega (arith, length-append l (x ∷ [])) in
       rw (e, f) (set-append-seam l z (replicate k z) x ∙ sym (append-assoc l (x ∷ []) (replicate k z)))
 
-  pub next-place : set (paddedColumn z l) (length l) x ≡ paddedColumn z (l ++ (x ∷ []))
+  pub next-place : set (paddedColumn 64 z l) (length l) x ≡ paddedColumn 64 z (l ++ (x ∷ []))
   next-place = more (63 - length l) (omega arith)
 
-column-more : {A : Type 0} (f : Weight → A) (z : A) (l : List Weight) (w : Weight) → length l < 64 → set (paddedColumn z (map f l)) (length l) (f w) ≡ paddedColumn z (map f (l ++ (w ∷ [])))
+column-more : {A : Type 0} (f : Weight → A) (z : A) (l : List Weight) (w : Weight) → length l < 64 → set (paddedColumn 64 z (map f l)) (length l) (f w) ≡ paddedColumn 64 z (map f (l ++ (w ∷ [])))
 column-more f z l w h =
     let n : length (map f l) ≡ length l = length-map l f in
-    ap (λ k. set (paddedColumn z (map f l)) k (f w)) (sym n) ∙ next-place z (f w) (map f l) (omega arith) ∙ ap (paddedColumn z) (sym (map-append f l (w ∷ [])))
+    ap (λ k. set (paddedColumn 64 z (map f l)) k (f w)) (sym n) ∙ next-place z (f w) (map f l) (omega arith) ∙ ap (paddedColumn 64 z) (sym (map-append f l (w ∷ [])))
 
 -- one weight more
 weighed-more : (l : List Weight) (w : Weight) → length l < 64

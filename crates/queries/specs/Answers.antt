@@ -5,13 +5,14 @@ use mathlib.Core.List.{List, [], map}
 use mathlib.Core.Option.{Option, none, some}
 use lib.ListN.{length}
 use lib.IntN.{ℤ, pos}
-use lib.Ieee.{fin}
+use Rattle.doubles.specs.Doubles.{zero}
 use Rattle.answer.specs.declared.Answer.{Answer}
 use Rattle.answer.specs.declared.Answer.the-variants.{Done}
 use Rattle.table.specs.Keyed.{pick}
+use Rattle.table.specs.Rows.{paddedColumn}
 use Rattle.call_lists.specs.Lists.{priceOf}
 use Rattle.account.specs.declared.account.Account.{Account}
-use Rattle.account.specs.Account.{heldIn, paddedColumn}
+use Rattle.account.specs.Account.{heldIn}
 use Rattle.wanted.specs.Equity.{equityOf}
 use Rattle.portfolio.specs.Answers.{isDone, queryAnswer}
 use Rattle.queries.specs.declared.answered.Weighed.{Weighed}
@@ -24,8 +25,8 @@ use Rattle.queries.specs.Queries.{Weight, openOnes, weightsOf, firstUnpr
 unfoldable pub weighed : List Weight → Weighed
 weighed l = record {
   count = length l;
-  symbol = paddedColumn 0 (map (λ (w : Weight). w .symbol) l);
-  weight = paddedColumn (fin false 0 (pos 0)) (map (λ (w : Weight). w .weight) l);
+  symbol = paddedColumn 64 0 (map (λ (w : Weight). w .symbol) l);
+  weight = paddedColumn 64 zero (map (λ (w : Weight). w .weight) l);
 }
 
 -- ---- a snapshot

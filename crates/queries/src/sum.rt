@@ -35,7 +35,8 @@ pub(crate) fn summed<'a>(
     price: &'a [i64; 64],
 ) -> Sums
     requires { ⌜ Ordered n (cols (now symbol) (now quantity) (now average) (now realized) (now total)) ⌝ }
-    ensures { λ r. ⌜ AddsUp (rows n (cols (now (symbol .entry)) (now (quantity .entry)) (now (average .entry)) (now (realized .entry)) (now (total .entry)))) (now (price .entry)) r ⌝ }
+    ensures { λ r. ⌜ (let c = cols (now (symbol .entry)) (now (quantity .entry)) (now (average .entry)) (now (realized .entry)) (now (total .entry)) in
+        AddsUp (rows n c) (now (price .entry)) r) ⌝ }
 {
     let mut worth = 0i64;
     let mut open_count = 0u64;

@@ -36,7 +36,8 @@ fn first_unpriced<'a>(
     price: &'a [i64; 64],
 ) -> Unpriced
     requires { ⌜ Ordered n (cols (now symbol) (now quantity) (now average) (now realized) (now total)) ⌝ }
-    ensures { λ r. ⌜ First (rows n (cols (now (symbol .entry)) (now (quantity .entry)) (now (average .entry)) (now (realized .entry)) (now (total .entry)))) (now (price .entry)) r ⌝ }
+    ensures { λ r. ⌜ (let c = cols (now (symbol .entry)) (now (quantity .entry)) (now (average .entry)) (now (realized .entry)) (now (total .entry)) in
+        First (rows n c) (now (price .entry)) r) ⌝ }
 {
     let mut i = 0usize;
     while i < n {

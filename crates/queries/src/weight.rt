@@ -58,7 +58,8 @@ fn weigh<'a>(
     equity: i64,
 ) -> Weighed
     requires { ⌜ Ordered n (cols (now symbol) (now quantity) (now average) (now realized) (now total)) ⌝ }
-    ensures { λ r. ⌜ Weighs (rows n (cols (now (symbol .entry)) (now (quantity .entry)) (now (average .entry)) (now (realized .entry)) (now (total .entry)))) (now (price .entry)) equity r ⌝ }
+    ensures { λ r. ⌜ (let c = cols (now (symbol .entry)) (now (quantity .entry)) (now (average .entry)) (now (realized .entry)) (now (total .entry)) in
+        Weighs (rows n c) (now (price .entry)) equity r) ⌝ }
 {
     let whole = doubles::i64_to_f64(equity);
     let mut keys = [0u64; 64];
@@ -89,7 +90,8 @@ pub(crate) fn weights_on<'a>(
     equity: i64,
 ) -> Weighed
     requires { ⌜ Ordered n (cols (now symbol) (now quantity) (now average) (now realized) (now total)) ⌝ }
-    ensures { λ r. ⌜ WeighsAt (rows n (cols (now (symbol .entry)) (now (quantity .entry)) (now (average .entry)) (now (realized .entry)) (now (total .entry)))) (now (price .entry)) equity r ⌝ }
+    ensures { λ r. ⌜ (let c = cols (now (symbol .entry)) (now (quantity .entry)) (now (average .entry)) (now (realized .entry)) (now (total .entry)) in
+        WeighsAt (rows n c) (now (price .entry)) equity r) ⌝ }
 {
     if equity == 0 {
         return no_weights();

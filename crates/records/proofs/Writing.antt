@@ -1,25 +1,18 @@
--- A call whose records have the room of a run: the run's length may stand for the room of 64 places, and what was filed in the first places of longer slices stands in the first places of all.
+-- A call whose records have the room of a run: what was filed in the first places of longer slices stands in the first places of all.
 use Prim.Native.Nat.{ℕ, zero, suc, _+_, _*_, _≤_, min}
-use mathlib.Core.Path.{_≡_, refl, sym, ap, subst, _∙_}
-use mathlib.Core.Bool.{Bool, true, false}
+use mathlib.Core.Path.{_≡_, sym, ap, subst, _∙_}
 use mathlib.Core.List.{List, [], _∷_, _++_}
 use native.Mathlib.Omega.{arith}
-use lib.Dec.{leb}
 use lib.IntN.{ℤ, pos}
-use lib.Ieee.{Float}
 use lib.ListN.{length, take, drop, replicate, take-append-drop, length-append}
 use lib.Seq.{length-take-le}
-use borrow.Author.Tests.{leb-true, leb-false, le-leb, lt-leb}
 use Rattle.table.specs.Inner.Places.{shorter}
 use Rattle.table.proofs.Places.{shorter-min}
-use Rattle.fills.specs.declared.record.ExecutionKind.{ExecutionKind}
 use Rattle.fills.specs.declared.record.ExecutionRecord.{ExecutionRecord}
 use Rattle.fills.specs.Records.{allWords, allInts, fronted}
-use Rattle.account.specs.declared.account.Account.{Account}
 use Rattle.portfolio.specs.declared.trade.Traded.{Traded}
-use Rattle.portfolio.specs.Answers.{recordPlaces, hasRoom, rebalanceAnswer, closeAnswer}
-use Rattle.portfolio.specs.Rebalance.{Outcome, rebalanced}
-use Rattle.portfolio.specs.Close.{positionClosed}
+use Rattle.portfolio.specs.Answers.{recordPlaces}
+use Rattle.portfolio.specs.Rebalance.{Outcome}
 use Rattle.portfolio.specs.Trades.{filed, filedBy}
 use Rattle.records.specs.declared.into.Numbers.{Numbers}
 use Rattle.records.specs.Run.{recordsAt, collected}
@@ -27,35 +20,6 @@ use Rattle.records.specs.Into.{handed, handedBy}
 use Rattle.records.specs.Inner.Into.{tradedNumbers, Written}
 use Rattle.fills.proofs.Fronts.{words-long}
 use Rattle.records.proofs.Reading.{read-back}
-
--- ---- 64 places are as good as more
-within-64 : (asked room : ℕ) → asked ≤ 64 → leb asked (min room 64) ≡ leb asked room
-within-64 asked room h = go (leb asked room) refl
-  where
-    go : (b : Bool) → leb asked room ≡ b → leb asked (min room 64) ≡ leb asked room
-    go true e = le-leb asked (min room 64) (omega (arith, h, leb-true asked room e)) ∙ sym e
-    go false e = lt-leb asked (min room 64) (omega (arith, leb-false asked room e)) ∙ sym e
-
-room-within-64 : (a : Account) (asked room : ℕ) → asked ≤ 64 → hasRoom a asked (min room 64) ≡ hasRoom a asked room
-unfolding hasRoom
-room-within-64 a asked room h = simp (within-64 asked room h)
-
-close-answer-within-64 : (a : Account) (s : ℕ) (price : ℤ) (room : ℕ) → closeAnswer a s price (min room 64) ≡ closeAnswer a s price room
-unfolding closeAnswer
-close-answer-within-64 a s price room = simp (room-within-64 a 1 room (omega arith))
-
-pub closed-within-64 : (a : Account) (s : ℕ) (price : ℤ) (period : ℕ) (kind : ExecutionKind) (room : ℕ) → positionClosed a s price period kind (min room 64) ≡ positionClosed a s price period kind room
-unfolding positionClosed
-closed-within-64 a s price period kind room = simp (close-answer-within-64 a s price room)
-
-rebalance-answer-within-64 : (a : Account) (ts : List ℕ) (ws : List Float) (ps : List ℕ) (vs : List ℤ) (room : ℕ) → rebalanceAnswer a ts ws ps vs (min room 64) ≡ rebalanceAnswer a ts ws ps vs room
-unfolding rebalanceAnswer
-rebalance-answer-within-64 a ts ws ps vs room = simp (room-within-64 a 64 room (omega arith))
-
-pub rebalanced-within-64 : (a : Account) (ts : List ℕ) (ws : List Float) (ps : List ℕ) (vs : List ℤ) (period : ℕ) (kind : ExecutionKind) (room : ℕ)
-    → rebalanced a ts ws ps vs period kind (min room 64) ≡ rebalanced a ts ws ps vs period kind room
-unfolding rebalanced
-rebalanced-within-64 a ts ws ps vs period kind room = simp (rebalance-answer-within-64 a ts ws ps vs room)
 
 -- ---- the first places of a part are the first places of the whole
 front-of-part : {A : Type 0} (xs : List A) (k : ℕ) (l : List A) → length xs ≤ k → k ≤ length l → fronted xs (take k l) ++ drop k l ≡ fronted xs l

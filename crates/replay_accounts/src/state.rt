@@ -16,6 +16,49 @@ use word_bytes::symbol_at;
 use word_bytes::unsigned;
 use word_bytes::word_at;
 
+// The places of the words.
+const CASH_AT: usize = 0;
+
+const COMMISSION_AT: usize = 1;
+
+const SLIPPAGE_AT: usize = 2;
+
+const MIN_COMMISSION_AT: usize = 3;
+
+const STEP_AT: usize = 4;
+
+const MIN_ORDER_AT: usize = 5;
+
+const MAX_ORDER_AT: usize = 6;
+
+const BAND_AT: usize = 7;
+
+const CAP_MARK_AT: usize = 8;
+
+const CAP_COUNT_AT: usize = 9;
+
+const MAX_NOTIONAL_AT: usize = 10;
+
+const RECORDING_AT: usize = 11;
+
+const ORDER_COUNT_AT: usize = 12;
+
+const LAST_NOTIONAL_AT: usize = 13;
+
+const TRIMMED_COUNT_AT: usize = 14;
+
+const SHORTFALL_AT: usize = 15;
+
+const RECORD_COUNT_AT: usize = 16;
+
+const EQUITY_COUNT_AT: usize = 17;
+
+const RETURN_COUNT_AT: usize = 18;
+
+const PREV_EQUITY_AT: usize = 19;
+
+const COUNT_AT: usize = 20;
+
 // A count that is at most eight.
 pub(crate) fn count(word: u64) -> usize
     ensures { λ r. ⌜ r ≤ 8 ⌝ }
@@ -40,47 +83,47 @@ pub(crate) fn cap(mark: u64, most: u64) -> TradeCap {
 
 fn costs_of(told: &[u8]) -> CostModel {
     CostModel {
-        commission_bps: rate(told, 1),
-        slippage_bps: rate(told, 2),
-        min_commission: number(told, 3),
+        commission_bps: rate(told, COMMISSION_AT),
+        slippage_bps: rate(told, SLIPPAGE_AT),
+        min_commission: number(told, MIN_COMMISSION_AT),
         max_commission: 0,
     }
 }
 
-// Words 1 to 11, and the rest as it was opened.
+// The settings that the Rust has, and the rest as it was opened.
 fn settings_of(told: &[u8], opened: Settings) -> Settings {
     let cost_model = costs_of(told);
     let rules = Rules { cost_model };
-    let max_trades_per_rebalance = cap(word_at(told, 8), word_at(told, 9));
+    let max_trades_per_rebalance = cap(word_at(told, CAP_MARK_AT), word_at(told, CAP_COUNT_AT));
     Settings {
         rules,
-        quantity_step: number(told, 4),
-        min_order_value: number(told, 5),
-        max_order_value: number(told, 6),
-        no_trade_band_bps: rate(told, 7),
+        quantity_step: number(told, STEP_AT),
+        min_order_value: number(told, MIN_ORDER_AT),
+        max_order_value: number(told, MAX_ORDER_AT),
+        no_trade_band_bps: rate(told, BAND_AT),
         max_trades_per_rebalance,
-        max_rebalance_notional: number(told, 10),
-        recording: word_at(told, 11) == 1,
+        max_rebalance_notional: number(told, MAX_NOTIONAL_AT),
+        recording: word_at(told, RECORDING_AT) == 1,
         ..opened
     }
 }
 
 fn counters_of(told: &[u8], opened: Counters) -> Counters {
     Counters {
-        last_rebalance_order_count: word_at(told, 12),
-        last_rebalance_notional: number(told, 13),
-        trimmed_fill_count: word_at(told, 14),
-        trimmed_shortfall_cents: number(told, 15),
-        record_count: word_at(told, 16),
+        last_rebalance_order_count: word_at(told, ORDER_COUNT_AT),
+        last_rebalance_notional: number(told, LAST_NOTIONAL_AT),
+        trimmed_fill_count: word_at(told, TRIMMED_COUNT_AT),
+        trimmed_shortfall_cents: number(told, SHORTFALL_AT),
+        record_count: word_at(told, RECORD_COUNT_AT),
         ..opened
     }
 }
 
 fn series_of(told: &[u8]) -> Series {
     Series {
-        equity_count: word_at(told, 17),
-        return_count: word_at(told, 18),
-        prev_equity: number(told, 19),
+        equity_count: word_at(told, EQUITY_COUNT_AT),
+        return_count: word_at(told, RETURN_COUNT_AT),
+        prev_equity: number(told, PREV_EQUITY_AT),
     }
 }
 
@@ -120,7 +163,7 @@ fn positions_of(told: &[u8]) -> Table {
     let realized_pnl = numbers_of(told, 24);
     let total_cost = numbers_of(told, 25);
     Table {
-        count: count(word_at(told, 20)),
+        count: count(word_at(told, COUNT_AT)),
         symbol,
         quantity,
         avg_entry_price,
@@ -138,7 +181,7 @@ pub(crate) fn account_of(told: &[u8]) -> Account {
     let series = series_of(told);
     let positions = positions_of(told);
     Account {
-        cash: number(told, 0),
+        cash: number(told, CASH_AT),
         settings,
         counters,
         series,
@@ -152,8 +195,9 @@ fn flag(on: bool) -> u64 {
 
 fn same_cap(told: &[u8], cap: TradeCap) -> bool {
     match cap {
-        TradeCap::Absent => word_at(told, 8) == 0,
-        TradeCap::AtMost(most) => word_at(told, 8) == 1 && word_at(told, 9) == most,
+        TradeCap::Absent => word_at(told, CAP_MARK_AT) == 0,
+        TradeCap::AtMost(most) => word_at(told, CAP_MARK_AT) == 1
+            && word_at(told, CAP_COUNT_AT) == most,
     }
 }
 
@@ -161,28 +205,28 @@ fn same_settings(told: &[u8], s: Settings) -> bool {
     let cap = s.max_trades_per_rebalance;
     let rules = s.rules;
     let costs = rules.cost_model;
-    word_at(told, 1) == pattern(costs.commission_bps)
-        && word_at(told, 2) == pattern(costs.slippage_bps)
-        && word_at(told, 3) == unsigned(costs.min_commission)
-        && word_at(told, 4) == unsigned(s.quantity_step)
-        && word_at(told, 5) == unsigned(s.min_order_value)
-        && word_at(told, 6) == unsigned(s.max_order_value)
-        && word_at(told, 7) == pattern(s.no_trade_band_bps)
+    word_at(told, COMMISSION_AT) == pattern(costs.commission_bps)
+        && word_at(told, SLIPPAGE_AT) == pattern(costs.slippage_bps)
+        && word_at(told, MIN_COMMISSION_AT) == unsigned(costs.min_commission)
+        && word_at(told, STEP_AT) == unsigned(s.quantity_step)
+        && word_at(told, MIN_ORDER_AT) == unsigned(s.min_order_value)
+        && word_at(told, MAX_ORDER_AT) == unsigned(s.max_order_value)
+        && word_at(told, BAND_AT) == pattern(s.no_trade_band_bps)
         && same_cap(told, cap)
-        && word_at(told, 10) == unsigned(s.max_rebalance_notional)
-        && word_at(told, 11) == flag(s.recording)
+        && word_at(told, MAX_NOTIONAL_AT) == unsigned(s.max_rebalance_notional)
+        && word_at(told, RECORDING_AT) == flag(s.recording)
         && !s.cash_first
 }
 
 fn same_counts(told: &[u8], k: Counters, s: Series) -> bool {
-    word_at(told, 12) == k.last_rebalance_order_count
-        && word_at(told, 13) == unsigned(k.last_rebalance_notional)
-        && word_at(told, 14) == k.trimmed_fill_count
-        && word_at(told, 15) == unsigned(k.trimmed_shortfall_cents)
-        && word_at(told, 16) == k.record_count
-        && word_at(told, 17) == s.equity_count
-        && word_at(told, 18) == s.return_count
-        && word_at(told, 19) == unsigned(s.prev_equity)
+    word_at(told, ORDER_COUNT_AT) == k.last_rebalance_order_count
+        && word_at(told, LAST_NOTIONAL_AT) == unsigned(k.last_rebalance_notional)
+        && word_at(told, TRIMMED_COUNT_AT) == k.trimmed_fill_count
+        && word_at(told, SHORTFALL_AT) == unsigned(k.trimmed_shortfall_cents)
+        && word_at(told, RECORD_COUNT_AT) == k.record_count
+        && word_at(told, EQUITY_COUNT_AT) == s.equity_count
+        && word_at(told, RETURN_COUNT_AT) == s.return_count
+        && word_at(told, PREV_EQUITY_AT) == unsigned(s.prev_equity)
 }
 
 // Whether both columns are the same in all places.
@@ -216,7 +260,7 @@ fn same_positions(told: &[u8], t: Table) -> bool {
     let average = t.avg_entry_price;
     let realized = t.realized_pnl;
     let total = t.total_cost;
-    word_at(told, 20) == t.count as u64
+    word_at(told, COUNT_AT) == t.count as u64
         && same_symbols(symbols_of(told), symbol)
         && same_numbers(numbers_of(told, 22), quantity)
         && same_numbers(numbers_of(told, 23), average)
@@ -226,7 +270,7 @@ fn same_positions(told: &[u8], t: Table) -> bool {
 
 // Whether an account is the one that is told, in all that the Rust has and in what it lacks.
 pub(crate) fn same_account(told: &[u8], a: Account) -> bool {
-    word_at(told, 0) == unsigned(a.cash)
+    word_at(told, CASH_AT) == unsigned(a.cash)
         && same_settings(told, a.settings)
         && same_counts(told, a.counters, a.series)
         && same_positions(told, a.positions)

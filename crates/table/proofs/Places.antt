@@ -85,7 +85,7 @@ module _ (l : List ℕ) (s i : ℕ) (b : (j : ℕ) → j < i → getD l j 0 < s)
 
 -- ---- the same of the first n of a column, in which the search reads
 module _ (keys : List ℕ) (n : ℕ) (room : n ≤ length keys) where
-  in-use : length (take n keys) ≡ n
+  pub in-use : length (take n keys) ≡ n
   in-use = length-take-le n keys room
 
   pub earlier-smaller : Rising (take n keys) → (i j : ℕ) → i < j → j < n → getD keys i 0 < getD keys j 0

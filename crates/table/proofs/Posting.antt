@@ -17,7 +17,7 @@ use Rattle.table.specs.Keyed.{pick, both, there, orElse, seek, put, put6
 use Rattle.table.specs.Inner.Keyed.{Rising}
 use Rattle.table.specs.Inner.Places.{foundFrom, found}
 use Rattle.table.specs.Rows.{zip2, give, Cols, cols, zipped, rows, Full, holding, rowAt}
-use Rattle.table.specs.Inner.Rows.{Ordered, Puts, Counted, countedCols, opened, setAll, openAll, heldAt, posted}
+use Rattle.table.specs.Inner.Rows.{Ordered, Puts, CountedCols, countedCols, opened, setAll, openAll, heldAt, posted}
 use Rattle.table.specs.declared.found.Found.{Found}
 use Rattle.table.specs.declared.found.Found.the-variants.{At, Absent}
 use Rattle.table.proofs.Keyed.{put64-rises}
@@ -120,7 +120,7 @@ held-is-holding n s c (At i) o e =
     simp (lt-ltb _ _ l, seek-at n i (fresh s) c o (sym e))
 held-is-holding n s c (Absent i) o e = simp (at-gap n i (fresh s) c o (sym e) .got)
 
-abbrev PutsTo : Position → ℕ → Cols → Counted → Type 0
+abbrev PutsTo : Position → ℕ → Cols → CountedCols → Type 0
 PutsTo p n c t = Puts p n c (t .count) (t .columns)
 
 -- posting at the place that was found puts the position into the list

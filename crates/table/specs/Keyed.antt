@@ -5,12 +5,7 @@ use mathlib.Core.Bool.{Bool, true, false}
 use mathlib.Core.Option.{Option, none, some}
 use lib.Dec.{eqb, leb, ltb}
 use lib.ListN.{length}
-pub use Rattle.answer.specs.Choice.{pick, both}
-
--- the test of every element
-abbrev pub all : {A : Type 0} → (A → Bool) → List A → Bool
-all f [] = true
-all f (x ∷ l) = both (f x) (all f l)
+pub use Rattle.answer.specs.Choice.{pick, both, all}
 
 abbrev pub there : {A : Type 0} → Option A → Bool
 there none = false

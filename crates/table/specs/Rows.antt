@@ -1,13 +1,14 @@
 -- Five columns and a count as a list of positions.
-use Prim.Native.Nat.{ℕ, zero, suc}
+use Prim.Native.Nat.{ℕ, zero, suc, _-_}
 use mathlib.Core.Path.{_≡_}
-use mathlib.Core.List.{List, [], _∷_}
+use mathlib.Core.List.{List, [], _∷_, _++_}
 use mathlib.Core.Bool.{Bool}
 use lib.ListN.{length, take, drop, getD, replicate}
-use lib.Dec.{eqb, leb}
+use lib.Dec.{leb}
 use lib.IntN.{ℤ, pos}
 use Rattle.position.specs.Rows.{row, fresh, keyOf}
 unfoldable pub use Rattle.position.specs.Shares.{isZero}
+pub use Rattle.position.specs.Symbols.{zeros}
 use Rattle.position.specs.declared.position.Position.{Position}
 use Rattle.table.specs.Keyed.{both, all, orElse, seek, ascending}
 use Rattle.table.specs.declared.table.Table.{Table}
@@ -20,6 +21,10 @@ zip2 f (x ∷ xs) (y ∷ ys) = f x y ∷ zip2 f xs ys
 
 abbrev pub give : {A B : Type 0} → (A → B) → A → B
 give f x = f x
+
+-- a column of w places that holds a list first, and z after it
+abbrev pub paddedColumn : {A : Type 0} → ℕ → A → List A → List A
+paddedColumn w z l = l ++ replicate (w - length l) z
 
 pub record Cols : Type 0 where
   pub symbol : List ℕ
@@ -46,9 +51,6 @@ pub record Full (c : Cols) : Type 0 where
   pub total : length (c .total) ≡ 64
 
 -- ---- "positions .. strictly ascending, unused places zero"
-abbrev pub zeros : List ℕ → Bool
-zeros l = all (λ x. eqb x 0) l
-
 abbrev pub zerosZ : List ℤ → Bool
 zerosZ l = all isZero l
 

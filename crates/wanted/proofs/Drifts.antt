@@ -12,8 +12,7 @@ use mir.Syntax.{w64}
 use mir.Val.{SFits}
 use borrow.Author.Tests.{eqb-true}
 use Rattle.sums.proofs.Ints.{natAbs-parts, P-fits, N-fits}
-use Rattle.doubles.specs.Doubles.{finite, ofU64, ofI64}
-use Rattle.doubles.proofs.Chain.{one, tenThousand}
+use Rattle.doubles.specs.Doubles.{one, tenThousand, finite, ofU64, ofI64}
 use Rattle.doubles.proofs.Order.{clear, round-clear, le-fin→}
 use Rattle.doubles.proofs.Laws.{ofU64-mono, ofU64-clear, ofU64-finite}
 use Rattle.sizing.specs.Sizing.{drift}

@@ -26,7 +26,7 @@ use Rattle.call_lists.specs.Lists.{among}
 use Rattle.sizing.specs.Sizing.{sized, cutTo, drift}
 use Rattle.sizing.proofs.Sizes.{sized-fits, cutTo-fits}
 use Rattle.account.specs.declared.settings.Settings.{Settings}
-use Rattle.wanted.specs.declared.plan.PlannedOrder.{PlannedOrder}
+use Rattle.wanted.specs.declared.planned.PlannedOrder.{PlannedOrder}
 use Rattle.wanted.specs.Plan.{passedOver, withinBand, underMaximum, limited, allowedOrder, plannedClose, closing, gapOf, plannedTarget, targeting, closings, targetings}
 use Rattle.wanted.proofs.Drifts.{drift-clear}
 

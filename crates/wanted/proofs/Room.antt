@@ -16,7 +16,7 @@ use Rattle.table.specs.Rows.{isZero}
 use Rattle.call_lists.specs.Lists.{among, distinct}
 use Rattle.call_lists.proofs.Lists.{among-own, among-other, among-more, distinct-first, distinct-rest}
 use Rattle.account.specs.declared.settings.Settings.{Settings}
-use Rattle.wanted.specs.declared.plan.PlannedOrder.{PlannedOrder}
+use Rattle.wanted.specs.declared.planned.PlannedOrder.{PlannedOrder}
 use Rattle.wanted.specs.Plan.{plannedClose, closing, closings}
 use Rattle.wanted.specs.Inner.Plan.{orderCount}
 

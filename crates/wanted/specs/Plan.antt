@@ -4,9 +4,9 @@ use mathlib.Core.Bool.{Bool, false, not}
 use mathlib.Core.List.{List, [], _∷_, _++_}
 use lib.IntN.{ℤ, pos}
 use lib.Signed.{ltZ, leZ}
-use lib.Ieee.{Float, fin, lt, le, mul, binary64}
+use lib.Ieee.{Float, lt, le, mul, binary64}
 use Rattle.sums.specs.Sums.{satSub, satNeg, value, notional}
-use Rattle.doubles.specs.Doubles.{toI64, ofI64}
+use Rattle.doubles.specs.Doubles.{zero, toI64, ofI64}
 use Rattle.position.specs.declared.position.Position.{Position}
 use Rattle.position.specs.Rows.{keyOf, shares, symbol}
 use Rattle.table.specs.Keyed.{pick, both}
@@ -14,7 +14,7 @@ use Rattle.table.specs.Rows.{holding}
 use Rattle.sizing.specs.Sizing.{sized, cutTo, drift}
 use Rattle.call_lists.specs.Lists.{among}
 use Rattle.account.specs.declared.settings.Settings.{Settings}
-use Rattle.wanted.specs.declared.plan.PlannedOrder.{PlannedOrder}
+use Rattle.wanted.specs.declared.planned.PlannedOrder.{PlannedOrder}
 
 abbrev pub planned : ℕ → ℤ → ℤ → Float → PlannedOrder
 planned s q p d = record { symbol = symbol s; quantity = shares q; price = p; «drift_bps» = d }
@@ -22,7 +22,7 @@ planned s q p d = record { symbol = symbol s; quantity = shares q; price = p; «
 -- "drift [..] at or below a positive band skips"
 unfoldable pub withinBand : Settings → Float → Bool
 unfolding lt le
-withinBand s d = both (lt (fin false 0 (pos 0)) (s .«no_trade_band_bps»)) (le d (s .«no_trade_band_bps»))
+withinBand s d = both (lt zero (s .«no_trade_band_bps»)) (le d (s .«no_trade_band_bps»))
 
 -- "over a positive order maximum, the quantity keeps its sign and becomes maximum × SCALE / price, truncated and snapped to the step"
 unfoldable pub underMaximum : Settings → ℤ → ℤ → ℤ
@@ -40,7 +40,7 @@ allowedOrder s k q p d = planned k (pick (withinBand s d) (pos 0) (limited s q p
 
 -- no order
 abbrev pub passedOver : ℕ → PlannedOrder
-passedOver k = planned k (pos 0) (pos 0) (fin false 0 (pos 0))
+passedOver k = planned k (pos 0) (pos 0) zero
 
 -- "Priced open holdings absent from targets are closed [..] whole, without the step"; "of a close's holding value": of symbol, quantity, price and
 -- whether the symbol is among the targets

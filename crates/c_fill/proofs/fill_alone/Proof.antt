@@ -8,7 +8,7 @@ use Rattle.table.specs.Rows.{Cols, cols}
 use Rattle.table.specs.Inner.Rows.{countedCols, Ordered}
 use Rattle.fills.specs.Inner.Runs.{Fills}
 use Rattle.c_fill.specs.Single.{heldOf, askedTerms, askedOrder}
-use Rattle.c_fill.proofs.Alone.{Holds, entered-holds, withCount, filled-ordered, filled-seen}
+use Rattle.c_fill.proofs.Alone.{HoldsPositions, entered-holds, withCount, filled-ordered, filled-seen}
 use Rattle.c_fill.proofs.fill_alone.Statement.{statement}
 use Rattle.c_fill.proofs.fill_alone.Tie as tie
 
@@ -39,7 +39,7 @@ columns c = let l = c .enter .last in cols (l .0) (l .1 .0) (l .1 .1 .0) (l .1 .
 abbrev columns-after : tie.After-fill-one → Cols
 columns-after c = let l = c .fill-one .last in cols (l .0) (l .1 .0) (l .1 .1 .0) (l .1 .1 .1 .0) (l .1 .1 .1 .1 .0)
 
-holds : (c : tie.After-enter) → Holds (heldOf (c .before .before .before .before .before .before .args .p)) (countedCols (c .enter .result) (columns c))
+holds : (c : tie.After-enter) → HoldsPositions (heldOf (c .before .before .before .before .before .before .args .p)) (countedCols (c .enter .result) (columns c))
 holds c = entered-holds _ _ (c .enter .ensures)
 
 fills : (c : tie.After-fill-one) → let e = entered c in let x = began c .args in Ordered (e .enter .result) (columns e)

@@ -11,8 +11,8 @@ use Rattle.fills.specs.Records.{goodKind}
 use Rattle.call_lists.specs.Checks.{unless}
 use Rattle.account.specs.declared.account.Account.{Account}
 use Rattle.account.specs.declared.account.Ledger.{Ledger}
-use Rattle.account.specs.Account.{soundAccount}
 use Rattle.account.specs.Inner.Account.{accountWith}
+use Rattle.account.specs.Inner.Answers.{unlessUnsound}
 use Rattle.account_bytes.specs.declared.account_words.ReadAccount.{ReadAccount}
 use Rattle.account_bytes.specs.Account.{readAccount}
 use Rattle.c_trades.specs.Asked.{accountIn}
@@ -21,9 +21,7 @@ use Rattle.c_trades.specs.Asked.{accountIn}
 abbrev pub earlyOn : Account → ℕ → Bool → Answer
 earlyOn a kind whole =
     pick (both (goodKind kind) whole) Done
-    (unless (soundAccount a) Unsound
-    (unless (goodKind kind) BadSetting
-    TooLong))
+    (unlessUnsound a (unless (goodKind kind) BadSetting TooLong))
 
 unfoldable pub early : ReadAccount → ℕ → Bool → Answer
 early r kind whole = unless (r .good) Unsound (earlyOn (r .account) kind whole)

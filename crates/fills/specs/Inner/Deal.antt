@@ -14,8 +14,8 @@ use Rattle.sizing.specs.Cash.{cashTaken}
 use Rattle.table.specs.Keyed.{pick, put64}
 use Rattle.table.specs.Rows.{holding}
 use Rattle.fills.specs.declared.deal.Deal.{Deal}
-use Rattle.fills.specs.declared.order.Order.{Order}
-use Rattle.fills.specs.declared.order.Terms.{Terms}
+use Rattle.fills.specs.declared.terms.Order.{Order}
+use Rattle.fills.specs.declared.terms.Terms.{Terms}
 use Rattle.fills.specs.declared.record.ExecutionRecord.{ExecutionRecord}
 use Rattle.fills.specs.Orders.{State, buys, paid, nextCount}
 

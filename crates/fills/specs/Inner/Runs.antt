@@ -6,24 +6,20 @@ use mathlib.Core.List.{List, [], _∷_, _++_}
 use lib.ListN.{length, take}
 use lib.IntN.{ℤ}
 use Rattle.sums.specs.Sums.{satAdd}
-use Rattle.position.specs.Rows.{shares, symbol}
 use Rattle.position.specs.Shares.{isZero}
 use Rattle.table.specs.Keyed.{pick}
 use Rattle.table.specs.Rows.{zip2, give, Cols, rows}
 use Rattle.table.specs.Inner.Rows.{Ordered}
 use Rattle.fills.specs.declared.deal.Deal.{Deal}
 use Rattle.fills.specs.declared.fill.Filled.{Filled}
-use Rattle.fills.specs.declared.order.Book.{Book}
-use Rattle.fills.specs.declared.order.Order.{Order}
-use Rattle.fills.specs.declared.order.Terms.{Terms}
+use Rattle.fills.specs.declared.terms.Book.{Book}
+use Rattle.fills.specs.declared.terms.Order.{Order}
+use Rattle.fills.specs.declared.terms.Terms.{Terms}
 use Rattle.fills.specs.declared.record.ExecutionRecord.{ExecutionRecord}
-use Rattle.fills.specs.Orders.{State, nextCount}
+use Rattle.fills.specs.Orders.{State, order, nextCount}
 use Rattle.fills.specs.Records.{Buffers, storedAll}
 use Rattle.fills.specs.Fill.{fill, fillAll}
 use Rattle.fills.specs.Inner.Deal.{dealOf, recordBy}
-
-abbrev pub order : ℕ → ℤ → ℤ → Order
-order s q p = record { symbol = symbol s; quantity = shares q; price = p }
 
 -- the first m orders of three columns
 unfoldable pub orders : ℕ → List ℕ → List ℤ → List ℤ → List Order

@@ -5,11 +5,12 @@ use lib.IntN.{ℤ, pos}
 use lib.Ieee.{Float, binary64, ofBits}
 use lib.ListN.{length}
 use Rattle.table.specs.Keyed.{pick}
+use Rattle.table.specs.Rows.{paddedColumn}
 use Rattle.fills.specs.Records.{fronted}
 use Rattle.list_bytes.specs.declared.price.Prices.{Prices}
 use Rattle.list_bytes.specs.declared.target.Targets.{Targets}
 use Rattle.list_bytes.specs.Entries.{wholeList}
-use Rattle.list_bytes.specs.Inner.Entries.{countOf, paddedColumn}
+use Rattle.list_bytes.specs.Inner.Entries.{countOf}
 use Rattle.list_bytes.specs.Lists.{symbolsIn, weightsIn, pricesIn}
 
 -- ---- in lent columns

@@ -2,7 +2,8 @@
 use mathlib.Core.List.{List, foldl}
 use Prim.Native.Nat.{ℕ}
 use lib.Ieee.{Float, binary64, sub}
-use Rattle.metrics.specs.Double.{one, allFinite}
+use Rattle.doubles.specs.Doubles.{allFinite}
+use Rattle.metrics.specs.Double.{one}
 use Rattle.metrics.specs.Curve.{flat, curveAfter}
 use Rattle.metrics.specs.Inner.Tally.{noReturns, tallyAfter}
 use Rattle.metrics.specs.Ratio.{winRate, mean, gainOverLoss, kellyOf}

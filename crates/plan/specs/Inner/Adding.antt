@@ -13,7 +13,7 @@ use Rattle.table.specs.declared.found.Found.{Found}
 use Rattle.table.specs.declared.found.Found.the-variants.{At, Absent}
 use Rattle.call_lists.specs.Lists.{among, priceOf}
 use Rattle.account.specs.declared.settings.Settings.{Settings}
-use Rattle.wanted.specs.declared.plan.PlannedOrder.{PlannedOrder}
+use Rattle.wanted.specs.declared.planned.PlannedOrder.{PlannedOrder}
 use Rattle.wanted.specs.Plan.{plannedClose, plannedTarget}
 use Rattle.admission.specs.Admission.{capped}
 use Rattle.admission.specs.Inner.Admission.{mostOf}

@@ -7,8 +7,8 @@ use lib.ListN.{length}
 use lib.IntN.{ℤ}
 use Rattle.answer.specs.declared.Answer.the-variants.{Done}
 use Rattle.table.specs.Rows.{Cols, columnsOf, Full}
-use Rattle.fills.specs.declared.order.Book.{Book}
-use Rattle.fills.specs.declared.order.Order.{Order}
+use Rattle.fills.specs.declared.terms.Book.{Book}
+use Rattle.fills.specs.declared.terms.Order.{Order}
 use Rattle.fills.specs.declared.record.ExecutionKind.{ExecutionKind}
 use Rattle.fills.specs.Orders.{State}
 use Rattle.fills.specs.Fill.{fillAll}

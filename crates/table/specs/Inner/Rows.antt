@@ -25,11 +25,11 @@ pub record Puts (p : Position) (n : ℕ) (c : Cols) (r : ℕ) (d : Cols) : Type 
   pub same : rows r d ≡ put64 keyOf p (rows n c)
 
 -- ---- what the functions on columns do, whatever the columns hold
-pub record Counted : Type 0 where
+pub record CountedCols : Type 0 where
   pub count : ℕ
   pub columns : Cols
 
-abbrev pub countedCols : ℕ → Cols → Counted
+abbrev pub countedCols : ℕ → Cols → CountedCols
 countedCols n c = record { count = n; columns = c }
 
 -- v goes to i, m elements move up by one, and the next one is lost
@@ -57,6 +57,6 @@ abbrev pub heldAt : Found → ℕ → Cols → Position
 heldAt (At i) s c = pick (ltb i 64) (rowAt i c) (fresh s)
 heldAt (Absent i) s c = fresh s
 
-abbrev pub posted : Found → Position → Counted → Counted
+abbrev pub posted : Found → Position → CountedCols → CountedCols
 posted (At i) p t = pick (ltb i 64) (countedCols (t .count) (setAll i p (t .columns))) t
 posted (Absent i) p t = pick (both (ltb (t .count) 64) (leb i (t .count))) (countedCols (t .count + 1) (openAll i (t .count - i) p (t .columns))) t

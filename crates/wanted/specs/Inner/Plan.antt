@@ -3,7 +3,7 @@ use Prim.Native.Nat.{ℕ, _+_}
 use mathlib.Core.List.{List, [], _∷_}
 use Rattle.table.specs.Keyed.{pick}
 use Rattle.table.specs.Rows.{isZero}
-use Rattle.wanted.specs.declared.plan.PlannedOrder.{PlannedOrder}
+use Rattle.wanted.specs.declared.planned.PlannedOrder.{PlannedOrder}
 
 unfoldable pub orderCount : List PlannedOrder → ℕ
 orderCount [] = 0

@@ -9,8 +9,8 @@ add-word-at c = search needs
 word-at-requires : tie.Need-word-at-requires
 word-at-requires c κs = search needs
 
-is-zero-requires : tie.Need-is-zero-requires
-is-zero-requires c κs = search needs
+is-spare-requires : tie.Need-is-spare-requires
+is-spare-requires c κs = search needs
 
 add-word-at-2 : tie.Need-add-word-at-2
 add-word-at-2 c = search needs
@@ -18,8 +18,8 @@ add-word-at-2 c = search needs
 word-at-requires-2 : tie.Need-word-at-requires-2
 word-at-requires-2 c κs = search needs
 
-is-zero-requires-2 : tie.Need-is-zero-requires-2
-is-zero-requires-2 c κs = search needs
+is-spare-requires-2 : tie.Need-is-spare-requires-2
+is-spare-requires-2 c κs = search needs
 
 both-requires : tie.Need-both-requires
 both-requires c κs = search needs
@@ -33,9 +33,9 @@ spare-settings-spec =
     (tie.spec
     add-word-at
     word-at-requires
-    is-zero-requires
+    is-spare-requires
     add-word-at-2
     word-at-requires-2
-    is-zero-requires-2
+    is-spare-requires-2
     both-requires
     returns)

@@ -5,7 +5,7 @@ use mir.Val.{toZ, ofZ, SFits}
 use mir.Facts.{toZ-ofZ}
 use borrow.Author.Needs.{needs}
 use Rattle.table.proofs.Stores.{sets-all}
-use Rattle.c_leaves.specs.Lent.{numbersOf}
+use Rattle.position.specs.Rows.{numbersOf}
 use Rattle.c_leaves.proofs.positions.put.Statement.{statement}
 use Rattle.c_leaves.proofs.positions.put.Tie as tie
 

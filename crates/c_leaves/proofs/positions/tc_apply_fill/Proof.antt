@@ -7,9 +7,10 @@ use mir.Val.{SFits}
 use mir.Facts.{toZ-ofZ}
 use Rattle.answer.specs.Numbers.{numberOf}
 use Rattle.position.specs.declared.position.Filled.{Filled}
+use Rattle.position.specs.Rows.{numbersOf}
 use Rattle.position.specs.Fills.{applyFill}
 use borrow.Author.Tests.{eq-eqb, ne-eqb}
-use Rattle.c_leaves.specs.Lent.{positionOf, numbersOf, answerToFill, afterFill}
+use Rattle.c_leaves.specs.Lent.{positionFrom, answerToFill, afterFill}
 use borrow.Author.Needs.{needs}
 use Rattle.c_leaves.proofs.positions.tc_apply_fill.Statement.{statement}
 use Rattle.c_leaves.proofs.positions.tc_apply_fill.Tie as tie
@@ -66,7 +67,7 @@ returns-2 c =
     let average : SFits w64 (getD ns 1 (pos 0)) = record { sfits = p .before .before .before .position-of-arg2 .given } in
     let realized : SFits w64 (getD ns 2 (pos 0)) = record { sfits = p .before .before .position-of-arg3 .given } in
     let total : SFits w64 (getD ns 3 (pos 0)) = record { sfits = p .before .position-of-arg4 .given } in
-    let f : r .apply-fill .result ≡ applyFill (positionOf (s .args .symbol) ns) (s .args .quantity) (s .args .price) = simp (p .position-of .ensures, r .before .from-raw .ensures, toZ-ofZ held, toZ-ofZ average, toZ-ofZ realized, toZ-ofZ total, toZ-ofZ (s .fits .quantity), toZ-ofZ (s .fits .price)) at (r .apply-fill .ensures) in
+    let f : r .apply-fill .result ≡ applyFill (positionFrom (s .args .symbol) ns) (s .args .quantity) (s .args .price) = simp (p .position-of .ensures, r .before .from-raw .ensures, toZ-ofZ held, toZ-ofZ average, toZ-ofZ realized, toZ-ofZ total, toZ-ofZ (s .fits .quantity), toZ-ofZ (s .fits .price)) at (r .apply-fill .ensures) in
     (c .number2 .ensures ∙ ap (λ (x : Filled). numberOf (x .answer)) f ∙ simp yes, c .before .before .put .ensures ∙ ap (λ (x : Filled). numbersOf (x .position)) f ∙ simp yes)
 
 pub tc-apply-fill-spec : {M : Type 1} → statement M

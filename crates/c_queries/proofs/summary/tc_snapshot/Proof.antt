@@ -22,8 +22,8 @@ in-hand e =
     let tested = ap (early (a .account-in .result) (p .read-prices .result .whole)) (e .before .is-room .ensures) in
     read (s .account .now) (s .prices .now) room (a .account-in .ensures) (p .read-prices .ensures) (e .early .ensures ∙ tested)
 
-symbols-long : (k : tie.After-snapshot-at) → length (k .snapshot-at .result .weights .symbol) ≡ 64
-symbols-long k = simp length-map at (k .snapshot-at .ok .1 .1 .1 .1 .1 .1 .1 .0 .1 .1 .1 .0 .1 .0 .1)
+symbols-long : (k : tie.After-snapshot-at-prices) → length (k .snapshot-at-prices .result .weights .symbol) ≡ 64
+symbols-long k = simp length-map at (k .snapshot-at-prices .ok .1 .1 .1 .1 .1 .1 .1 .0 .1 .1 .1 .0 .1 .0 .1)
 
 account-in-requires : tie.Need-account-in-requires
 account-in-requires c κs = search needs
@@ -47,15 +47,15 @@ returns : tie.Need-returns
 unfolding snapshotIn
 returns c = let d = c .before .before in refused-query (snapshot-query _ _) (in-hand (d .before)) (d .is-done .ensures) (c .before .if1 .taken) (c .number .ensures)
 
-snapshot-at-requires : tie.Need-snapshot-at-requires
-snapshot-at-requires c κs = few-prices (in-hand (c .before .before))
+snapshot-at-prices-requires : tie.Need-snapshot-at-prices-requires
+snapshot-at-prices-requires c κs = few-prices (in-hand (c .before .before))
 
 put-snapshot-requires : tie.Need-put-snapshot-requires
 put-snapshot-requires c κs =
     let k = c .before .before in
     let d = k .before .before in
     let r = has-room (in-hand (d .before)) (d .is-done .ensures) (k .before .if1 .left) in
-    (eqb-true _ _ (both-true _ _ r .0), few-in-snapshot _ _ _ (k .snapshot-at .ensures) (symbols-long k))
+    (eqb-true _ _ (both-true _ _ r .0), few-in-snapshot _ _ _ (k .snapshot-at-prices .ensures) (symbols-long k))
 
 same-length : tie.Need-same-length
 same-length c = search needs
@@ -69,7 +69,7 @@ returns-2 c =
     let w = c .before .before .before .before in
     let k = w .before .before .before in
     let d = k .before .before in
-    w .put-snapshot .ensures ∙ made-query (snapshot-query _ _) (in-hand (d .before)) (d .is-done .ensures) (k .before .if1 .left) (k .snapshot-at .ensures)
+    w .put-snapshot .ensures ∙ made-query (snapshot-query _ _) (in-hand (d .before)) (d .is-done .ensures) (k .before .if1 .left) (k .snapshot-at-prices .ensures)
 
 pub tc-snapshot-spec : {M : Type 1} → statement M
 tc-snapshot-spec =
@@ -82,7 +82,7 @@ tc-snapshot-spec =
     is-done-requires
     number-requires
     returns
-    snapshot-at-requires
+    snapshot-at-prices-requires
     put-snapshot-requires
     same-length
     same-length-2

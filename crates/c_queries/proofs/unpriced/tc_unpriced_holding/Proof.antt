@@ -35,8 +35,8 @@ returns : tie.Need-returns
 unfolding unpricedIn
 returns c = let d = c .before .before in refused-query (unpriced-query _) (in-hand (d .before)) (d .is-done .ensures) (c .before .if1 .taken) (c .number .ensures)
 
-unpriced-at-requires : tie.Need-unpriced-at-requires
-unpriced-at-requires c κs = few-prices (in-hand (c .before .before))
+unpriced-at-prices-requires : tie.Need-unpriced-at-prices-requires
+unpriced-at-prices-requires c κs = few-prices (in-hand (c .before .before))
 
 put-unpriced-requires : tie.Need-put-unpriced-requires
 put-unpriced-requires c κs = let d = c .before .before .before in eqb-true _ _ (has-room (in-hand (d .before)) (d .is-done .ensures) (c .before .before .if1 .left))
@@ -50,7 +50,7 @@ returns-2 c =
     let w = c .before .before in
     let k = w .before .before in
     let d = k .before .before in
-    w .put-unpriced .ensures ∙ made-query (unpriced-query _) (in-hand (d .before)) (d .is-done .ensures) (k .before .if1 .left) (k .unpriced-at .ensures)
+    w .put-unpriced .ensures ∙ made-query (unpriced-query _) (in-hand (d .before)) (d .is-done .ensures) (k .before .if1 .left) (k .unpriced-at-prices .ensures)
 
 pub tc-unpriced-holding-spec : {M : Type 1} → statement M
 tc-unpriced-holding-spec =
@@ -62,7 +62,7 @@ tc-unpriced-holding-spec =
     is-done-requires
     number-requires
     returns
-    unpriced-at-requires
+    unpriced-at-prices-requires
     put-unpriced-requires
     same-length
     returns-2)

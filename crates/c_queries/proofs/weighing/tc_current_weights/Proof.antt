@@ -34,14 +34,14 @@ returns : tie.Need-returns
 unfolding currentWeightsIn
 returns c = let d = c .before .before in refused-query (weights-query _) (in-hand (d .before)) (d .is-done .ensures) (c .before .if1 .taken) (c .number .ensures)
 
-weights-at-requires : tie.Need-weights-at-requires
-weights-at-requires c κs = few-prices (in-hand (c .before .before))
+weights-at-prices-requires : tie.Need-weights-at-prices-requires
+weights-at-prices-requires c κs = few-prices (in-hand (c .before .before))
 
-symbols-long : (k : tie.After-weights-at) → length (k .weights-at .result .symbol) ≡ 64
+symbols-long : (k : tie.After-weights-at-prices) → length (k .weights-at-prices .result .symbol) ≡ 64
 symbols-long k = search needs
 
 put-weights-requires : tie.Need-put-weights-requires
-put-weights-requires c κs = few-weights _ _ _ (c .before .weights-at .ensures) (symbols-long (c .before))
+put-weights-requires c κs = few-weights _ _ _ (c .before .weights-at-prices .ensures) (symbols-long (c .before))
 
 same-length : tie.Need-same-length
 same-length c = search needs
@@ -52,7 +52,7 @@ returns-2 c =
     let w = c .before .before in
     let k = w .before .before in
     let d = k .before .before in
-    w .put-weights .ensures ∙ made-query (weights-query _) (in-hand (d .before)) (d .is-done .ensures) (k .before .if1 .left) (k .weights-at .ensures)
+    w .put-weights .ensures ∙ made-query (weights-query _) (in-hand (d .before)) (d .is-done .ensures) (k .before .if1 .left) (k .weights-at-prices .ensures)
 
 pub tc-current-weights-spec : {M : Type 1} → statement M
 tc-current-weights-spec =
@@ -64,7 +64,7 @@ tc-current-weights-spec =
     is-done-requires
     number-requires
     returns
-    weights-at-requires
+    weights-at-prices-requires
     put-weights-requires
     same-length
     returns-2)

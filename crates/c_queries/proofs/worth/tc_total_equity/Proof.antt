@@ -35,8 +35,8 @@ returns : tie.Need-returns
 unfolding equityIn
 returns c = let d = c .before .before in refused-query (equity-query _) (in-hand (d .before)) (d .is-done .ensures) (c .before .if1 .taken) (c .number .ensures)
 
-equity-at-requires : tie.Need-equity-at-requires
-equity-at-requires c κs = few-prices (in-hand (c .before .before))
+equity-at-prices-requires : tie.Need-equity-at-prices-requires
+equity-at-prices-requires c κs = few-prices (in-hand (c .before .before))
 
 put-equity-requires : tie.Need-put-equity-requires
 put-equity-requires c κs = let d = c .before .before .before in eqb-true _ _ (has-room (in-hand (d .before)) (d .is-done .ensures) (c .before .before .if1 .left))
@@ -50,7 +50,7 @@ returns-2 c =
     let w = c .before .before in
     let k = w .before .before in
     let d = k .before .before in
-    w .put-equity .ensures ∙ made-query (equity-query _) (in-hand (d .before)) (d .is-done .ensures) (k .before .if1 .left) (k .equity-at .ensures)
+    w .put-equity .ensures ∙ made-query (equity-query _) (in-hand (d .before)) (d .is-done .ensures) (k .before .if1 .left) (k .equity-at-prices .ensures)
 
 pub tc-total-equity-spec : {M : Type 1} → statement M
 tc-total-equity-spec =
@@ -62,7 +62,7 @@ tc-total-equity-spec =
     is-done-requires
     number-requires
     returns
-    equity-at-requires
+    equity-at-prices-requires
     put-equity-requires
     same-length
     returns-2)

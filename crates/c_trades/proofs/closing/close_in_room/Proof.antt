@@ -12,7 +12,7 @@ use Rattle.portfolio.specs.Rebalance.{Outcome}
 use Rattle.portfolio.specs.Close.{positionClosed}
 use Rattle.fills.specs.Records.{kindOf}
 use borrow.Author.Needs.{needs}
-use Rattle.c_trades.proofs.Asking.{close-room}
+use Rattle.portfolio.proofs.Rooms.{close-room}
 use Rattle.c_trades.proofs.Finishing.{Roomed, roomed, told-roomed}
 use Rattle.c_trades.proofs.closing.close_in_room.Statement.{statement}
 use Rattle.c_trades.proofs.closing.close_in_room.Tie as tie
@@ -65,7 +65,7 @@ returns : tie.Need-returns
 returns c =
     let f = c .before .before .before .before .before .before in
     let p = f .before .before .before .before .before .before .before .before .before .before in
-    (simp (toZ-ofZ (begun p .fits .price)) at (f .file-close .ensures)) ∙ told-roomed (room-at p) (closing (begun p)) (close-room _ _ _ _ _ _) _ _
+    (simp (toZ-ofZ (begun p .fits .price)) at (f .file-close .ensures)) ∙ told-roomed (room-at p) (closing (begun p)) (close-room _ _ _ _ _ 1 _ (omega arith)) _ _
 
 pub close-in-room-spec : {M : Type 1} → statement M
 close-in-room-spec =

@@ -10,7 +10,7 @@ use Rattle.list_bytes.specs.Lists.{symbolsIn, weightsIn, pricesIn}
 use Rattle.portfolio.specs.Rebalance.{Outcome, rebalanced}
 use Rattle.fills.specs.Records.{kindOf}
 use borrow.Author.Needs.{needs}
-use Rattle.c_trades.proofs.Asking.{rebalance-room}
+use Rattle.portfolio.proofs.Rooms.{rebalance-room}
 use Rattle.c_trades.proofs.Finishing.{Roomed, roomed, told-roomed}
 use Rattle.c_trades.proofs.rebalancing.rebalance_in_room.Statement.{statement}
 use Rattle.c_trades.proofs.rebalancing.rebalance_in_room.Tie as tie

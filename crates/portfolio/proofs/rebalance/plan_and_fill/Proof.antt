@@ -12,7 +12,7 @@ use Rattle.table.specs.Rows.{Cols, cols}
 use Rattle.call_lists.specs.Lists.{priceOf}
 use Rattle.account.specs.declared.account.Account.{Account}
 use Rattle.account.specs.Inner.Account.{accountWith}
-use Rattle.wanted.specs.declared.plan.PlannedOrder.{PlannedOrder}
+use Rattle.wanted.specs.declared.planned.PlannedOrder.{PlannedOrder}
 use Rattle.admission.specs.Inner.Columns.{PlanCols, planCols, FullPlan}
 use Rattle.plan.proofs.Made.{PlanStands}
 use Rattle.portfolio.specs.Answers.{recordPlaces}

@@ -5,7 +5,7 @@ use mir.Facts.{toZ-ofZ}
 use borrow.Author.Needs.{needs}
 use Rattle.table.specs.Rows.{Cols, cols}
 use Rattle.table.specs.Inner.Rows.{Ordered}
-use Rattle.fills.specs.declared.order.Order.{Order}
+use Rattle.fills.specs.declared.terms.Order.{Order}
 use Rattle.fills.specs.Records.{Buffers, buffers}
 use Rattle.fills.specs.Inner.Runs.{orders, Runs, Given}
 use Rattle.account.specs.declared.account.Account.{Account}

@@ -7,7 +7,8 @@ use mir.Facts.{toZ-ofZ}
 use borrow.Author.Needs.{needs}
 use Rattle.table.proofs.Places.{shorter-min}
 use Rattle.portfolio.specs.Close.{positionClosed}
-use Rattle.records.proofs.Writing.{closed-within-64, within-run}
+use Rattle.portfolio.proofs.Rooms.{close-room}
+use Rattle.records.proofs.Writing.{within-run}
 use Rattle.records.proofs.into.close_within.Statement.{statement}
 use Rattle.records.proofs.into.close_within.Tie as tie
 
@@ -47,7 +48,7 @@ returns c =
     let u = k .before .before .before in
     let s = u .before in
     let x = s .args in
-    within-run (positionClosed (x .a) (x .symbol) (x .price) (x .period) (x .kind)) (x .room) (u .used .result) (closed-within-64 (x .a) (x .symbol) (x .price) (x .period) (x .kind) (x .room)) (u .used .ensures) (k .close-position-at .result) _ _
+    within-run (positionClosed (x .a) (x .symbol) (x .price) (x .period) (x .kind)) (x .room) (u .used .result) (close-room (x .a) (x .symbol) (x .price) (x .period) (x .kind) 64 (x .room) (omega arith)) (u .used .ensures) (k .close-position-at .result) _ _
     (c .in-numbers .ensures) (k .close-position-at .kept .1 .1 .1 .1 .1 .0) (k .close-position-at .kept .1 .1 .1 .1 .1 .1 .0) (simp (toZ-ofZ (s .fits .price)) at (k .close-position-at .ensures))
 
 pub close-within-spec : {M : Type 1} → statement M

@@ -6,7 +6,8 @@ use native.Mathlib.Omega.{arith}
 use borrow.Author.Needs.{needs}
 use Rattle.table.proofs.Places.{shorter-min}
 use Rattle.portfolio.specs.Rebalance.{rebalanced}
-use Rattle.records.proofs.Writing.{rebalanced-within-64, within-run}
+use Rattle.portfolio.proofs.Rooms.{rebalance-room}
+use Rattle.records.proofs.Writing.{within-run}
 use Rattle.records.proofs.into.rebalance_within.Statement.{statement}
 use Rattle.records.proofs.into.rebalance_within.Tie as tie
 
@@ -46,7 +47,7 @@ returns c =
     let u = k .before .before .before in
     let x = u .before .before .before .before .args in
     within-run (rebalanced (x .a) (x .targets .now) (x .weights .now) (x .symbols .now) (x .prices .now) (x .period) (x .kind)) (x .room) (u .used .result)
-    (rebalanced-within-64 (x .a) (x .targets .now) (x .weights .now) (x .symbols .now) (x .prices .now) (x .period) (x .kind) (x .room)) (u .used .ensures) (k .rebalance-simple .result) _ _
+    (rebalance-room (x .a) (x .targets .now) (x .weights .now) (x .symbols .now) (x .prices .now) (x .period) (x .kind) (x .room)) (u .used .ensures) (k .rebalance-simple .result) _ _
     (c .in-numbers .ensures) (k .rebalance-simple .kept .1 .1 .1 .1 .1 .1 .1 .0) (k .rebalance-simple .kept .1 .1 .1 .1 .1 .1 .1 .1 .0) (k .rebalance-simple .ensures)
 
 pub rebalance-within-spec : {M : Type 1} → statement M
