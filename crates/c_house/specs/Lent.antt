@@ -36,14 +36,14 @@ unfoldable pub lentAnswer : ℕ → ℕ → List ℕ → List ℤ → Lent → A
 lentAnswer n m marks equities l = unless (within n mostAccounts) BadGroup (unless (places n m l) TooLong (houseOf n m marks equities .answer))
 
 -- an answer's number, and the places after the call
-pub record Told : Type 0 where
+pub record HouseTold : Type 0 where
   pub answer : ℕ
   pub left : Lent
 
-abbrev pub told : ℕ → Lent → Told
+abbrev pub told : ℕ → Lent → HouseTold
 told answer left = record { answer = answer; left = left }
 
 -- "Each refusal returns .. every lent place as found."
-unfoldable pub houseTold : ℕ → ℕ → List ℕ → List ℤ → Lent → Told
+unfoldable pub houseTold : ℕ → ℕ → List ℕ → List ℤ → Lent → HouseTold
 houseTold n m marks equities l =
     pick (isDone (lentAnswer n m marks equities l)) (told 0 (reportIn n m (houseOf n m marks equities))) (told (numberOf (lentAnswer n m marks equities l)) l)

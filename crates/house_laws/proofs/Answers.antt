@@ -10,7 +10,7 @@ use Rattle.answer.specs.declared.Answer.the-variants.{Done, BadSetting, TooLong
 use Rattle.house.specs.Group.{Group, changeOf, every, firstSum, accountChange, inI64, partInI64, allInI64, allPositive}
 use Rattle.house.specs.Places.{groupIn, goodMarks}
 use Rattle.house.specs.House.{mostAccounts, mostParts, within, whole, groupAnswer, report, refusal, houseOfGroup, houseOf}
-use Rattle.house_laws.specs.Groups.{Holds}
+use Rattle.house_laws.specs.Groups.{GroupHolds}
 use Rattle.answer.proofs.Choice.{both-true}
 use Rattle.house.proofs.Columns.{every-at, every-of}
 use Rattle.house_laws.proofs.Folds.{and-both}
@@ -22,7 +22,7 @@ both-hold false b e = (cc, cc)
 
 module _ (n m : ℕ) (g : Group) where
   -- "Refusals: .. 15 a change or a finished sum (not a partial one) leaves i64, 14 a part's first sum is not positive": done tells that neither is so of any
-  pub done-tells : groupAnswer n m g ≡ Done → Holds n m g
+  pub done-tells : groupAnswer n m g ≡ Done → GroupHolds n m g
   done-tells e =
       let range = both-hold (allInI64 n m g) (allPositive n m g) e .0 in
       let positive = both-hold (allInI64 n m g) (allPositive n m g) e .1 in
@@ -38,7 +38,7 @@ module _ (n m : ℕ) (g : Group) where
       }
 
   -- and is told wherever neither is
-  pub holds-done : Holds n m g → groupAnswer n m g ≡ Done
+  pub holds-done : GroupHolds n m g → groupAnswer n m g ≡ Done
   holds-done h = rw (in-range, positive)
     where
       part : (p : ℕ) → p < m → partInI64 n g p ≡ true

@@ -61,7 +61,7 @@ withChanges changes r =
     }
 
 -- what 15 and 14 ask, each change and each finished sum by its name
-pub record Holds (n m : ℕ) (g : Group) : Type 0 where
+pub record GroupHolds (n m : ℕ) (g : Group) : Type 0 where
   pub change-in-part : (p a : ℕ) → p < m → a < n → inI64 (changeOf (g p a)) ≡ true
   pub first-sum : (p : ℕ) → p < m → inI64 (firstSum n g p) ≡ true
   pub summed-change : (p : ℕ) → p < m → inI64 (summedChange n g p) ≡ true
