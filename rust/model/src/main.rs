@@ -1,6 +1,7 @@
 //! Runs a model portfolio, or a group of accounts, from a text file and writes its page. README.md describes the files.
 
 mod chart;
+mod heard;
 mod history;
 mod house;
 mod html;
@@ -9,6 +10,7 @@ mod page;
 mod plan;
 mod text;
 
+use heard::Heard;
 use history::History;
 use plan::{Plan, Unread};
 use std::io::{self, IsTerminal, Write};
@@ -74,8 +76,6 @@ fn main() -> ExitCode {
     match asked().map(run) {
         Ok(Ok(true)) => ExitCode::SUCCESS,
         Ok(Ok(false)) => ExitCode::FAILURE,
-        // Who reads the first lines and closes the pipe has what they wanted.
-        Ok(Err(e)) if e.kind() == io::ErrorKind::BrokenPipe => ExitCode::SUCCESS,
         Ok(Err(e)) => fault(&e.to_string()),
         Err(why) => fault(&format!("{why}\n{}", USAGE.trim_end())),
     }
@@ -88,7 +88,7 @@ fn fault(why: &str) -> ExitCode {
 
 /// Whether all of the file counted.
 fn run(asked: Asked) -> io::Result<bool> {
-    let mut out = io::stdout().lock();
+    let mut out = Heard::new(io::stdout().lock());
     if let Some(text) = asked.text {
         out.write_all(text.as_bytes())?;
         return Ok(true);

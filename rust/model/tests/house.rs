@@ -70,6 +70,12 @@ fn the_example_shows_what_a_trial_account_does_to_an_average() {
 }
 
 #[test]
+fn the_page_is_written_though_nobody_reads_the_output() {
+    let (_, page) = house("heard", None, &[]);
+    assert_eq!(command::unheard(&["house"], "house-unheard"), (Some(0), page));
+}
+
+#[test]
 fn the_example_is_a_file_to_begin_from() {
     let (out, page) = house("words", None, &["--example"]);
     let example = include_str!("../house-example.txt");

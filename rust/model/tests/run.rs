@@ -215,6 +215,12 @@ fn a_symbol_is_shown_as_it_is() {
 }
 
 #[test]
+fn the_page_is_written_though_nobody_reads_the_output() {
+    let (_, page) = model("heard", None, &[]);
+    assert_eq!(command::unheard(&[], "unheard"), (Some(0), page));
+}
+
+#[test]
 fn help_is_no_fault() {
     for word in ["--help", "-h"] {
         let (out, page) = model("help", None, &[word]);

@@ -1,7 +1,7 @@
 //! The command as it is run: its words, its file, and what it leaves.
 
 use std::path::PathBuf;
-use std::process::{Command, Output};
+use std::process::{Command, Output, Stdio};
 
 pub fn place(name: &str) -> PathBuf {
     let folder = PathBuf::from(env!("CARGO_TARGET_TMPDIR"));
@@ -22,6 +22,16 @@ pub fn run(first: &[&str], name: &str, text: Option<&str>, more: &[&str]) -> (Ou
     }
     let out = command.arg("--page").arg(&page).args(more).output().unwrap();
     (out, std::fs::read_to_string(page).ok())
+}
+
+/// A run of the built-in example whose reader leaves before the first line: its exit status, and its page.
+pub fn unheard(first: &[&str], name: &str) -> (Option<i32>, Option<String>) {
+    let page = place(&format!("{name}.html"));
+    let _ = std::fs::remove_file(&page);
+    let mut command = Command::new(env!("CARGO_BIN_EXE_model"));
+    let mut child = command.args(first).arg("--page").arg(&page).stdout(Stdio::piped()).spawn().unwrap();
+    drop(child.stdout.take());
+    (child.wait().unwrap().code(), std::fs::read_to_string(page).ok())
 }
 
 pub fn said(out: &Output) -> String {
