@@ -72,6 +72,7 @@ fn the_example_shows_what_a_trial_account_does_to_an_average() {
 #[test]
 fn the_page_is_written_though_nobody_reads_the_output() {
     let (_, page) = house("heard", None, &[]);
+    assert!(page.is_some());
     assert_eq!(command::unheard(&["house"], "house-unheard"), (Some(0), page));
 }
 

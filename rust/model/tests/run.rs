@@ -217,6 +217,7 @@ fn a_symbol_is_shown_as_it_is() {
 #[test]
 fn the_page_is_written_though_nobody_reads_the_output() {
     let (_, page) = model("heard", None, &[]);
+    assert!(page.is_some());
     assert_eq!(command::unheard(&[], "unheard"), (Some(0), page));
 }
 
