@@ -7,12 +7,12 @@ use native.Mathlib.Omega.{arith}
 use lib.ListN.{getD}
 use borrow.Author.Tests.{eqb-true}
 use Rattle.answer.specs.declared.Answer.{Answer}
-use Rattle.answer.specs.declared.Answer.the-variants.{Done, BadSetting, BadSymbol, Twice, BadPrice, BadWeight, TooLong, TooMany, NoRecordRoom, NotHeld, BufferFull, Unsound, BadSeries, BadGroup, NoFirstSum, OutOfRange}
+use Rattle.answer.specs.declared.Answer.the-variants.{Done, BadSetting, BadSymbol, Twice, BadPrice, BadWeight, TooLong, TooMany, NoRecordRoom, NotHeld, BufferFull, Unsound, BadSeries, BadGroup, NoFirstSum, OutOfRange, EndsEarly, BadNumber, LeftOver, NoFileRoom}
 use Rattle.answer.specs.Numbers.{numberOf, isDone, unless, orLater}
 
 -- the answers in the order of their numbers
 abbrev table : List Answer
-table = Done ∷ BadSetting ∷ BadSymbol ∷ Twice ∷ BadPrice ∷ BadWeight ∷ TooLong ∷ TooMany ∷ NoRecordRoom ∷ NotHeld ∷ BufferFull ∷ Unsound ∷ BadSeries ∷ BadGroup ∷ NoFirstSum ∷ OutOfRange ∷ []
+table = Done ∷ BadSetting ∷ BadSymbol ∷ Twice ∷ BadPrice ∷ BadWeight ∷ TooLong ∷ TooMany ∷ NoRecordRoom ∷ NotHeld ∷ BufferFull ∷ Unsound ∷ BadSeries ∷ BadGroup ∷ NoFirstSum ∷ OutOfRange ∷ EndsEarly ∷ BadNumber ∷ LeftOver ∷ NoFileRoom ∷ []
 
 in-its-place : (a : Answer) → getD table (numberOf a) Done ≡ a
 in-its-place Done = refl
@@ -31,6 +31,10 @@ in-its-place BadSeries = refl
 in-its-place BadGroup = refl
 in-its-place NoFirstSum = refl
 in-its-place OutOfRange = refl
+in-its-place EndsEarly = refl
+in-its-place BadNumber = refl
+in-its-place LeftOver = refl
+in-its-place NoFileRoom = refl
 
 pub number-tells : (a b : Answer) → numberOf a ≡ numberOf b → a ≡ b
 number-tells a b e = sym (in-its-place a) ∙ ap (λ n. getD table n Done) e ∙ in-its-place b

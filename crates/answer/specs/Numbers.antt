@@ -3,7 +3,7 @@ use Prim.Native.Nat.{ℕ}
 use mathlib.Core.Bool.{Bool}
 use lib.Dec.{eqb}
 use Rattle.answer.specs.declared.Answer.{Answer}
-use Rattle.answer.specs.declared.Answer.the-variants.{Done, BadSetting, BadSymbol, Twice, BadPrice, BadWeight, TooLong, TooMany, NoRecordRoom, NotHeld, BufferFull, Unsound, BadSeries, BadGroup, NoFirstSum, OutOfRange}
+use Rattle.answer.specs.declared.Answer.the-variants.{Done, BadSetting, BadSymbol, Twice, BadPrice, BadWeight, TooLong, TooMany, NoRecordRoom, NotHeld, BufferFull, Unsound, BadSeries, BadGroup, NoFirstSum, OutOfRange, EndsEarly, BadNumber, LeftOver, NoFileRoom}
 use Rattle.answer.specs.Choice.{pick}
 
 abbrev pub numberOf : Answer → ℕ
@@ -39,6 +39,14 @@ numberOf BadGroup = 13
 numberOf NoFirstSum = 14
 -- a change or a finished sum (not a partial one) leaves i64
 numberOf OutOfRange = 15
+-- file ends early
+numberOf EndsEarly = 16
+-- number not shortest or too large
+numberOf BadNumber = 17
+-- bytes left over
+numberOf LeftOver = 18
+-- output room short
+numberOf NoFileRoom = 19
 
 -- "0 done"
 abbrev pub isDone : Answer → Bool

@@ -19,6 +19,10 @@ pub enum Answer {
     BadGroup,
     NoFirstSum,
     OutOfRange,
+    EndsEarly,
+    BadNumber,
+    LeftOver,
+    NoFileRoom,
 }
 
 // The number that the documents give an answer.
@@ -42,6 +46,10 @@ pub fn number(a: Answer) -> u64
         Answer::BadGroup => 13,
         Answer::NoFirstSum => 14,
         Answer::OutOfRange => 15,
+        Answer::EndsEarly => 16,
+        Answer::BadNumber => 17,
+        Answer::LeftOver => 18,
+        Answer::NoFileRoom => 19,
     }
 }
 
