@@ -17,6 +17,8 @@ pub use account_words::write_ledger;
 pub use account_words::write_series;
 pub use columns::read_columns;
 pub use setting_words::ReadSettings;
+pub use setting_words::cap_count;
+pub use setting_words::cap_mark;
 pub use setting_words::cap_of;
 pub use setting_words::flag_word;
 pub use setting_words::is_cap;

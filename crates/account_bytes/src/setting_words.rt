@@ -73,7 +73,7 @@ pub(crate) fn both(a: bool, b: bool) -> bool
 }
 
 // The trade cap is two words: 1 where it is present, and its count, 0 where it is absent.
-fn cap_mark(cap: TradeCap) -> u64
+pub fn cap_mark(cap: TradeCap) -> u64
     ensures { λ r. ⌜ r ≡ capMark cap ⌝ }
 {
     match cap {
@@ -82,7 +82,7 @@ fn cap_mark(cap: TradeCap) -> u64
     }
 }
 
-fn cap_count(cap: TradeCap) -> u64
+pub fn cap_count(cap: TradeCap) -> u64
     ensures { λ r. ⌜ r ≡ capCount cap ⌝ }
 {
     match cap {

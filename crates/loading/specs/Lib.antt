@@ -1,0 +1,4 @@
+-- Reading a saved account: document 02, 5.
+pub mod Inner
+pub mod Loading
+pub mod Reading

@@ -1,0 +1,2 @@
+-- What only the functions that move through a file say.
+pub mod Fields
