@@ -1,13 +1,23 @@
 // The numbers of a file: their order, and what each may be.
 ghost use mathlib.Core.Path.{_≡_};
-ghost use Rattle.saved_form.specs.Fields.{allowed, fieldAt, hasField};
+ghost use Rattle.saved_form.specs.Fields.{allowed, fieldAt, follows, hasField};
 
 // The form that is written.
 pub const FORM: u64 = 1;
 
 // Numbers before the positions, and numbers of a position.
 pub const HEAD_FIELDS: usize = 23;
+
 pub const POSITION_FIELDS: usize = 4;
+
+// Numbers of the fields that stand out.
+const CAP_MARK: usize = 9;
+
+const CAP_COUNT: usize = 10;
+
+const CEILING: usize = 11;
+
+pub const POSITION_COUNT: usize = 22;
 
 // What a number may be as it is met.
 pub enum Kind {
@@ -41,17 +51,28 @@ pub fn nth_field(i: usize) -> Field
 fn kind_of(i: usize) -> Kind
     ensures { λ r. ⌜ r ≡ fieldAt i .kind ⌝ }
 {
-    match i {
-        6 => Kind::Pattern,
-        7 => Kind::Pattern,
-        8 => Kind::Pattern,
-        9 => Kind::Flag,
-        10 => Kind::AfterMark,
-        12 => Kind::Flag,
-        13 => Kind::Flag,
-        22 => Kind::Positions,
-        _ => Kind::Any,
+    if i < 6 {
+        return Kind::Any;
     }
+    if i < 9 {
+        return Kind::Pattern;
+    }
+    if i == CAP_MARK {
+        return Kind::Flag;
+    }
+    if i == CAP_COUNT {
+        return Kind::AfterMark;
+    }
+    if i == CEILING {
+        return Kind::Any;
+    }
+    if i < 14 {
+        return Kind::Flag;
+    }
+    if i == POSITION_COUNT {
+        return Kind::Positions;
+    }
+    Kind::Any
 }
 
 // Whether a number may stand as it is met.
@@ -67,15 +88,26 @@ pub fn allows(kind: Kind, n: u64) -> bool
     }
 }
 
-// Whether a file of a form has the field after the number before it.
+// "A trade cap is 0, or 1 and the count"
+fn follows(kind: Kind, before: u64) -> bool
+    ensures { λ r. ⌜ r ≡ follows kind before ⌝ }
+{
+    match kind {
+        Kind::Any => true,
+        Kind::Flag => true,
+        Kind::AfterMark => before == 1,
+        Kind::Pattern => true,
+        Kind::Positions => true,
+    }
+}
+
+// Whether a file of a form has the field, after the number before it.
 pub fn stands(form: u64, f: Field, before: u64) -> bool
     ensures { λ r. ⌜ r ≡ hasField form f before ⌝ }
 {
     if form < f.since {
         return false;
     }
-    match f.kind {
-        Kind::AfterMark => before == 1,
-        _ => true,
-    }
+    let kind = f.kind;
+    follows(kind, before)
 }

@@ -6,6 +6,7 @@ pub use field::FORM;
 pub use field::Field;
 pub use field::HEAD_FIELDS;
 pub use field::Kind;
+pub use field::POSITION_COUNT;
 pub use field::POSITION_FIELDS;
 pub use field::allows;
 pub use field::nth_field;

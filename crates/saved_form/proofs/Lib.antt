@@ -1,0 +1,3 @@
+-- What the functions of the saved form rest on.
+pub mod Fields
+pub mod Signed
