@@ -50,7 +50,13 @@ pub(crate) fn field_at(bytes: &[u8], place: usize, form: u64, i: usize, before: 
 }
 
 // As many fields as there are places for, from one on. It stops at the first refusal.
-pub(crate) fn fields_at(bytes: &[u8], place: usize, form: u64, first: usize, out: &mut [u64]) -> Reached
+pub(crate) fn fields_at(
+    bytes: &[u8],
+    place: usize,
+    form: u64,
+    first: usize,
+    out: &mut [u64],
+) -> Reached
     requires { ⌜ first + length (now out) < 2 ^ 64 ⌝ }
     ensures { λ r. ⌜ (let run = fieldsRead (now (bytes .entry)) form (fieldsFrom first (length (now (out .entry)))) 0 place in
         (r ≡ reached run) × (now (out .exit) ≡ sets (now (out .entry)) 0 (run .values))) ⌝ }
