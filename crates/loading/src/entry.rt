@@ -33,17 +33,19 @@ pub(crate) fn position_at(bytes: &[u8], form: u64, place: usize) -> Entry
     ensures { λ r. ⌜ r ≡ positionRead (now (bytes .entry)) form place ⌝ }
 {
     let s = symbol_at(bytes, place);
-    if !is_done(s.answer) {
-        return no_entry(s.answer, s.next);
+    let told = s.answer;
+    if !is_done(told) {
+        return no_entry(told, s.next);
     }
     let mut v = [0u64; POSITION_FIELDS];
     let r = fields_at(bytes, s.next, form, HEAD_FIELDS, &mut v[..]);
-    if !is_done(r.answer) {
-        return no_entry(r.answer, r.next);
+    let answer = r.answer;
+    if !is_done(answer) {
+        return no_entry(answer, r.next);
     }
     let position = Position {
         symbol: Symbol(s.value),
-        quantity: Shares(unfolded(v[0])),
+        quantity: Shares::from_raw(unfolded(v[0])),
         avg_entry_price: unfolded(v[1]),
         realized_pnl: unfolded(v[2]),
         total_cost: unfolded(v[3]),

@@ -17,8 +17,9 @@ pub fn head_at(bytes: &[u8], form: u64, place: usize) -> Head
 {
     let mut values = [0u64; HEAD_FIELDS];
     let r = fields_at(bytes, place, form, 0, &mut values[..]);
+    let answer = r.answer;
     Head {
-        answer: r.answer,
+        answer,
         next: r.next,
         values,
     }

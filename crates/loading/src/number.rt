@@ -40,10 +40,12 @@ pub(crate) fn field_at(bytes: &[u8], place: usize, form: u64, i: usize, before: 
         return refused_at(Answer::Done, place);
     }
     let n = number_at(bytes, place);
-    if !is_done(n.answer) {
+    let answer = n.answer;
+    if !is_done(answer) {
         return n;
     }
-    if !allows(f.kind, n.value) {
+    let kind = f.kind;
+    if !allows(kind, n.value) {
         return refused_at(Answer::Unsound, place);
     }
     n
@@ -66,9 +68,10 @@ pub(crate) fn fields_at(
     let mut before: u64 = 0;
     while i < out.len() {
         let n = field_at(bytes, at, form, first + i, before);
-        if !is_done(n.answer) {
+        let answer = n.answer;
+        if !is_done(answer) {
             return Reached {
-                answer: n.answer,
+                answer,
                 next: n.next,
             };
         }

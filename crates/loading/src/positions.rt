@@ -47,16 +47,17 @@ fn positions_at(
     let mut at = place;
     while i < count {
         let e = position_at(bytes, form, at);
-        if !is_done(e.answer) {
+        let answer = e.answer;
+        if !is_done(answer) {
             return Filed {
-                answer: e.answer,
+                answer,
                 count: i,
                 next: e.next,
             };
         }
         let p = e.position;
         symbol[i] = p.symbol.0;
-        let q = p.quantity.0;
+        let q = p.quantity.raw();
         quantity[i] = q;
         let a = p.avg_entry_price;
         average[i] = a;
@@ -102,8 +103,9 @@ pub fn table_at(bytes: &[u8], form: u64, count: u64, place: usize) -> Positions
         realized_pnl,
         total_cost,
     };
+    let answer = f.answer;
     Positions {
-        answer: f.answer,
+        answer,
         next: f.next,
         table,
     }

@@ -69,7 +69,8 @@ pub(crate) fn symbol_at(bytes: &[u8], place: usize) -> Number
     ensures { λ r. ⌜ r ≡ symbolRead (now (bytes .entry)) place ⌝ }
 {
     let n = number_at(bytes, place);
-    if !is_done(n.answer) {
+    let answer = n.answer;
+    if !is_done(answer) {
         return n;
     }
     if n.value == 0 {

@@ -24,19 +24,22 @@ pub fn load(bytes: &[u8]) -> Changed
 {
     let p = parse(bytes);
     let form = p.form;
-    if !is_done(form.answer) {
-        return not_loaded(form.answer);
+    let answer = form.answer;
+    if !is_done(answer) {
+        return not_loaded(answer);
     }
     if form.value != FORM {
         return not_loaded(Answer::Unsound);
     }
     let head = p.head;
-    if !is_done(head.answer) {
-        return not_loaded(head.answer);
+    let answer = head.answer;
+    if !is_done(answer) {
+        return not_loaded(answer);
     }
     let positions = p.positions;
-    if !is_done(positions.answer) {
-        return not_loaded(positions.answer);
+    let answer = positions.answer;
+    if !is_done(answer) {
+        return not_loaded(answer);
     }
     if positions.next != bytes.len() {
         return not_loaded(Answer::LeftOver);
