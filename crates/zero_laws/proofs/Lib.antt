@@ -1,0 +1,7 @@
+-- The laws of a zero setting's sign.
+pub mod Rates
+pub mod Costs
+pub mod Wants
+pub mod Fills
+pub mod Sound
+pub mod Trades

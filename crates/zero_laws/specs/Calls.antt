@@ -1,0 +1,25 @@
+-- What a call answers, with the account in it as it is read back: every other part is as it was.
+use Rattle.account.specs.declared.change.Changed.{Changed}
+use Rattle.portfolio.specs.Rebalance.{Outcome}
+use Rattle.portfolio.specs.Returns.{Recorded}
+use Rattle.portfolio.specs.Trades.{Filed}
+use Rattle.records.specs.Into.{Handed}
+use Rattle.zero_laws.specs.Zeros.{plainAccount}
+
+-- of a setter
+abbrev pub plainChanged : Changed → Changed
+plainChanged r = record { answer = r .answer; account = plainAccount (r .account) }
+
+-- of a call that trades: by value, in lent number slices, in a lent run of records
+abbrev pub plainOutcome : Outcome → Outcome
+plainOutcome o = record { answer = o .answer; account = plainAccount (o .account); records = o .records }
+
+abbrev pub plainFiled : Filed → Filed
+plainFiled f = record { answer = f .answer; account = plainAccount (f .account); records = f .records; words = f .words; ints = f .ints }
+
+abbrev pub plainHanded : Handed → Handed
+plainHanded h = record { answer = h .answer; account = plainAccount (h .account); records = h .records; run = h .run }
+
+-- of `record_return`
+abbrev pub plainRecorded : Recorded → Recorded
+plainRecorded r = record { answer = r .answer; account = plainAccount (r .account); equities = r .equities; returns = r .returns }

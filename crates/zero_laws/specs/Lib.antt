@@ -1,0 +1,3 @@
+-- What loading makes of an account that was saved.
+pub mod Zeros
+pub mod Calls

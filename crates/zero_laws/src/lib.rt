@@ -1,0 +1,1 @@
+// A zero setting's sign changes no call: definitions and laws only.
