@@ -4,4 +4,8 @@ pub mod Costs
 pub mod Wants
 pub mod Fills
 pub mod Sound
+pub mod Choices
 pub mod Trades
+pub mod Changes
+pub mod Queries
+pub mod Histories

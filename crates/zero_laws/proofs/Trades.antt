@@ -1,12 +1,10 @@
 -- The calls that change an account, on one that is read back: each answers, records and leaves what it does on the account that was saved, and its account is that one's read back.
 use Prim.Native.Nat.{ℕ}
 use mathlib.Core.Path.{_≡_, refl, sym, ap, _∙_}
-use mathlib.Core.Bool.{Bool, true, false}
 use mathlib.Core.List.{List, map}
 use lib.IntN.{ℤ, pos}
 use lib.Ieee.{Float}
 use lib.ListN.{length}
-use Rattle.table.specs.Keyed.{pick}
 use Rattle.call_lists.specs.Lists.{priceOf}
 use Rattle.account.specs.declared.account.Account.{Account}
 use Rattle.account.specs.Account.{heldIn}
@@ -25,16 +23,10 @@ use Rattle.portfolio.specs.Trades.{filed}
 use Rattle.records.specs.Into.{handed}
 use Rattle.zero_laws.specs.Zeros.{plainSettings, plainAccount}
 use Rattle.zero_laws.specs.Calls.{plainOutcome, plainFiled, plainHanded, plainRecorded}
+use Rattle.zero_laws.proofs.Choices.{picked}
 use Rattle.zero_laws.proofs.Wants.{plain-plan, plain-running}
 use Rattle.zero_laws.proofs.Fills.{plain-fill, plain-fills}
 use Rattle.zero_laws.proofs.Sound.{plain-rebalance-answer, plain-close-answer, plain-return-answer}
-
-picked : {A B : Type 0} (f : A → B) {b c : Bool} {x y : B} {u v : A} → b ≡ c → x ≡ f u → y ≡ f v → pick b x y ≡ f (pick c u v)
-picked f {c = c} {x = x} {y = y} {u = u} {v = v} e p q = ap (λ b. pick b x y) e ∙ go c
-  where
-    go : (c : Bool) → pick c x y ≡ f (pick c u v)
-    go true = p
-    go false = q
 
 module _ (a : Account) where
   -- ---- `rebalance_simple`
@@ -82,3 +74,20 @@ module _ (a : Account) where
       let answer = plain-return-answer a ps vs (length equities) (length returns) in
       picked plainRecorded (ap isDone answer) refl
       (ap (λ w. record { answer = w; account = plainAccount a; equities = equities; returns = returns }) answer)
+
+  -- ---- the same with records in lent slices: both slices, and a run, are left as the saved account's call leaves them
+  pub plain-rebalance-filed : (ts : List ℕ) (ws : List Float) (ps : List ℕ) (vs : List ℤ) (period : ℕ) (kind : ExecutionKind) (room : ℕ) (words : List ℕ) (ints : List ℤ)
+      → filed (rebalanced (plainAccount a) ts ws ps vs period kind room) words ints ≡ plainFiled (filed (rebalanced a ts ws ps vs period kind room) words ints)
+  plain-rebalance-filed ts ws ps vs period kind room words ints = ap (λ o. filed o words ints) (plain-rebalanced ts ws ps vs period kind room)
+
+  pub plain-close-filed : (s : ℕ) (price : ℤ) (period : ℕ) (kind : ExecutionKind) (room : ℕ) (words : List ℕ) (ints : List ℤ)
+      → filed (positionClosed (plainAccount a) s price period kind room) words ints ≡ plainFiled (filed (positionClosed a s price period kind room) words ints)
+  plain-close-filed s price period kind room words ints = ap (λ o. filed o words ints) (plain-closed s price period kind room)
+
+  pub plain-rebalance-handed : (ts : List ℕ) (ws : List Float) (ps : List ℕ) (vs : List ℤ) (period : ℕ) (kind : ExecutionKind) (run : List ExecutionRecord)
+      → handed (rebalanced (plainAccount a) ts ws ps vs period kind (length run)) run ≡ plainHanded (handed (rebalanced a ts ws ps vs period kind (length run)) run)
+  plain-rebalance-handed ts ws ps vs period kind run = ap (λ o. handed o run) (plain-rebalanced ts ws ps vs period kind (length run))
+
+  pub plain-close-handed : (s : ℕ) (price : ℤ) (period : ℕ) (kind : ExecutionKind) (run : List ExecutionRecord)
+      → handed (positionClosed (plainAccount a) s price period kind (length run)) run ≡ plainHanded (handed (positionClosed a s price period kind (length run)) run)
+  plain-close-handed s price period kind run = ap (λ o. handed o run) (plain-closed s price period kind (length run))

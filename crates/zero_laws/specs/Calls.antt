@@ -1,10 +1,12 @@
--- What a call answers, with the account in it as it is read back: every other part is as it was.
+-- What a call answers, with the account in it as it is read back: every other part is as it was. Definitions only.
+use Rattle.account.specs.declared.query.Rate.{Rate}
+use Rattle.account.specs.declared.query.Costs.{Costs}
 use Rattle.account.specs.declared.change.Changed.{Changed}
 use Rattle.portfolio.specs.Rebalance.{Outcome}
 use Rattle.portfolio.specs.Returns.{Recorded}
 use Rattle.portfolio.specs.Trades.{Filed}
 use Rattle.records.specs.Into.{Handed}
-use Rattle.zero_laws.specs.Zeros.{plainAccount}
+use Rattle.zero_laws.specs.Zeros.{plainZero, plainCosts, plainAccount}
 
 -- of a setter
 abbrev pub plainChanged : Changed → Changed
@@ -23,3 +25,10 @@ plainHanded h = record { answer = h .answer; account = plainAccount (h .account)
 -- of `record_return`
 abbrev pub plainRecorded : Recorded → Recorded
 plainRecorded r = record { answer = r .answer; account = plainAccount (r .account); equities = r .equities; returns = r .returns }
+
+-- of the two queries that tell a floating setting
+abbrev pub plainRate : Rate → Rate
+plainRate r = record { answer = r .answer; bps = plainZero (r .bps) }
+
+abbrev pub plainTold : Costs → Costs
+plainTold r = record { answer = r .answer; «cost_model» = plainCosts (r .«cost_model») }

@@ -1,3 +1,5 @@
--- What loading makes of an account that was saved.
+-- What loading makes of an account that was saved, and what the laws of it compare.
 pub mod Zeros
 pub mod Calls
+pub mod Told
+pub mod History

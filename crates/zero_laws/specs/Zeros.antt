@@ -1,5 +1,6 @@
 -- Document 02, 5: "Floating zero settings are written with positive sign." What is read back, and what the laws compare it with. Definitions only.
 use Prim.Native.Nat.{zero, suc}
+use mathlib.Core.Path.{_≡_}
 use lib.Ieee.{Float, nan, inf, fin}
 use Rattle.doubles.specs.Doubles as Doubles
 use Rattle.cost_model.specs.declared.CostModel.{CostModel}
@@ -37,6 +38,10 @@ plainSettings s =
 
 abbrev pub plainAccount : Account → Account
 plainAccount a = withSettings (plainSettings (a .settings)) a
+
+-- "that sign apart": accounts that are read back as one account
+abbrev pub Alike : Account → Account → Type 0
+Alike a b = plainAccount a ≡ plainAccount b
 
 -- what a call hands to its fills
 abbrev pub plainTerms : Terms → Terms
