@@ -9,3 +9,5 @@ pub mod Trades
 pub mod Changes
 pub mod Queries
 pub mod Histories
+pub mod Patterns
+pub mod Orders

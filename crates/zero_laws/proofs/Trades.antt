@@ -30,7 +30,7 @@ use Rattle.zero_laws.proofs.Sound.{plain-rebalance-answer, plain-close-
 
 module _ (a : Account) where
   -- ---- `rebalance_simple`
-  plain-admitted : (ts : List ℕ) (ws : List Float) (price : ℕ → ℤ) → admittedPlan (plainAccount a) ts ws price ≡ admittedPlan a ts ws price
+  pub plain-admitted : (ts : List ℕ) (ws : List Float) (price : ℕ → ℤ) → admittedPlan (plainAccount a) ts ws price ≡ admittedPlan a ts ws price
   unfolding admittedPlan
   plain-admitted ts ws price = simp (plain-plan (a .settings))
 

@@ -6,6 +6,7 @@ use Rattle.portfolio.specs.Rebalance.{Outcome}
 use Rattle.portfolio.specs.Returns.{Recorded}
 use Rattle.portfolio.specs.Trades.{Filed}
 use Rattle.records.specs.Into.{Handed}
+use Rattle.order.specs.CashFirst.{Call}
 use Rattle.zero_laws.specs.Zeros.{plainZero, plainCosts, plainAccount}
 
 -- of a setter
@@ -25,6 +26,19 @@ plainHanded h = record { answer = h .answer; account = plainAccount (h .account)
 -- of `record_return`
 abbrev pub plainRecorded : Recorded → Recorded
 plainRecorded r = record { answer = r .answer; account = plainAccount (r .account); equities = r .equities; returns = r .returns }
+
+-- a call of `rebalance_simple` on the account that is read back
+abbrev pub onPlain : Call → Call
+onPlain c = record {
+  account = plainAccount (c .account);
+  targets = c .targets;
+  weights = c .weights;
+  symbols = c .symbols;
+  prices = c .prices;
+  period = c .period;
+  kind = c .kind;
+  room = c .room;
+}
 
 -- of the two queries that tell a floating setting
 abbrev pub plainRate : Rate → Rate
