@@ -4,12 +4,15 @@ use mathlib.Core.Path.{_≡_, refl, sym, ap, _∙_}
 use mathlib.Core.Bool.{Bool}
 use lib.IntN.{ℤ}
 use lib.Ieee.{Float, nan, inf, fin}
+use Rattle.table.specs.Rows.{Cols}
 use Rattle.account.specs.declared.settings.Settings.{Settings}
 use Rattle.account.specs.declared.settings.TradeCap.{TradeCap}
 use Rattle.account.specs.declared.account.Account.{Account}
+use Rattle.account.specs.declared.account.Ledger.{Ledger}
+use Rattle.account.specs.Inner.Account.{accountWith}
 use Rattle.account.specs.Settings.{withStep, withMinOrder, withMaxOrder, withBand, withTradeCap, withMaxNotional, withRecording, withCashFirst}
 use Rattle.account.specs.Calls.{changed}
-use Rattle.zero_laws.specs.Zeros.{plainZero, plainSettings, plainAccount, Alike}
+use Rattle.zero_laws.specs.Zeros.{plainZero, plainSettings, plainAccount, plainLedger, Alike}
 use Rattle.zero_laws.specs.Calls.{plainChanged}
 use Rattle.zero_laws.specs.History.{Setter, step, minOrder, maxOrder, maxNotional, band, tradeCap, recording, cashFirst, setBy}
 use Rattle.zero_laws.proofs.Choices.{picked}
@@ -25,6 +28,10 @@ plain-twice (fin s (suc m) e) = refl
 
 pub read-back-alike : (a : Account) → Alike (plainAccount a) a
 read-back-alike a = simp plain-twice
+
+-- a call on a ledger and lent columns is one on the account of both
+pub plain-with : (h : Ledger) (c : Cols) → accountWith (plainLedger h) c ≡ plainAccount (accountWith h c)
+plain-with h c = refl
 
 -- ---- setters
 pub plain-changed : (s : Settings) (a : Account) → changed (plainSettings s) (plainAccount a) ≡ plainChanged (changed s a)

@@ -1,13 +1,13 @@
 -- What a cost model with plain zeros charges, pays and affords: what the model itself does.
 use Prim.Native.Nat.{ℕ}
-use mathlib.Core.Path.{_≡_, refl, ap, _∙_, fun-ext}
+use mathlib.Core.Path.{_≡_, ap, fun-ext}
 use mathlib.Core.Bool.{Bool}
-use lib.IntN.{ℤ, pos, natAbs}
+use lib.IntN.{ℤ, natAbs}
 use Rattle.cost_model.specs.declared.CostModel.{CostModel}
-use Rattle.cost_model.specs.Costs.{atLeast, uncapped, atMost, cost, slippageFactor, slipped, effective, goodCosts}
+use Rattle.cost_model.specs.Costs.{uncapped, cost, slippageFactor, slipped, effective, goodCosts}
 use Rattle.sizing.specs.Sizing.{above}
 use Rattle.sizing.specs.Afford.{need, fits, affordable}
-use Rattle.sizing.specs.Cash.{cashTaken, cashChange, lowersCash}
+use Rattle.sizing.specs.Cash.{cashTaken, cashChange}
 use Rattle.zero_laws.specs.Zeros.{plainCosts}
 use Rattle.zero_laws.proofs.Rates.{plain-commission, plain-factor, plain-not-below-0, plain-within, plain-rate}
 

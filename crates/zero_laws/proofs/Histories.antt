@@ -1,5 +1,4 @@
 -- "Saving and loading between calls changes no later answer in demands 2 and 3, that sign apart."
-use Prim.Native.Nat.{ℕ}
 use mathlib.Core.Path.{_≡_, refl, sym, ap, _∙_}
 use mathlib.Core.List.{List, [], _∷_}
 use Rattle.account.specs.declared.account.Account.{Account}
@@ -10,7 +9,7 @@ use Rattle.portfolio.specs.Returns.{Recorded, recorded}
 use Rattle.zero_laws.specs.Zeros.{plainAccount, Alike}
 use Rattle.zero_laws.specs.Calls.{plainOutcome, plainRecorded}
 use Rattle.zero_laws.specs.Told.{SameTold}
-use Rattle.zero_laws.specs.History.{Call, set, rebalance, close, return, Reply, reply, traded, noted, replyTo, leftBy, Step, call, reload, replies, left, unsaved}
+use Rattle.zero_laws.specs.History.{Call, set, rebalance, close, return, reply, traded, noted, replyTo, leftBy, Step, call, reload, replies, left, unsaved}
 use Rattle.zero_laws.proofs.Trades.{plain-rebalanced, plain-closed, plain-recorded}
 use Rattle.zero_laws.proofs.Changes.{read-back-alike, alike-set}
 use Rattle.zero_laws.proofs.Queries.{same-told}

@@ -1,6 +1,5 @@
 -- Demand 3 on an account that is read back: what it asks of the saved account is enough.
-use mathlib.Core.Bool.{true}
-use mathlib.Core.Path.{_≡_, refl, sym, ap, _∙_, subst, fun-ext}
+use mathlib.Core.Path.{_≡_, sym, ap, _∙_, subst, fun-ext}
 use mathlib.Core.List.{List, map}
 use lib.IntN.{pos, _+ℤ_}
 use Rattle.sizing.specs.Sizing.{above}

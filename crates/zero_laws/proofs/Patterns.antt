@@ -3,11 +3,10 @@ use Prim.Native.Nat.{ℕ, zero, suc, _^_, _<_}
 use mathlib.Core.Path.{_≡_, refl, sym, ap, _∙_, subst}
 use mathlib.Core.Bool.{Bool, true, false, not}
 use native.Mathlib.Nat.{zero-mul, zero-div}
-use native.Mathlib.Omega.{arith}
 use borrow.Author.Tests.{eqb-true, eqb-false}
 use lib.Dec.{T, eqb}
 use lib.IntN.{ℤ, pos}
-use lib.Ieee.{Float, nan, inf, fin, binary64, fits, isNan, size, ofBits, toBits}
+use lib.Ieee.{Float, nan, inf, fin, binary64, fits, isNan, ofBits, toBits}
 use lib.Ieee.Bits.{ofBits-fits}
 use Rattle.doubles.specs.Doubles as Doubles
 use Rattle.doubles.proofs.Chain.{minusZero}

@@ -15,7 +15,7 @@ use Rattle.zero_laws.specs.Zeros.{plainZero, plainCosts, plainAccount, A
 use Rattle.zero_laws.specs.Calls.{plainRate, plainTold}
 use Rattle.zero_laws.specs.Told.{SameTold}
 use Rattle.zero_laws.proofs.Sound.{plain-sound, plain-query-answer}
-use Rattle.zero_laws.proofs.Changes.{plain-twice, read-back-alike}
+use Rattle.zero_laws.proofs.Changes.{read-back-alike}
 
 -- ---- of an account that is read back
 module _ (a : Account) where

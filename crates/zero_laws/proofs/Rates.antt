@@ -1,7 +1,7 @@
 -- A rate of -0.0 charges, slips and bounds as one of 0.0 does. Every double is taken.
 use Prim.Native.Nat.{ℕ, zero, suc, _+_, _*_, _<_}
 use mathlib.Core.Path.{_≡_, refl, sym, ap, _∙_}
-use mathlib.Core.Bool.{Bool, true, false, _&&_}
+use mathlib.Core.Bool.{Bool, true, false}
 use native.Mathlib.Nat.{mul-pos, zero-mul, mul-zero}
 use native.Mathlib.Omega.{arith}
 use lib.Pow.{pow-pos}
@@ -107,6 +107,11 @@ plain-within (fin s (suc m) e) = refl
 pub plain-rate : (x : Float) → goodRate (plainZero x) ≡ goodRate x
 unfolding goodRate
 plain-rate x = rw (plain-finite, plain-not-below-0)
+
+-- an account may have such a rate
+pub minus-zero-good : goodRate (fin true 0 (pos 0)) ≡ true
+unfolding goodRate lt eq le
+minus-zero-good = refl
 
 -- "drift [..] at or below a positive band": no zero is positive
 pub plain-band : (x d : Float) → both (lt Doubles.zero (plainZero x)) (le d (plainZero x)) ≡ both (lt Doubles.zero x) (le d x)

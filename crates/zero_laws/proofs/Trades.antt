@@ -1,27 +1,24 @@
 -- The calls that change an account, on one that is read back: each answers, records and leaves what it does on the account that was saved, and its account is that one's read back.
 use Prim.Native.Nat.{ℕ}
-use mathlib.Core.Path.{_≡_, refl, sym, ap, _∙_}
+use mathlib.Core.Path.{_≡_, refl, ap, _∙_}
 use mathlib.Core.List.{List, map}
-use lib.IntN.{ℤ, pos}
+use lib.IntN.{ℤ}
 use lib.Ieee.{Float}
 use lib.ListN.{length}
 use Rattle.call_lists.specs.Lists.{priceOf}
 use Rattle.account.specs.declared.account.Account.{Account}
-use Rattle.account.specs.Account.{heldIn}
 use Rattle.fills.specs.declared.record.ExecutionKind.{ExecutionKind}
 use Rattle.fills.specs.declared.record.ExecutionRecord.{ExecutionRecord}
-use Rattle.fills.specs.Orders.{State}
 use Rattle.fills.specs.Fill.{fillAll}
 use Rattle.wanted.specs.declared.planned.PlannedOrder.{PlannedOrder}
-use Rattle.wanted.specs.Equity.{equityOf}
 use Rattle.admission.specs.Running.{inRunningOrder}
-use Rattle.portfolio.specs.Answers.{isDone, rebalanceAnswer, closeAnswer, returnAnswer}
-use Rattle.portfolio.specs.Rebalance.{Outcome, termsOf, stateOf, accountAfter, orderOf, admittedPlan, afterPlan, refused, afterRebalance, rebalanced}
+use Rattle.portfolio.specs.Answers.{isDone}
+use Rattle.portfolio.specs.Rebalance.{termsOf, stateOf, accountAfter, orderOf, admittedPlan, afterPlan, refused, afterRebalance, rebalanced}
 use Rattle.portfolio.specs.Close.{closeOrder, afterClose, positionClosed}
-use Rattle.portfolio.specs.Returns.{Recorded, recorded}
+use Rattle.portfolio.specs.Returns.{recorded}
 use Rattle.portfolio.specs.Trades.{filed}
 use Rattle.records.specs.Into.{handed}
-use Rattle.zero_laws.specs.Zeros.{plainSettings, plainAccount}
+use Rattle.zero_laws.specs.Zeros.{plainAccount}
 use Rattle.zero_laws.specs.Calls.{plainOutcome, plainFiled, plainHanded, plainRecorded}
 use Rattle.zero_laws.proofs.Choices.{picked}
 use Rattle.zero_laws.proofs.Wants.{plain-plan, plain-running}

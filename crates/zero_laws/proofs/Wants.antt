@@ -1,16 +1,16 @@
 -- What a rebalance wants, admits and runs under settings with plain zeros: what it does under the settings themselves.
 use Prim.Native.Nat.{ℕ, _+_}
-use mathlib.Core.Path.{_≡_, refl, sym, ap, _∙_, fun-ext}
-use mathlib.Core.Bool.{Bool, true, false}
-use mathlib.Core.List.{List, [], _∷_, _++_}
-use lib.IntN.{ℤ, pos, _-ℤ_}
+use mathlib.Core.Path.{_≡_, refl, fun-ext}
+use mathlib.Core.Bool.{Bool}
+use mathlib.Core.List.{List, [], _∷_}
+use lib.IntN.{ℤ, _-ℤ_}
 use lib.Ieee.{Float}
 use Rattle.position.specs.declared.position.Position.{Position}
 use Rattle.account.specs.declared.settings.Settings.{Settings}
 use Rattle.wanted.specs.declared.planned.PlannedOrder.{PlannedOrder}
 use Rattle.wanted.specs.Plan.{withinBand, underMaximum, limited, allowedOrder, plannedClose, closing, plannedTarget, targeting, closings, targetings, wanted}
 use Rattle.admission.specs.Admission.{notionalOf, capped, added, addedAll, lastAdmitted, admittedFrom, admitted}
-use Rattle.admission.specs.Running.{lowers, parted, cashFirst, inRunningOrder, planOf}
+use Rattle.admission.specs.Running.{lowers, cashFirst, inRunningOrder, planOf}
 use Rattle.zero_laws.specs.Zeros.{plainCosts, plainSettings}
 use Rattle.zero_laws.proofs.Rates.{plain-band}
 use Rattle.zero_laws.proofs.Costs.{plain-change}

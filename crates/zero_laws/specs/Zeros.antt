@@ -7,6 +7,7 @@ use Rattle.cost_model.specs.declared.CostModel.{CostModel}
 use Rattle.account.specs.declared.settings.Rules.{Rules}
 use Rattle.account.specs.declared.settings.Settings.{Settings}
 use Rattle.account.specs.declared.account.Account.{Account}
+use Rattle.account.specs.declared.account.Ledger.{Ledger}
 use Rattle.account.specs.Settings.{settings}
 use Rattle.account.specs.Account.{withSettings}
 use Rattle.fills.specs.declared.terms.Terms.{Terms}
@@ -38,6 +39,10 @@ plainSettings s =
 
 abbrev pub plainAccount : Account → Account
 plainAccount a = withSettings (plainSettings (a .settings)) a
+
+-- the same of an account whose columns are lent
+abbrev pub plainLedger : Ledger → Ledger
+plainLedger h = record { cash = h .cash; settings = plainSettings (h .settings); counters = h .counters; series = h .series; count = h .count }
 
 -- "that sign apart": accounts that are read back as one account
 abbrev pub Alike : Account → Account → Type 0
