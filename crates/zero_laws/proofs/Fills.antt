@@ -10,7 +10,7 @@ use Rattle.fills.specs.declared.terms.Terms.{Terms}
 use Rattle.fills.specs.Orders.{State, buys, paid}
 use Rattle.fills.specs.Records.{recordOf}
 use Rattle.fills.specs.Fill.{fillsWhole, made, counted, settled, trimmedFill, fill, fillAll}
-use Rattle.zero_laws.specs.Zeros.{plainTerms}
+use Rattle.zero_laws.specs.Calls.{plainTerms}
 use Rattle.zero_laws.proofs.Costs.{plain-cost, plain-effective, plain-need, plain-affordable, plain-taken}
 
 module _ (t : Terms) where

@@ -16,8 +16,8 @@ use Rattle.order.specs.OnAccount.{Begins, OrdersOn}
 use Rattle.order.specs.CashFirst.{Call, admittedOrders, terms, InCashFirst, CarriesDemand3}
 use Rattle.order.proofs.Accounts.{order-is-free}
 use Rattle.order.proofs.CashFirst.{carries-demand-3}
-use Rattle.zero_laws.specs.Zeros.{plainAccount, plainTerms}
-use Rattle.zero_laws.specs.Calls.{onPlain}
+use Rattle.zero_laws.specs.Zeros.{plainAccount}
+use Rattle.zero_laws.specs.Calls.{plainTerms, onPlain}
 use Rattle.zero_laws.proofs.Costs.{plain-change}
 use Rattle.zero_laws.proofs.Sound.{plain-sound, plain-rebalance-answer}
 use Rattle.zero_laws.proofs.Trades.{plain-admitted}

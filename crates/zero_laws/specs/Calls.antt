@@ -2,12 +2,17 @@
 use Rattle.account.specs.declared.query.Rate.{Rate}
 use Rattle.account.specs.declared.query.Costs.{Costs}
 use Rattle.account.specs.declared.change.Changed.{Changed}
+use Rattle.fills.specs.declared.terms.Terms.{Terms}
 use Rattle.portfolio.specs.Rebalance.{Outcome}
 use Rattle.portfolio.specs.Returns.{Recorded}
 use Rattle.portfolio.specs.Trades.{Filed}
 use Rattle.records.specs.Into.{Handed}
 use Rattle.order.specs.CashFirst.{Call}
 use Rattle.zero_laws.specs.Zeros.{plainZero, plainCosts, plainAccount}
+
+-- what a call hands to its fills
+abbrev pub plainTerms : Terms → Terms
+plainTerms t = record { costs = plainCosts (t .costs); «quantity_step» = t .«quantity_step»; recording = t .recording; «period_index» = t .«period_index»; kind = t .kind }
 
 -- of a setter
 abbrev pub plainChanged : Changed → Changed

@@ -10,7 +10,6 @@ use Rattle.account.specs.declared.account.Account.{Account}
 use Rattle.account.specs.declared.account.Ledger.{Ledger}
 use Rattle.account.specs.Settings.{settings}
 use Rattle.account.specs.Account.{withSettings}
-use Rattle.fills.specs.declared.terms.Terms.{Terms}
 
 -- a zero of either sign "with positive sign", and any other double as it is
 unfoldable pub plainZero : Float → Float
@@ -31,7 +30,7 @@ plainCosts m = record {
 abbrev pub plainRules : Rules → Rules
 plainRules r = record { «cost_model» = plainCosts (r .«cost_model») }
 
--- and `no_trade_band_bps`: the third and last "floating [..] setting"
+-- and `no_trade_band_bps`: no other setting is floating
 abbrev pub plainSettings : Settings → Settings
 plainSettings s =
     settings (plainRules (s .rules)) (s .«quantity_step») (s .«min_order_value») (s .«max_order_value») (plainZero (s .«no_trade_band_bps»))
@@ -47,7 +46,3 @@ plainLedger h = record { cash = h .cash; settings = plainSettings (h .settings);
 -- "that sign apart": accounts that are read back as one account
 abbrev pub Alike : Account → Account → Type 0
 Alike a b = plainAccount a ≡ plainAccount b
-
--- what a call hands to its fills
-abbrev pub plainTerms : Terms → Terms
-plainTerms t = record { costs = plainCosts (t .costs); «quantity_step» = t .«quantity_step»; recording = t .recording; «period_index» = t .«period_index»; kind = t .kind }
