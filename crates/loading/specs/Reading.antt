@@ -59,9 +59,9 @@ unfoldable pub fieldsRead : List ℕ → ℕ → List Field → ℕ → ℕ → 
 fieldsRead l form [] before place = ended Done place
 fieldsRead l form (f ∷ fs) before place = thenRun (fieldRead l form f before place) (λ n. fieldsRead l form fs (n .value) (n .next))
 
--- the numbers before the positions, 0 for those that were not read
+-- the numbers before the positions, 0 for those that were not read; the last is how many positions follow
 unfoldable pub headOf : Run → Head
-headOf r = record { answer = r .answer; next = r .next; values = paddedColumn 23 0 (r .values) }
+headOf r = record { answer = r .answer; next = r .next; count = getD (r .values) 22 0; values = paddedColumn 23 0 (r .values) }
 
 unfoldable pub headRead : List ℕ → ℕ → ℕ → Head
 headRead l form place = headOf (fieldsRead l form headFields 0 place)
@@ -121,7 +121,7 @@ abbrev pub headIn : List ℕ → Head
 headIn l = headRead l (numberAt l 0 .value) (numberAt l 0 .next)
 
 abbrev pub positionsIn : List ℕ → Positions
-positionsIn l = tableRead l (numberAt l 0 .value) (getD (headIn l .values) 22 0) (headIn l .next)
+positionsIn l = tableRead l (numberAt l 0 .value) (headIn l .count) (headIn l .next)
 
 unfoldable pub parsed : List ℕ → Parsed
 parsed l = record { form = numberAt l 0; head = headIn l; positions = positionsIn l }

@@ -44,7 +44,9 @@ pub fn load(bytes: &[u8]) -> Changed
     if positions.next != bytes.len() {
         return not_loaded(Answer::LeftOver);
     }
-    let account = account_of(head.values, positions.table);
+    let values = head.values;
+    let table = positions.table;
+    let account = account_of(values, table);
     if !account.is_sound() {
         return not_loaded(Answer::Unsound);
     }

@@ -5,10 +5,11 @@ use crate::number::fields_at;
 use answer::Answer;
 use saved_form::HEAD_FIELDS;
 
-// Those that were read whole, 0 for the rest, and where they ended.
+// Those that were read whole, 0 for the rest, and where they ended. The last one, how many positions follow, also stands by itself.
 pub struct Head {
     pub answer: Answer,
     pub next: usize,
+    pub count: u64,
     pub values: [u64; HEAD_FIELDS],
 }
 
@@ -21,6 +22,7 @@ pub fn head_at(bytes: &[u8], form: u64, place: usize) -> Head
     Head {
         answer,
         next: r.next,
+        count: values[22],
         values,
     }
 }

@@ -8,7 +8,9 @@ ghost use Rattle.loading.specs.Inner.Reading.{filedAs, setRows};
 use crate::entry::position_at;
 use answer::Answer;
 use answer::is_done;
+use table::Found;
 use table::Table;
+use table::post;
 use table::used;
 
 // How many positions were read whole, and where they ended: after the last one, or at the first fault.
@@ -41,7 +43,7 @@ fn positions_at(
     ensures { λ r. ⌜ (let rows = positionsRead count (now (bytes .entry)) form place in
         let c = cols (now (symbol .entry)) (now (quantity .entry)) (now (average .entry)) (now (realized .entry)) (now (total .entry)) in
         let d = cols (now (symbol .exit)) (now (quantity .exit)) (now (average .exit)) (now (realized .exit)) (now (total .exit)) in
-        (r ≡ filedAs rows) × (d ≡ setRows rows c)) ⌝ }
+        (r ≡ filedAs rows) × (d ≡ setRows 0 (rows .rows) c)) ⌝ }
 {
     let mut i: usize = 0;
     let mut at = place;
@@ -56,15 +58,16 @@ fn positions_at(
             };
         }
         let p = e.position;
-        symbol[i] = p.symbol.0;
-        let q = p.quantity.raw();
-        quantity[i] = q;
-        let a = p.avg_entry_price;
-        average[i] = a;
-        let g = p.realized_pnl;
-        realized[i] = g;
-        let c = p.total_cost;
-        total[i] = c;
+        post(
+            symbol,
+            quantity,
+            average,
+            realized,
+            total,
+            i,
+            Found::At(i),
+            p,
+        );
         at = e.next;
         i += 1;
     }

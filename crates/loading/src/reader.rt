@@ -21,48 +21,50 @@ pub struct Parsed {
     pub positions: Positions,
 }
 
-// At the first byte.
-pub(crate) fn new<'a>(bytes: &'a [u8]) -> Reader<'a>
-    ensures { λ r. ⌜ (r .bytes ≡ bytes .entry) × (r .place ≡ 0) ⌝ }
-{
-    Reader { bytes, place: 0 }
-}
+impl<'a> Reader<'a> {
+    // At the first byte.
+    pub(crate) fn new(bytes: &'a [u8]) -> Reader<'a>
+        ensures { λ r. ⌜ (r .bytes ≡ bytes .entry) × (r .place ≡ 0) ⌝ }
+    {
+        Reader { bytes, place: 0 }
+    }
 
-// The next number in its seven-bit groups.
-pub(crate) fn number<'s, 'a>(r: &'s mut Reader<'a>) -> Number
-    ensures { λ n. ⌜ (n ≡ numberAt (now (now (r .entry) .bytes)) (now (r .entry) .place)) × (now (r .exit) .bytes ≡ now (r .entry) .bytes) × (now (r .exit) .place ≡ n .next) ⌝ }
-{
-    let n = number_at(r.bytes, r.place);
-    r.place = n.next;
-    n
-}
+    // The next number in its seven-bit groups.
+    pub(crate) fn number(&mut self) -> Number
+        ensures { λ n. ⌜ (n ≡ numberAt (now (now (self .entry) .bytes)) (now (self .entry) .place)) × (now (self .exit) .bytes ≡ now (self .entry) .bytes) × (now (self .exit) .place ≡ n .next) ⌝ }
+    {
+        let n = number_at(self.bytes, self.place);
+        self.place = n.next;
+        n
+    }
 
-// The numbers before the positions, in a file of a form.
-pub(crate) fn head<'s, 'a>(r: &'s mut Reader<'a>, form: u64) -> Head
-    ensures { λ h. ⌜ (h ≡ headRead (now (now (r .entry) .bytes)) form (now (r .entry) .place)) × (now (r .exit) .bytes ≡ now (r .entry) .bytes) × (now (r .exit) .place ≡ h .next) ⌝ }
-{
-    let h = head_at(r.bytes, form, r.place);
-    r.place = h.next;
-    h
-}
+    // The numbers before the positions, in a file of a form.
+    pub(crate) fn head(&mut self, form: u64) -> Head
+        ensures { λ h. ⌜ (h ≡ headRead (now (now (self .entry) .bytes)) form (now (self .entry) .place)) × (now (self .exit) .bytes ≡ now (self .entry) .bytes) × (now (self .exit) .place ≡ h .next) ⌝ }
+    {
+        let h = head_at(self.bytes, form, self.place);
+        self.place = h.next;
+        h
+    }
 
-// So many positions.
-pub(crate) fn positions<'s, 'a>(r: &'s mut Reader<'a>, form: u64, count: u64) -> Positions
-    ensures { λ p. ⌜ (p ≡ tableRead (now (now (r .entry) .bytes)) form count (now (r .entry) .place)) × (now (r .exit) .bytes ≡ now (r .entry) .bytes) × (now (r .exit) .place ≡ p .next) ⌝ }
-{
-    let p = table_at(r.bytes, form, count, r.place);
-    r.place = p.next;
-    p
+    // So many positions.
+    pub(crate) fn positions(&mut self, form: u64, count: u64) -> Positions
+        ensures { λ p. ⌜ (p ≡ tableRead (now (now (self .entry) .bytes)) form count (now (self .entry) .place)) × (now (self .exit) .bytes ≡ now (self .entry) .bytes) × (now (self .exit) .place ≡ p .next) ⌝ }
+    {
+        let p = table_at(self.bytes, form, count, self.place);
+        self.place = p.next;
+        p
+    }
 }
 
 // The whole file: a refusal is passed over here and told by whoever asks, since what follows it reads as nothing that is looked at.
 pub(crate) fn parse(bytes: &[u8]) -> Parsed
     ensures { λ r. ⌜ r ≡ parsed (now (bytes .entry)) ⌝ }
 {
-    let mut r = new(bytes);
-    let form = number(&mut r);
-    let head = head(&mut r, form.value);
-    let positions = positions(&mut r, form.value, head.values[22]);
+    let mut r = Reader::new(bytes);
+    let form = r.number();
+    let head = r.head(form.value);
+    let positions = r.positions(form.value, head.count);
     Parsed {
         form,
         head,

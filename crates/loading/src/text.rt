@@ -30,7 +30,7 @@ fn spelling(bytes: &[u8], at: usize, n: usize) -> u64
     let mut sum: u64 = 0;
     let mut i: usize = 0;
     while i < 8 {
-        sum = 256 * sum + letter(bytes, at, n, i);
+        sum = sum * 256 + letter(bytes, at, n, i);
         i += 1;
     }
     sum

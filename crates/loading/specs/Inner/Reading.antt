@@ -1,12 +1,10 @@
 -- Where a loop over numbers or positions ended, and what it leaves in the columns that it is lent.
-use mathlib.Core.Path.{_≡_}
-use mathlib.Core.List.{List, map}
-use Prim.Native.Nat.{ℕ}
+use mathlib.Core.List.{List, [], _∷_}
+use Prim.Native.Nat.{ℕ, suc}
 use lib.ListN.{length}
-use lib.Seq.{sets}
-use lib.IntN.{ℤ}
-use Rattle.position.specs.Rows.{keyOf, held, avg, realized, total}
-use Rattle.table.specs.Rows.{Cols, cols}
+use Rattle.position.specs.declared.position.Position.{Position}
+use Rattle.table.specs.Rows.{Cols}
+use Rattle.table.specs.Inner.Rows.{setAll}
 use Rattle.loading.specs.declared.number.Reached.{Reached}
 use Rattle.loading.specs.declared.positions.Filed.{Filed}
 use Rattle.loading.specs.Reading.{Run, Rows}
@@ -17,11 +15,7 @@ reached r = record { answer = r .answer; next = r .next }
 abbrev pub filedAs : Rows → Filed
 filedAs r = record { answer = r .answer; count = length (r .rows); next = r .next }
 
--- five columns with positions from their first place on
-unfoldable pub setRows : Rows → Cols → Cols
-setRows r c =
-    cols (sets (c .symbol) 0 (map keyOf (r .rows)))
-    (sets (c .quantity) 0 (map held (r .rows)))
-    (sets (c .average) 0 (map avg (r .rows)))
-    (sets (c .realized) 0 (map realized (r .rows)))
-    (sets (c .total) 0 (map total (r .rows)))
+-- five columns with positions from place i on
+unfoldable pub setRows : ℕ → List Position → Cols → Cols
+setRows i [] c = c
+setRows i (p ∷ ps) c = setRows (suc i) ps (setAll i p c)

@@ -1,0 +1,5 @@
+-- What the functions that read a saved account rest on.
+pub mod Entries
+pub mod Loading
+pub mod Loan
+pub mod Texts

@@ -1,0 +1,43 @@
+-- The text where the bytes have it.
+use mathlib.Core.Path.{_∙_}
+use borrow.Author.Needs.{needs}
+use Rattle.loading.proofs.Texts as X
+use Rattle.loading.proofs.text.text_at.Statement.{statement}
+use Rattle.loading.proofs.text.text_at.Tie as tie
+
+refused-at-requires : tie.Need-refused-at-requires
+refused-at-requires c κs = search needs
+
+returns : tie.Need-returns
+returns c = c .refused-at .ensures ∙ X.text-past _ _ _ (search needs)
+
+sub-if2 : tie.Need-sub-if2
+sub-if2 c = search needs
+
+refused-at-requires-2 : tie.Need-refused-at-requires-2
+refused-at-requires-2 c κs = search needs
+
+returns-2 : tie.Need-returns-2
+returns-2 c = c .refused-at2 .ensures ∙ X.text-past _ _ _ (search needs)
+
+spelt-at-requires : tie.Need-spelt-at-requires
+spelt-at-requires c κs = search needs
+
+add-t4 : tie.Need-add-t4
+add-t4 c = search needs
+
+returns-3 : tie.Need-returns-3
+returns-3 c = X.text-in _ _ _ _ (search needs) (c .spelt-at .ensures)
+
+pub text-at-spec : {M : Type 1} → statement M
+text-at-spec =
+    tie.close
+    (tie.spec
+    refused-at-requires
+    returns
+    sub-if2
+    refused-at-requires-2
+    returns-2
+    spelt-at-requires
+    add-t4
+    returns-3)
