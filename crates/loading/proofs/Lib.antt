@@ -2,4 +2,6 @@
 pub mod Entries
 pub mod Loading
 pub mod Loan
+pub mod Numbers
+pub mod Padded
 pub mod Texts

@@ -1,7 +1,7 @@
 -- Document 02, 5: what stands at a place of a file, number by number; a refusal with its place where the bytes do not go on.
 use Prim.Native.Nat.{ℕ, zero, suc, _+_}
 use mathlib.Core.List.{List, [], _∷_}
-use lib.Dec.{leb}
+use lib.Dec.{leb, ltb}
 use lib.ListN.{length, getD, take, drop}
 use lib.IntN.{ℤ}
 use Rattle.answer.specs.Choice.{pick}
@@ -11,7 +11,6 @@ use Rattle.answer.specs.declared.Answer.the-variants.{Done, Unsound, EndsEarly}
 use Rattle.position.specs.declared.position.Position.{Position}
 use Rattle.position.specs.Rows.{row, fresh}
 use Rattle.table.specs.Rows.{paddedColumn}
-use Rattle.table.specs.Inner.Places.{shorter}
 use Rattle.account.specs.Account.{tableOf}
 use Rattle.seven_bit.specs.declared.Number.{Number}
 use Rattle.seven_bit.specs.Placed.{numberAt}
@@ -112,9 +111,12 @@ positionsRead (suc k) l form place = thenRows (positionRead l form place) (λ e.
 unfoldable pub filed : Rows → Positions
 filed r = record { answer = r .answer; next = r .next; table = tableOf (r .rows) }
 
+abbrev pub upTo64 : ℕ → ℕ
+upTo64 n = pick (ltb n 64) n 64
+
 -- so many positions, at most 64
 unfoldable pub tableRead : List ℕ → ℕ → ℕ → ℕ → Positions
-tableRead l form count place = filed (positionsRead (shorter count 64) l form place)
+tableRead l form count place = filed (positionsRead (upTo64 count) l form place)
 
 -- ---- the whole file, each part from where the one before it ended
 abbrev pub headIn : List ℕ → Head

@@ -58,7 +58,11 @@ counterValues k x later =
     ∷ folded (x .«prev_equity»)
     ∷ later
 
--- "cash, .. position count": of an account but for its columns
+-- an account but for its columns
+abbrev pub scalarsOf : Account → Ledger
+scalarsOf a = record { cash = a .cash; settings = a .settings; counters = a .counters; series = a .series; count = a .positions .count }
+
+-- "cash, .. position count"
 unfoldable pub headValues : Ledger → List ℕ
 headValues h = folded (h .cash) ∷ settingValues (h .settings) (counterValues (h .counters) (h .series) (h .count ∷ []))
 

@@ -6,13 +6,12 @@ use Rattle.position.specs.declared.position.Position.{Position}
 use Rattle.position.specs.Rows.{keyOf, numbersOf}
 use Rattle.account.specs.declared.account.Account.{Account}
 use Rattle.account.specs.Account.{heldIn}
-use Rattle.account.specs.Inner.Account.{ledgerOf}
 use Rattle.seven_bit.specs.Groups.{groups}
 use Rattle.seven_bit.specs.Signed.{folded}
 use Rattle.saved_form.specs.declared.field.Field.{Field}
 use Rattle.saved_form.specs.Fields.{newest, headFields, positionFields, hasField}
 use Rattle.saved_form.specs.Texts.{symbolFile}
-use Rattle.saved_form.specs.Values.{headValues}
+use Rattle.saved_form.specs.Values.{scalarsOf, headValues}
 
 -- a field's number after the one before it, nothing where the form has none there
 unfoldable pub fieldFile : ℕ → Field → ℕ → ℕ → List ℕ
@@ -35,4 +34,4 @@ positionsFile (p ∷ ps) = positionFile p ++ positionsFile ps
 
 -- "Order: form number .., cash, .. position count, positions"
 unfoldable pub fileOf : Account → List ℕ
-fileOf a = groups newest ++ (fieldsFile newest headFields 0 (headValues (ledgerOf a)) ++ positionsFile (heldIn (a .positions)))
+fileOf a = groups newest ++ (fieldsFile newest headFields 0 (headValues (scalarsOf a)) ++ positionsFile (heldIn (a .positions)))

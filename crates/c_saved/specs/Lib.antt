@@ -1,0 +1,2 @@
+-- Saving and loading on lent bytes.
+pub mod Saved
