@@ -1,34 +1,84 @@
--- The steps of the code that reads positions: one after the other into five columns, and the table of columns that were zeros.
+-- The steps of the code that reads positions: one from its symbol and numbers, one after the other into five columns, and the table of columns that were zeros.
 use Prim.Native.Nat.{ℕ, zero, suc, _+_, _-_, _<_, _≤_}
 use mathlib.Core.Path.{_≡_, refl, sym, ap, _∙_}
-use mathlib.Core.Bool.{Bool, true, false}
-use mathlib.Core.List.{List, [], _∷_, _++_, map}
+use mathlib.Core.Bool.{true, false}
+use mathlib.Core.List.{List, [], _∷_, map}
 use native.Mathlib.Omega.{arith}
 use native.Mathlib.Numerals.{add-one}
-use lib.IntN.{pos}
-use lib.ListN.{length, drop, replicate, length-map, length-replicate}
-use lib.Seq.{sets, sets-eq}
+use lib.IntN.{ℤ, pos}
+use lib.ListN.{length, getD, replicate, length-map}
+use lib.Seq.{sets}
 use borrow.Author.Tests.{lt-ltb}
-use Rattle.answer.specs.Choice.{pick}
 use Rattle.answer.specs.Numbers.{isDone}
 use Rattle.answer.specs.declared.Answer.{Answer}
 use Rattle.answer.specs.declared.Answer.the-variants.{Done}
 use Rattle.answer.proofs.Choice.{by-test}
 use Rattle.position.specs.declared.position.Position.{Position}
-use Rattle.position.specs.Rows.{keyOf, held, avg, realized, total}
+use Rattle.position.specs.declared.shares.Shares.{Shares}
+use Rattle.position.specs.Rows.{symbol, shares, row, keyOf, held, avg, realized, total}
 use Rattle.table.specs.declared.found.Found.the-variants.{At}
 use Rattle.table.specs.Rows.{Cols, cols, paddedColumn}
 use Rattle.table.specs.Inner.Places.{shorter}
 use Rattle.table.specs.Inner.Rows.{CountedCols, countedCols, setAll, posted}
 use Rattle.table.proofs.Places.{shorter-within}
 use Rattle.account.specs.Account.{tableOf}
+use Rattle.seven_bit.specs.declared.Number.{Number}
+use Rattle.seven_bit.specs.Signed.{unfolded}
+use Rattle.saved_form.specs.declared.field.Field.{Field}
+use Rattle.saved_form.specs.Fields.{positionFields}
+use Rattle.loading.specs.declared.number.Reached.{Reached}
 use Rattle.loading.specs.declared.entry.Entry.{Entry}
 use Rattle.loading.specs.declared.positions.Filed.{Filed}
 use Rattle.loading.specs.declared.positions.Positions.{Positions}
-use Rattle.loading.specs.Reading.{positionRead, Rows, noRows, withRow, thenRows, positionsRead, filed, tableRead}
-use Rattle.loading.specs.Inner.Reading.{filedAs, setRows}
+use Rattle.loading.specs.Reading.{Run, fieldsRead, symbolRead, noEntry, signedIn, entryOf, entryAfter, positionRead, Rows, noRows, withRow, thenRows, positionsRead, filed, tableRead}
+use Rattle.loading.specs.Inner.Reading.{reached, filedAs, setRows}
+use Rattle.loading.proofs.Numbers.{position-is, runFrom, few-read}
+use Rattle.loading.proofs.Padded.{sets-padded, sets-at}
 
--- ---- one position of the run
+-- ---- one position
+module _ (s : ℕ) (r : Run) where
+  numbers-read : isDone (r .answer) ≡ true → record { answer = Done; next = r .next; position = row s (signedIn r 0) (signedIn r 1) (signedIn r 2) (signedIn r 3) } ≡ entryOf s r
+  unfolding entryOf
+  numbers-read d = simp d
+
+  numbers-refused : isDone (r .answer) ≡ false → noEntry (r .answer) (r .next) ≡ entryOf s r
+  unfolding entryOf
+  numbers-refused d = simp d
+
+module _ (l : List ℕ) (form place : ℕ) (s : Number) (e : s ≡ symbolRead l place) where
+  pub no-symbol : isDone (s .answer) ≡ false → noEntry (s .answer) (s .next) ≡ positionRead l form place
+  unfolding positionRead entryAfter
+  no-symbol d =
+      let w : isDone (symbolRead l place .answer) ≡ false = rw e at d in
+      simp w (ap (λ (x : Number). noEntry (x .answer) (x .next)) e)
+
+  abbrev run : Run
+  run = runFrom l form 23 4 0 (s .next)
+
+  module _ (d : isDone (s .answer) ≡ true) where
+    goes-on : entryOf (s .value) run ≡ positionRead l form place
+    unfolding positionRead entryAfter
+    goes-on =
+        let w : isDone (symbolRead l place .answer) ≡ true = rw e at d in
+        simp w (ap (λ (fs : List Field). entryOf (s .value) (fieldsRead l form fs 0 (s .next))) (sym position-is) ∙ ap (λ (x : Number). entryOf (x .value) (fieldsRead l form positionFields 0 (x .next))) e)
+
+    module _ (r : Reached) (v : List ℕ) (f : (r ≡ reached run) × (v ≡ sets (replicate 4 0) 0 (run .values))) where
+      pub no-numbers : isDone (r .answer) ≡ false → noEntry (r .answer) (r .next) ≡ positionRead l form place
+      no-numbers g =
+          let w : isDone (run .answer) ≡ false = rw (f .0) at g in
+          ap (λ (x : Reached). noEntry (x .answer) (x .next)) (f .0) ∙ numbers-refused (s .value) run w ∙ goes-on
+
+      number : (i : ℕ) → getD v i 0 ≡ getD (run .values) i 0
+      number i = ap (λ (x : List ℕ). getD x i 0) (f .1) ∙ sets-at 4 0 (run .values) i (few-read l form 23 4 0 (s .next))
+
+      module _ (x : Shares) (a g t : ℤ) (hx : x ≡ shares (unfolded (getD v 0 0))) (ha : a ≡ unfolded (getD v 1 0)) (hg : g ≡ unfolded (getD v 2 0)) (ht : t ≡ unfolded (getD v 3 0)) where
+        pub read : isDone (r .answer) ≡ true → record { answer = Done; next = r .next; position = record { symbol = symbol (s .value); quantity = x; «avg_entry_price» = a; «realized_pnl» = g; «total_cost» = t } } ≡ positionRead l form place
+        read done =
+            let w : isDone (run .answer) ≡ true = rw (f .0) at done in
+            let n : r .next ≡ run .next = ap (λ (x : Reached). x .next) (f .0) in
+            simp (n, hx, ha, hg, ht, number) (numbers-read (s .value) run w ∙ goes-on)
+
+-- ---- positions in a row
 module _ (l : List ℕ) (form : ℕ) where
   module _ (at : ℕ) (e : Entry) (f : e ≡ positionRead l form at) where
     read-next : (k m : ℕ) → k ≡ m + 1 → isDone (e .answer) ≡ true → withRow (e .position) (positionsRead m l form (e .next)) ≡ positionsRead k l form at
@@ -114,18 +164,6 @@ module _ {l : List ℕ} {form place count : ℕ} {c d : Cols} {i at : ℕ} (h : 
   ends p = ends-with Done at (read-all l form at (count - i) (omega arith))
 
 -- ---- columns that were zeros
-drop-same : {A : Type 0} (n w : ℕ) (z : A) → drop n (replicate w z) ≡ replicate (w - n) z
-drop-same zero w z = let e : w - 0 ≡ w = omega arith in simp e
-drop-same (suc n) zero z = let e : 0 - suc n ≡ 0 = omega arith in simp e
-drop-same (suc n) (suc w) z = let e : suc w - suc n ≡ w - n = omega arith in simp e (drop-same n w z)
-
--- what is put from the first place of w zeros on, and zeros after it
-pub sets-padded : {A : Type 0} (w : ℕ) (z : A) (vs : List A) → length vs ≤ w → sets (replicate w z) 0 vs ≡ paddedColumn w z vs
-sets-padded w z vs h =
-    let long = length-replicate w z in
-    let e : 0 + length vs ≡ length vs = omega arith in
-    sets-eq vs (replicate w z) 0 (omega arith) ∙ ap (λ (k : ℕ). vs ++ drop k (replicate w z)) e ∙ ap (λ (r : List _). vs ++ r) (drop-same (length vs) w z)
-
 columns-set : (i : ℕ) (ps : List Position) (c : Cols) → setRows i ps c ≡ cols (sets (c .symbol) i (map keyOf ps)) (sets (c .quantity) i (map held ps)) (sets (c .average) i (map avg ps)) (sets (c .realized) i (map realized ps)) (sets (c .total) i (map total ps))
 unfolding setRows
 columns-set i [] c = refl

@@ -1,7 +1,6 @@
 // The positions of the file, into a table.
 ghost use mathlib.Core.Path.{_≡_};
 ghost use Prim.Native.Nat.{_≤_};
-ghost use lib.ListN.{length};
 ghost use Rattle.table.specs.Rows.{cols};
 ghost use Rattle.loading.specs.Reading.{positionsRead, tableRead};
 ghost use Rattle.loading.specs.Inner.Reading.{filedAs, setRows};
