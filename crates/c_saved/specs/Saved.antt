@@ -1,5 +1,5 @@
 -- What the entries answer, and the lent bytes as they leave them.
-use Prim.Native.Nat.{ℕ, _+_, _*_}
+use Prim.Native.Nat.{ℕ, _*_}
 use mathlib.Core.List.{List}
 use lib.Dec.{eqb}
 use lib.ListN.{length}
@@ -22,9 +22,9 @@ pub record Told : Type 0 where
 abbrev pub told : ℕ → List ℕ → Told
 told n l = record { number = n; lent = l }
 
--- the answer in the lowest byte, and the file's length above it
-abbrev pub savedNumber : Saved → ℕ
-savedNumber s = numberOf (s .answer) + 256 * s .length
+-- the answer in the lowest byte, and above that of 'done' the file's length
+unfoldable pub savedNumber : Saved → ℕ
+savedNumber s = pick (isDone (s .answer)) (256 * s .length) (numberOf (s .answer))
 
 -- "Writing: 11, then 19 output room short": bytes that hold no account give zeros, which are not sound; bytes past the file's end stay as found
 unfoldable pub saveIn : List ℕ → List ℕ → Told

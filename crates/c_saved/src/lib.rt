@@ -17,7 +17,10 @@ pub extern "C" fn tc_save(account: &[u8], file: &mut [u8]) -> u64
     let a = account_in(account);
     let s = save(a, file);
     let answer = s.answer;
-    answer::number(answer) + 256 * (s.length as u64)
+    if !is_done(answer) {
+        return answer::number(answer);
+    }
+    256 * (s.length as u64)
 }
 
 // A refusal leaves the account's bytes as found.

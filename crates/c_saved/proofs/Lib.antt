@@ -1,0 +1,2 @@
+-- What the entries rest on.
+pub mod Filing

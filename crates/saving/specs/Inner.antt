@@ -1,0 +1,2 @@
+-- What only the functions inside say.
+pub mod Putting
