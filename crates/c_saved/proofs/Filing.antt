@@ -25,17 +25,20 @@ use Rattle.loading.specs.Loading.{loaded}
 use Rattle.c_saved.specs.Saved.{Told, told, savedNumber, saveIn, filedIn, loadIn}
 
 -- ---- saving
+abbrev toldAs : Answer → ℕ → Saved
+toldAs w n = pick {A = Saved} (isDone w) (record { answer = Done; length = n }) (record { answer = w; length = 0 })
+
 pub told-short : (a : Account) (room : ℕ) → savedTold a room .length ≤ 3952
 unfolding savedTold saveAnswer
 told-short a room = go (soundAccount a) (leb (length (fileOf a)) room) refl
   where
     go : (s t : Bool) → soundAccount a ≡ s
-        → pick (isDone (unless s Unsound (unless t NoFileRoom Done))) (record { answer = Done; length = length (fileOf a) }) (record { answer = unless s Unsound (unless t NoFileRoom Done); length = 0 }) .length ≤ 3952
+        → toldAs (unless s Unsound (unless t NoFileRoom Done)) (length (fileOf a)) .length ≤ 3952
     go true true e = file-short a (Sound.account-small a e)
     go true false e = omega arith
     go false t e = omega arith
 
-module _ {b : List ℕ} {a : Account} (e : a ≡ accountIn b) (l l′ : List ℕ) (s : Saved) (f : s ≡ savedTold a (length l)) (g : l′ ≡ savedInto a l) where
+module _ (b : List ℕ) (a : Account) (e : a ≡ accountIn b) (l l′ : List ℕ) (s : Saved) (f : s ≡ savedTold a (length l)) (g : l′ ≡ savedInto a l) where
   saved-in : (n : ℕ) → n ≡ savedNumber s → told n l′ ≡ saveIn b l
   unfolding saveIn
   saved-in n h =
@@ -55,9 +58,9 @@ module _ {b : List ℕ} {a : Account} (e : a ≡ accountIn b) (l l′ : List ℕ
   length-small = rw f (told-short a (length l))
 
 -- ---- loading
-pub load-length : (f b : List ℕ) → (length b ≡ accountLength → ⊥) → told 11 b ≡ loadIn f b
+pub load-length : (f b : List ℕ) (n : ℕ) → n ≡ numberOf Unsound → (length b ≡ accountLength → ⊥) → told n b ≡ loadIn f b
 unfolding loadIn
-load-length f b n = simp (ne-eqb (length b) accountLength n)
+load-length f b n e d = simp (ne-eqb (length b) accountLength d) (ap (λ (k : ℕ). told k b) e)
 
 module _ (f b : List ℕ) (long : length b ≡ accountLength) (c : Changed) (e : c ≡ loaded f) where
   load-filed : (t : Told) → t ≡ filedIn c b → t ≡ loadIn f b
