@@ -1,5 +1,4 @@
 // Numbers of the file, one and in a row, from a place on. Each function returns the place after what it wrote.
-
 ghost use Prim.Native.Nat.{_+_, _*_, _≤_, _<_, _^_};
 ghost use lib.ListN.{length};
 ghost use Rattle.saved_form.specs.Fields.{newest, fieldAt};

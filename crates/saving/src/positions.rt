@@ -1,5 +1,4 @@
 // The positions of an account.
-
 ghost use Prim.Native.Nat.{_+_, _*_, _≤_};
 ghost use lib.ListN.{length};
 ghost use Rattle.table.specs.Rows.{cols, rows, Full};
