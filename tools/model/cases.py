@@ -1,10 +1,11 @@
-"""Document 01's checked cases, a to l, and its refusals, and document 02's case of request 1 with its like and cases of requests 2 and
-3, on the model. Exit status 1 where one fails."""
+"""Document 01's checked cases, a to l, and its refusals, and document 02's case of request 1 with its like and cases of requests 2, 3
+and 5, on the model. Exit status 1 where one fails."""
 import sys
 from dataclasses import replace
 
 import house
 import model
+from cases_saved import SAVED
 from model import Account, Costs, Order, Position, Settings
 
 FREE = Costs(0.0, 0.0, 0)
@@ -252,7 +253,7 @@ def refusals():
 
 def main():
     failures = 0
-    first, second = CASES + list(refusals()), CASH_FIRST + HOUSE + CEILING
+    first, second = CASES + list(refusals()), CASH_FIRST + HOUSE + CEILING + SAVED
     for paper, (name, found, expected) in [("01", row) for row in first] + [("02", row) for row in second]:
         if found != expected:
             failures += 1
