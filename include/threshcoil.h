@@ -88,13 +88,14 @@ enum tc_account_word {
 #define TC_SNAPSHOT_BYTES 40
 #define TC_UNPRICED_BYTES 16
 #define TC_CENTS_BYTES 8
+#define TC_FILE_BYTES 3328 /* the longest file of a saved account */
 
 /* While recording is on, a rebalance asks for this many record places or more, a close for one or more. Record places are
  * any whole number of TC_RECORD_BYTES; other lengths answer 6, recording or not. Weights take exactly this many places. */
 #define TC_RECORD_PLACES 64
 #define TC_WEIGHT_PLACES 64
 
-/* ---- answers: the low eight bits of what an entry returns; above them a count of records or weights */
+/* ---- answers: the low eight bits of what an entry returns; above them a count of records or weights, or a file's length */
 enum tc_answer {
     TC_DONE = 0,
     TC_BAD_SETTING = 1,     /* a setting or opening cash is bad, a kind is unknown, or a mark of a group is above 1 */
@@ -107,11 +108,15 @@ enum tc_answer {
     TC_NO_RECORD_ROOM = 8,  /* recording is on and the record buffer has too few places */
     TC_NOT_HELD = 9,        /* a close names an absent or flat position */
     TC_BUFFER_FULL = 10,    /* the equity or return buffer has no free place */
-    TC_UNSOUND = 11,        /* the account is not sound, or its bytes have another length */
+    TC_UNSOUND = 11,        /* the account is not sound, or its bytes have another length; a file has an unknown form, a flag or cap mark above 1, a negative zero, over 64 positions, a symbol length outside 1 to 8 or no sound account */
     TC_BAD_SERIES = 12,     /* a return series is empty or has a non-finite member */
     TC_BAD_GROUP = 13,      /* a group is empty or over TC_MAX_ACCOUNTS */
     TC_NO_FIRST_SUM = 14,   /* a part's first sum is not positive */
-    TC_OUT_OF_RANGE = 15    /* a change or a finished sum of a group leaves int64_t */
+    TC_OUT_OF_RANGE = 15,   /* a change or a finished sum of a group leaves int64_t */
+    TC_ENDS_EARLY = 16,     /* a file ends early */
+    TC_BAD_NUMBER = 17,     /* a number of a file is not in its shortest form, or too large */
+    TC_LEFT_OVER = 18,      /* bytes of a file are left over */
+    TC_NO_FILE_ROOM = 19    /* the room for a file is too short */
 };
 #define TC_ANSWER(r) ((r) & 0xff)
 #define TC_COUNT(r) ((r) >> 8)
@@ -159,6 +164,14 @@ uint64_t tc_close_position_at(uint8_t *account, size_t account_bytes, uint64_t s
                               uint64_t kind, uint8_t *records, size_t record_bytes);
 uint64_t tc_record_return(uint8_t *account, size_t account_bytes, const uint8_t *prices, size_t price_bytes,
                           int64_t *equities, size_t equity_places, double *returns, size_t return_places);
+
+/* ---- a saved account: the file that moves between devices (docs/SAVED.md), at most TC_FILE_BYTES bytes. */
+
+/* Saving: the file goes into the first bytes of the room, and the answer counts them; the others are as found. */
+uint64_t tc_save(const uint8_t *account, size_t account_bytes, uint8_t *file, size_t file_bytes);
+
+/* Loading: file is the whole file. Account bytes of another length answer 11 before it is looked at. */
+uint64_t tc_load(const uint8_t *file, size_t file_bytes, uint8_t *account, size_t account_bytes);
 
 /* ---- the figures of a return series: six rates (total return, maximum drawdown, win rate, profit factor, payoff ratio,
  * Kelly) and three counts (all, winning and losing returns) */

@@ -1,5 +1,5 @@
 /* Compiled with the header and linked with the archive: some of document 01's cases, document 02's of request 1, a ceiling of
- * its request 3, and a group of its request 2, asked from C. */
+ * its request 3, a group of its request 2 and a saved account of its request 5, asked from C. */
 #include "threshcoil.h"
 
 #include <stdio.h>
@@ -225,6 +225,42 @@ static void house_return(void)
     held("house, change of the second part", gains[1], -125);
 }
 
+/* An account with cash 300 and nothing else: saved, loaded, and every refusal once. The file is in lent bytes of just its length, so
+ * that a sanitizer sees a byte read past it. */
+static void saved_account(void)
+{
+    uint8_t settings[TC_SETTINGS_BYTES] = {0};
+    put(settings, TC_STEP_AT, TC_SCALE);
+    uint8_t account[TC_ACCOUNT_BYTES], loaded[TC_ACCOUNT_BYTES], room[TC_FILE_BYTES], file[27];
+    int64_t equities[1];
+    held("saved, opening", (int64_t)tc_open(300, settings, sizeof settings, account, sizeof account, equities, 1), TC_DONE);
+    memset(room, 7, sizeof room);
+    held("saved, no room", (int64_t)tc_save(account, sizeof account, room, sizeof file - 1), TC_NO_FILE_ROOM);
+    held("saved, no account", (int64_t)tc_save(account, sizeof account - 1, room, sizeof room), TC_UNSOUND);
+    held("saved, refused", room[0], 7);
+    uint64_t r = tc_save(account, sizeof account, room, sizeof room);
+    held("saved, answer", (int64_t)TC_ANSWER(r), TC_DONE);
+    held("saved, length", (int64_t)TC_COUNT(r), sizeof file);
+    held("saved, form", room[0], 1);
+    held("saved, cash", room[1] | room[2] << 8, 0x04d8);
+    held("saved, past the file", room[sizeof file], 7);
+
+    memcpy(file, room, sizeof file);
+    memset(loaded, 7, sizeof loaded);
+    held("loaded, a part", (int64_t)tc_load(file, sizeof file - 1, loaded, sizeof loaded), TC_ENDS_EARLY);
+    held("loaded, a byte more", (int64_t)tc_load(room, sizeof file + 1, loaded, sizeof loaded), TC_LEFT_OVER);
+    file[0] = 0x81;
+    file[1] = 0;
+    held("loaded, a longer form", (int64_t)tc_load(file, sizeof file, loaded, sizeof loaded), TC_BAD_NUMBER);
+    file[0] = 2;
+    held("loaded, an unknown form", (int64_t)tc_load(file, sizeof file, loaded, sizeof loaded), TC_UNSOUND);
+    held("loaded, into too few bytes", (int64_t)tc_load(room, 0, loaded, sizeof loaded - 1), TC_UNSOUND);
+    held("loaded, refused", loaded[0], 7);
+    memcpy(file, room, sizeof file);
+    held("loaded, answer", (int64_t)tc_load(file, sizeof file, loaded, sizeof loaded), TC_DONE);
+    held("loaded, the same account", memcmp(loaded, account, sizeof account), 0);
+}
+
 int main(void)
 {
     leaves();
@@ -233,6 +269,7 @@ int main(void)
     ceiling_of_a_fill();
     ceiling_of_an_account();
     house_return();
+    saved_account();
     if (failures == 0)
         printf("header: the cases asked from C are as documents 01 and 02 say\n");
     return failures != 0;

@@ -49,7 +49,7 @@ impl scenario::Account for Port {
 }
 
 impl Port {
-    /// The account as it is saved; none after a refused opening.
+    /// The account as the C interface has it; none after a refused opening.
     pub fn bytes(&self) -> Vec<u8> {
         self.account.as_ref().map_or(Vec::new(), |account| account.as_bytes().to_vec())
     }

@@ -1,8 +1,8 @@
 //! Accounts in lent bytes. Each line stands as in the Rattle source: a slice goes over as its pointer and its count.
 //!
 //! Every value is eight bytes, little-endian; a symbol stands as its text; `layout` has the words of settings and accounts. An
-//! answer has document 01's number in its low eight bits and a count of records or weights above them. After a refusal every
-//! lent byte is as found.
+//! answer has the documents' number in its low eight bits and a count of records or weights, or a file's length, above them.
+//! After a refusal every lent byte is as found.
 
 /// Declares an entry and wraps it for slices, one parameter after the other.
 #[doc(hidden)]
@@ -87,4 +87,9 @@ entries! {
     tc_close_position_at(account: &mut [u8], symbol: u64, price: i64, period: u64, kind: u64, records: &mut [u8]);
     "Writes the equity and, where one is due, the return at the account's counts."
     tc_record_return(account: &mut [u8], prices: &[u8], equities: &mut [i64], returns: &mut [f64]);
+
+    "Writes the file of an account, at most `layout::FILE_SIZE` bytes. The answer has its length; bytes past it are as found."
+    tc_save(account: &[u8], file: &mut [u8]);
+    "Reads an account from a whole file."
+    tc_load(file: &[u8], account: &mut [u8]);
 }

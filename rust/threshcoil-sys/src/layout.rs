@@ -140,3 +140,5 @@ pub const SNAPSHOT_SIZE: usize = WORD_SIZE * 5;
 /// An entry of a list: a symbol, then a weight or a price.
 pub const ENTRY_SIZE: usize = WORD_SIZE * 2;
 pub const WEIGHTS_SIZE: usize = ENTRY_SIZE * PLACES;
+/// The longest file of a saved account.
+pub const FILE_SIZE: usize = 3_328;

@@ -5,7 +5,7 @@ use crate::list::{Prices, Targets};
 use crate::record;
 use crate::refusal::told;
 use crate::settings;
-use crate::{Context, CostModel, ExecutionRecord, Price, Refusal, Settings, Shares, Symbol, Target, Weights};
+use crate::{Context, CostModel, ExecutionRecord, Price, Refusal, Saved, Settings, Shares, Symbol, Target, Weights};
 use std::fmt;
 use threshcoil_sys as port;
 use threshcoil_sys::layout::{self, Counter, Series};
@@ -42,14 +42,17 @@ pub struct Snapshot {
 
 /// A portfolio account: cash, settings, counters, and at most 64 positions in symbol order.
 ///
-/// It is always sound, since it is opened by [`Account::open`] or taken from bytes by [`Account::from_bytes`], and every
-/// call leaves a sound account sound. So only what a caller gives can be refused.
+/// It is always sound, since it is opened by [`Account::open`], loaded from a file by [`Account::load`] or taken from bytes by
+/// [`Account::from_bytes`], and every call leaves a sound account sound. So only what a caller gives can be refused.
 #[derive(Clone, Copy, PartialEq, Eq)]
 pub struct Account([u8; Account::SIZE]);
 
 impl Account {
     /// Bytes of an account.
     pub const SIZE: usize = layout::ACCOUNT_SIZE;
+
+    /// Bytes of the longest file of an account.
+    pub const FILE_SIZE: usize = layout::FILE_SIZE;
 
     /// An account with cash alone, which is also written as the first equity.
     ///
@@ -70,14 +73,55 @@ impl Account {
         Ok(account)
     }
 
+    /// The account of a file that [`Account::saved`] or [`Account::save`] gave, here or on another device. The series stay with the
+    /// caller: [`Account::record_return`] goes on at the counts that the account carries.
+    ///
+    /// ```
+    /// # use threshcoil::{Account, CostModel, Refusal, Settings};
+    /// # let account = Account::open(50_000, &Settings::new(CostModel::default()), &mut [0])?;
+    /// let file = account.saved().to_vec();
+    /// assert_eq!(Account::load(&file)?, account);
+    /// assert_eq!(Account::load(&file[..20]), Err(Refusal::EndsEarly));
+    /// assert_eq!(Account::load(&[&file[..], &[0]].concat()), Err(Refusal::LeftOver));
+    /// # Ok::<(), Refusal>(())
+    /// ```
+    pub fn load(file: &[u8]) -> Result<Account, Refusal> {
+        let mut account = Account([0; Account::SIZE]);
+        told(port::tc_load(file, &mut account.0))?;
+        Ok(account)
+    }
+
+    /// The account's file by value. A zero rate is written with positive sign; up to that, equal accounts have equal files.
+    ///
+    /// ```
+    /// # use threshcoil::{Account, CostModel, Refusal, Settings};
+    /// # let account = Account::open(50_000, &Settings::new(CostModel::default()), &mut [0])?;
+    /// # let path = std::env::temp_dir().join(format!("threshcoil-{}", std::process::id()));
+    /// std::fs::write(&path, account.saved()).expect("a place to write");
+    /// # let file = std::fs::read(&path).expect("the file");
+    /// # std::fs::remove_file(&path).expect("the file");
+    /// # assert_eq!(Account::load(&file)?, account);
+    /// # Ok::<(), Refusal>(())
+    /// ```
+    pub fn saved(&self) -> Saved {
+        // No sound account is refused where there is room for the longest file.
+        Saved::written(|room| self.save(room).unwrap_or(0))
+    }
+
+    /// Writes the account's file into the first places of `file`, and returns how many it takes; the others are as they were.
+    /// [`Refusal::NoFileRoom`] where they are too few: [`Account::FILE_SIZE`] are always enough.
+    pub fn save(&self, file: &mut [u8]) -> Result<usize, Refusal> {
+        told(port::tc_save(&self.0, file))
+    }
+
     /// The account that [`Account::as_bytes`] gave, or [`Refusal::Unsound`] for bytes that are none.
     ///
     /// ```
     /// # use threshcoil::{Account, CostModel, Refusal, Settings};
     /// # let account = Account::open(50_000, &Settings::new(CostModel::default()), &mut [0])?;
-    /// let saved = account.as_bytes().to_vec();
-    /// assert_eq!(Account::from_bytes(&saved)?, account);
-    /// assert_eq!(Account::from_bytes(&saved[1..]), Err(Refusal::Unsound));
+    /// let bytes = account.as_bytes().to_vec();
+    /// assert_eq!(Account::from_bytes(&bytes)?, account);
+    /// assert_eq!(Account::from_bytes(&bytes[1..]), Err(Refusal::Unsound));
     /// # Ok::<(), Refusal>(())
     /// ```
     pub fn from_bytes(bytes: &[u8]) -> Result<Account, Refusal> {
@@ -86,7 +130,7 @@ impl Account {
         Ok(account)
     }
 
-    /// The whole account, to be saved.
+    /// The whole account, as the C interface of this version has it; what is stored or sent is [`Account::saved`].
     pub fn as_bytes(&self) -> &[u8; Account::SIZE] {
         &self.0
     }

@@ -1,5 +1,5 @@
-//! A portfolio account whose every call is proved: rebalancing to target weights, closing positions, recording returns; and
-//! the house return of a [`Group`] of accounts.
+//! A portfolio account whose every call is proved: rebalancing to target weights, closing positions, recording returns, saving
+//! and loading; and the house return of a [`Group`] of accounts.
 //!
 //! The work is done by proved Rattle crates, reached through their C interface; here it has the names and types
 //! that Rust callers expect. An [`Account`] owns its bytes and a [`Group`] its equities, and everything else that a call fills
@@ -41,6 +41,7 @@ mod house;
 mod list;
 mod record;
 mod refusal;
+mod saved;
 mod settings;
 
 pub use account::{Account, Position, Snapshot};
@@ -49,4 +50,5 @@ pub use house::{AccountId, AnotherGroup, Group, HouseReturn, Part, PartReturn};
 pub use list::{Price, Shares, Symbol, Target, Weight, Weights};
 pub use record::{Context, ExecutionKind, ExecutionRecord};
 pub use refusal::Refusal;
+pub use saved::Saved;
 pub use settings::{CostModel, Settings};

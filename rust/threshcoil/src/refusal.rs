@@ -4,7 +4,8 @@ use std::fmt;
 
 /// A call that was not done. The account and every lent place are as they were.
 ///
-/// Where several apply, the one told is the first of: 11, 1, 6, 2, 3, 5, 4, 8, 7, 9, 10, 12; of a group: 13, 6, 15, 14.
+/// Where several apply, the one told is the first of: 11, 1, 6, 2, 3, 5, 4, 8, 7, 9, 10, 12; of a group: 13, 6, 15, 14; of a file that is
+/// loaded: 16, 17 or 11 as its bytes are met, then 18, then 11.
 ///
 /// ```
 /// use threshcoil::{Refusal, Symbol};
@@ -35,7 +36,7 @@ pub enum Refusal {
     NotHeld,
     /// 10: the equity or return buffer has no free place.
     BufferFull,
-    /// 11: the bytes are no sound account.
+    /// 11: the bytes are no sound account, or a file has an unknown form, a mark or a count out of its bounds, or no sound account.
     Unsound,
     /// 12: a return series is empty or has a member that is not finite.
     BadSeries,
@@ -45,11 +46,19 @@ pub enum Refusal {
     NoFirstSum,
     /// 15: a change or a finished sum of a group leaves the signed 64-bit range.
     OutOfRange,
+    /// 16: a file ends early.
+    EndsEarly,
+    /// 17: a number of a file is not in its shortest form, or too large.
+    BadNumber,
+    /// 18: bytes of a file are left over.
+    LeftOver,
+    /// 19: the room for a file is too short.
+    NoFileRoom,
 }
 
 use Refusal::*;
 
-const ALL: [(Refusal, &str); 15] = [
+const ALL: [(Refusal, &str); 19] = [
     (BadSetting, "a setting or opening cash is bad"),
     (BadSymbol, "a symbol is bad"),
     (Twice, "a symbol stands twice in one list"),
@@ -65,6 +74,10 @@ const ALL: [(Refusal, &str); 15] = [
     (BadGroup, "a group of accounts is empty or over 32"),
     (NoFirstSum, "a part's first sum is not positive"),
     (OutOfRange, "a change or a finished sum leaves the signed 64-bit range"),
+    (EndsEarly, "the file ends early"),
+    (BadNumber, "a number of the file is not in its shortest form, or too large"),
+    (LeftOver, "bytes of the file are left over"),
+    (NoFileRoom, "the room for the file is too short"),
 ];
 
 impl Refusal {
@@ -73,7 +86,7 @@ impl Refusal {
         self as u64
     }
 
-    /// The refusal of a number from 1 to 15.
+    /// The refusal of a number from 1 to 19.
     pub fn of_number(number: u64) -> Option<Refusal> {
         ALL.iter().map(|(refusal, _)| *refusal).find(|refusal| refusal.number() == number)
     }
