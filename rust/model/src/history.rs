@@ -1,7 +1,9 @@
 //! A plan run through the library, period by period.
 
+use crate::kept::Kept;
 use crate::lines::Said;
 use crate::plan::{Close, Opening, Period, Plan};
+use crate::saved::Start;
 use crate::text::refused;
 use std::fmt;
 use threshcoil::{
@@ -56,34 +58,46 @@ pub struct Told {
 pub struct History {
     pub account: Account,
     pub periods: Vec<Told>,
-    /// The opening's cash, then the equity of each period whose prices were accepted.
+    /// How many equities and returns of a saved account came before those here; none of either in the history of an opening.
+    pub unknown: Option<(u64, u64)>,
+    /// The opening's cash or the saved account's last equity, then the equity of each period whose prices were accepted.
     pub equities: Vec<i64>,
     pub returns: Vec<f64>,
     pub figures: Result<Figures, Refusal>,
     /// As of the last period with prices.
     pub weights: Vec<Weight>,
     pub positions: Vec<Position>,
+    /// What of files before the saved account did not count.
+    pub left_out: Vec<String>,
     pub stopped: bool,
 }
 
+/// Places of series for which a saved account may ask before its first new ones: a count beyond that is no count of periods.
+const MOST_BEFORE: u64 = 1 << 20;
+
 /// Runs the plan. `told` hears each period as it ends; where `stop` is set, the first refusal ends the run.
-pub fn run(plan: &Plan, stop: bool, mut told: impl FnMut(usize, &Told)) -> Result<History, Refused> {
-    let Opening { cash, settings } = plan.opening;
-    let mut equities = vec![0; plan.periods.len() + 1];
-    let mut returns = vec![0.0; plan.periods.len() + 1];
-    let mut account = Account::open(cash, &settings, &mut equities).map_err(|refusal| bad_opening(plan, refusal))?;
-    let (mut periods, mut weights, mut stopped) = (Vec::new(), Vec::new(), false);
+pub fn run(start: Start, plan: &Plan, stop: bool, mut told: impl FnMut(usize, &Told)) -> History {
+    let Start { mut account, kept } = start;
+    let Kept { unknown, mut periods, mut equities, mut returns, mut weights, left_out, .. } = kept;
+    let first = unknown.map_or(0, |(equities, _)| equities).wrapping_add(periods.len() as u64);
+    let places = |count: u64| count.min(MOST_BEFORE) as usize + plan.periods.len() + 1;
+    let mut equity_room = vec![0; places(account.equity_count())];
+    let mut return_room = vec![0.0; places(account.return_count())];
+    let mut stopped = false;
     for (k, period) in plan.periods.iter().enumerate() {
         let (trims, gains) = (account.trimmed_fill_count(), account.return_count());
         let mut now = Told { label: period.label.clone(), ..Told::default() };
-        trade(&mut account, k as u64, period, &mut now);
+        trade(&mut account, first.wrapping_add(k as u64), period, &mut now);
         let prices = period.all_prices();
-        let recorded = (!period.prices_unread).then(|| account.record_return(&prices, &mut equities, &mut returns));
+        let recorded =
+            (!period.prices_unread).then(|| account.record_return(&prices, &mut equity_room, &mut return_room));
         match recorded {
             None => {}
             Some(Ok(())) => {
                 now.equity = Some(account.previous_equity());
-                now.gain = (account.return_count() > gains).then(|| returns[gains as usize]);
+                now.gain = (account.return_count() > gains).then(|| return_room[gains as usize]);
+                equities.extend(now.equity);
+                returns.extend(now.gain);
                 weights = account.current_weights(&prices).map(|w| w.to_vec()).unwrap_or_default();
                 now.refused.extend(unpriced(&account, period));
             }
@@ -100,15 +114,13 @@ pub fn run(plan: &Plan, stop: bool, mut told: impl FnMut(usize, &Told)) -> Resul
             break;
         }
     }
-    equities.truncate(account.equity_count() as usize);
-    returns.truncate(account.return_count() as usize);
     let positions = account.positions().collect();
     let figures = figures(&returns);
-    Ok(History { account, periods, equities, returns, figures, weights, positions, stopped })
+    History { account, periods, unknown, equities, returns, figures, weights, positions, left_out, stopped }
 }
 
 /// Told at the line from which on the opening is bad, by what stands there: of two settings that are bad together, at the later one's.
-fn bad_opening(plan: &Plan, refusal: Refusal) -> Refused {
+pub fn bad_opening(plan: &Plan, refusal: Refusal) -> Refused {
     let good = |said: &Said<Opening>| Account::open(said.what.cash, &said.what.settings, &mut [0]).is_ok();
     let bad = plan.openings.iter().rposition(good).map_or(0, |last_good| last_good + 1);
     let (line, opening) = plan.openings.get(bad).map_or((1, plan.opening), |said| (said.line, said.what));

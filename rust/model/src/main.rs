@@ -5,14 +5,17 @@ mod heard;
 mod history;
 mod house;
 mod html;
+mod kept;
 mod lines;
 mod page;
 mod plan;
+mod saved;
 mod text;
 
 use heard::Heard;
 use history::History;
 use plan::{Plan, Unread};
+use saved::Start;
 use std::io::{self, IsTerminal, Write};
 use std::path::{Path, PathBuf};
 use std::process::ExitCode;
@@ -50,6 +53,9 @@ struct Asked {
     file: Option<PathBuf>,
     page: PathBuf,
     stop: bool,
+    /// A saved account to begin from, and where to save the account at the end.
+    from: Option<PathBuf>,
+    save: Option<PathBuf>,
     /// A text that is asked for in the place of a run.
     text: Option<&'static str>,
 }
@@ -57,11 +63,18 @@ struct Asked {
 fn asked() -> Result<Asked, String> {
     let mut words = std::env::args_os().skip(1).peekable();
     let kind = words.next_if(|word| word == "house").map_or(Kind::Model, |_| Kind::House);
-    let mut asked = Asked { kind, file: None, page: kind.page().into(), stop: false, text: None };
+    let mut asked =
+        Asked { kind, file: None, page: kind.page().into(), stop: false, from: None, save: None, text: None };
     while let Some(word) = words.next() {
         match word.to_str() {
             Some("--page") => asked.page = words.next().ok_or("--page names a file")?.into(),
             Some("--stop") if kind == Kind::Model => asked.stop = true,
+            Some("--from") if kind == Kind::Model => {
+                asked.from = Some(words.next().ok_or("--from names a file")?.into())
+            }
+            Some("--save") if kind == Kind::Model => {
+                asked.save = Some(words.next().ok_or("--save names a file")?.into())
+            }
             Some("--example") => asked.text = Some(kind.example()),
             Some("--help" | "-h") => asked.text = Some(USAGE),
             Some(other) if other.starts_with('-') => return Err(format!("'{other}' is not known")),
@@ -95,6 +108,8 @@ fn run(asked: Asked) -> io::Result<bool> {
     }
     let (name, text) = match &asked.file {
         Some(file) => (file.display().to_string(), read(file)?),
+        // A saved account by itself.
+        None if asked.from.is_some() => (String::new(), String::new()),
         None => ("example".into(), asked.kind.example().into()),
     };
     match asked.kind {
@@ -104,30 +119,49 @@ fn run(asked: Asked) -> io::Result<bool> {
 }
 
 fn run_model(out: &mut impl Write, asked: &Asked, name: &str, text: &str) -> io::Result<bool> {
-    let (plan, unread) = plan::read(text);
+    let loaded = match asked.from.as_deref().map(Start::loaded).transpose()?.transpose() {
+        Ok(loaded) => loaded,
+        Err(why) => {
+            eprintln!("{why}");
+            return nothing_written();
+        }
+    };
+    let (plan, unread) = match &loaded {
+        Some(start) => plan::read_on(text, &start.kept.name),
+        None => plan::read(text),
+    };
     for u in &unread {
         eprintln!("{name}:{}: {}", u.line, u.why);
     }
     if unread.iter().any(|u| u.opening || asked.stop) {
         return nothing_written();
     }
+    match loaded.map_or_else(|| Start::opened(&plan), Ok) {
+        Ok(start) => {
+            let history = run_plan(out, asked, name, start, &plan)?;
+            publish(out, asked, &plan, &unread, &history)
+        }
+        Err(refused) => {
+            eprintln!("{}", text::refusal(name, &refused));
+            nothing_written()
+        }
+    }
+}
+
+fn run_plan(out: &mut impl Write, asked: &Asked, name: &str, start: Start, plan: &Plan) -> io::Result<History> {
+    if let Some(file) = &asked.from {
+        text::start(out, file, &start)?;
+    }
     let progress = Progress::new(plan.periods.len());
     let mut written = Ok(());
-    let history = history::run(&plan, asked.stop, |k, told| {
+    let history = history::run(start, plan, asked.stop, |k, told| {
         progress.show(k);
         written = std::mem::replace(&mut written, Ok(())).and_then(|()| text::period(out, name, told));
     });
     progress.end();
     written?;
-    let history = match history {
-        Ok(history) => history,
-        Err(refused) => {
-            eprintln!("{}", text::refusal(name, &refused));
-            return nothing_written();
-        }
-    };
-    text::summary(out, &plan, &history)?;
-    publish(out, asked, &plan, &unread, &history)
+    text::summary(out, plan, &history)?;
+    Ok(history)
 }
 
 fn nothing_written() -> io::Result<bool> {
@@ -143,9 +177,17 @@ fn write_page(out: &mut impl Write, page: &Path, html: &str) -> io::Result<()> {
     writeln!(out, "page: {}", page.display())
 }
 
-/// Writes the page. Whether every line of the file counted.
+/// Writes the page, and the account where that is asked for. Whether every line of the file counted.
 fn publish(out: &mut impl Write, asked: &Asked, plan: &Plan, unread: &[Unread], history: &History) -> io::Result<bool> {
-    write_page(out, &asked.page, &page::page(plan, unread, history))?;
+    let entries = page::left_out(unread, history);
+    write_page(out, &asked.page, &page::page(plan, &entries, history))?;
+    if let Some(file) = &asked.save {
+        if let Err(why) = saved::save(file, &plan.name, history, &entries)? {
+            eprintln!("{why}");
+            return Ok(false);
+        }
+        writeln!(out, "account: {}", file.display())?;
+    }
     let left_out = unread.len() + history.refusals().count();
     if left_out > 0 {
         eprintln!("threshcoil: {left_out} refused, unreadable or without a price; the page tells each");
@@ -153,8 +195,8 @@ fn publish(out: &mut impl Write, asked: &Asked, plan: &Plan, unread: &[Unread], 
     Ok(left_out == 0)
 }
 
-fn read(file: &PathBuf) -> io::Result<String> {
-    let bytes = std::fs::read(file).map_err(|e| io::Error::new(e.kind(), format!("{}: {e}", file.display())))?;
+fn read(file: &Path) -> io::Result<String> {
+    let bytes = saved::read(file)?;
     let text = String::from_utf8_lossy(&bytes);
     // A byte order mark that an editor put first is no word of the file.
     Ok(text.strip_prefix('\u{feff}').unwrap_or(&text).into())

@@ -11,10 +11,11 @@ use threshcoil::{ExecutionKind, ExecutionRecord, Position};
 const FOOTER: &str = "Equity, fills, holdings, weights and figures come from code that is proved to meet its definition; the curves \
      are drawn from them. A model portfolio is no advice, and past returns promise nothing.";
 
-pub fn page(plan: &Plan, unread: &[Unread], history: &History) -> String {
+/// The page of a run, with what of its files did not count.
+pub fn page(plan: &Plan, left_out: &[String], history: &History) -> String {
     html::page(&plan.name, FOOTER, |out| {
         head(out, &plan.name, history);
-        left_out(out, unread, history);
+        not_counted(out, left_out, history);
         tiles(out, history);
         curves(out, history);
         holdings(out, history);
@@ -27,10 +28,14 @@ fn head(out: &mut String, name: &str, history: &History) {
     let (first, last) = (ends(history.periods.first()), ends(history.periods.last()));
     let equity = history.equities.last().copied().unwrap_or(0);
     let opening = history.equities.first().copied().unwrap_or(0);
+    let begins = match history.unknown {
+        None => "at opening",
+        Some(_) => "in a saved account, before which nothing is shown or counts in a figure",
+    };
     let _ = write!(
         out,
         "<header>\n<h1>{}</h1>\n<p class=\"span\">{first} to {last}, {} periods</p>\n\
-         <p class=\"equity\">{}</p>\n<p class=\"span\">from {} at opening; cash {}</p>\n</header>\n",
+         <p class=\"equity\">{}</p>\n<p class=\"span\">from {} {begins}; cash {}</p>\n</header>\n",
         escaped(name),
         history.periods.len(),
         money(equity),
@@ -42,15 +47,20 @@ fn head(out: &mut String, name: &str, history: &History) {
 /// How many lines of the box stand open; the others are folded away.
 const OPEN: usize = 8;
 
-/// What of the file did not count, in the file's order, where it can't be overlooked.
-fn left_out(out: &mut String, unread: &[Unread], history: &History) {
+/// What of the files did not count: what was told of those before a saved account, then the rest in the file's order.
+pub fn left_out(unread: &[Unread], history: &History) -> Vec<String> {
     let refused = history.refusals().map(|(label, r)| (r.line, format!("{label}, line {}: {r}", r.line)));
-    let mut all: Vec<_> =
+    let mut now: Vec<_> =
         unread.iter().map(|u| (u.line, format!("line {}: {}", u.line, u.why))).chain(refused).collect();
+    now.sort_by_key(|(line, _)| *line);
+    history.left_out.iter().cloned().chain(now.into_iter().map(|(_, entry)| entry)).collect()
+}
+
+/// The same, where it can't be overlooked.
+fn not_counted(out: &mut String, all: &[String], history: &History) {
     if all.is_empty() {
         return;
     }
-    all.sort_by_key(|(line, _)| *line);
     let (count, do_not) = (all.len(), if all.len() == 1 { "entry does" } else { "entries do" });
     let then = if history.stopped { " The run stopped there." } else { "" };
     let _ = write!(
@@ -68,9 +78,9 @@ fn left_out(out: &mut String, unread: &[Unread], history: &History) {
     out.push_str("</section>\n");
 }
 
-fn list(out: &mut String, entries: &[(usize, String)]) {
+fn list(out: &mut String, entries: &[String]) {
     out.push_str("<ul>\n");
-    for (_, entry) in entries {
+    for entry in entries {
         let _ = writeln!(out, "<li>{}</li>", escaped(entry));
     }
     out.push_str("</ul>\n");
@@ -92,7 +102,7 @@ fn tiles(out: &mut String, history: &History) {
 }
 
 fn curves(out: &mut String, history: &History) {
-    let mut labels = vec!["opening".to_string()];
+    let mut labels = vec![if history.unknown.is_none() { "opening" } else { "saved" }.to_string()];
     labels.extend(history.periods.iter().filter(|p| p.equity.is_some()).map(|p| p.label.clone()));
     let equity: Vec<f64> = history.equities.iter().map(|e| *e as f64 / 100.0).collect();
     let drawdown: Vec<f64> = history.drawdowns().iter().map(|d| -d * 100.0).collect();

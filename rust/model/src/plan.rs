@@ -45,6 +45,8 @@ pub struct Plan {
     pub opening: Opening,
     /// The opening as it stands after each of its lines.
     pub openings: Vec<Said<Opening>>,
+    /// Whether a saved account is in the place of an opening.
+    continued: bool,
     pub periods: Vec<Period>,
 }
 
@@ -67,13 +69,21 @@ impl Plan {
     fn new() -> Plan {
         let settings = Settings { recording: true, ..Settings::new(CostModel::default()) };
         let (opening, openings) = (Opening { cash: 0, settings }, Vec::new());
-        Plan { name: "Model portfolio".into(), opening, openings, periods: Vec::new() }
+        Plan { name: "Model portfolio".into(), opening, openings, continued: false, periods: Vec::new() }
     }
 }
 
 /// Reads the whole text. What can't be read stands in the second list, line by line, and the rest of the file counts.
 pub fn read(text: &str) -> (Plan, Vec<Unread>) {
-    let mut plan = Plan::new();
+    read_into(Plan::new(), text)
+}
+
+/// Reads the text of a run that continues a saved account, which has its cash, its settings and a name.
+pub fn read_on(text: &str, name: &str) -> (Plan, Vec<Unread>) {
+    read_into(Plan { name: name.into(), continued: true, ..Plan::new() }, text)
+}
+
+fn read_into(mut plan: Plan, text: &str) -> (Plan, Vec<Unread>) {
     let mut unread = Vec::new();
     for (line, word, rest) in lines(text) {
         if let Err(why) = take(&mut plan, line, word, rest) {
@@ -93,6 +103,9 @@ fn take(plan: &mut Plan, line: usize, word: &str, rest: &str) -> Result<(), Stri
     match plan.periods.last_mut() {
         Some(_) if is_setting(word) => Err(format!("'{word}' is a setting, and settings come before the first period")),
         Some(period) => take_in_period(period, line, word, rest),
+        None if plan.continued && word != "name" && is_setting(word) => {
+            Err(format!("'{word}' is a setting, and the saved account has its own"))
+        }
         None => match take_setting(plan, word, rest)? {
             true => {
                 plan.openings.push(Said { line, what: plan.opening });
@@ -218,6 +231,17 @@ mod tests {
             let (_, unread) = read(bad);
             assert!(unread.len() == 1 && unread[0].opening, "{bad}");
         }
+    }
+
+    #[test]
+    fn a_saved_account_has_its_own_settings() {
+        for (text, bad) in [("cash 1.00\nperiod one", true), ("max_trades 4", true), ("period one", false), ("", false)]
+        {
+            let (plan, unread) = read_on(text, "Kept");
+            assert_eq!((unread.len(), unread.iter().any(|u| u.opening)), (usize::from(bad), bad), "{text}");
+            assert_eq!(plan.name, "Kept");
+        }
+        assert_eq!(read_on("name Given\nperiod one", "Kept").0.name, "Given");
     }
 
     #[test]

@@ -2,7 +2,9 @@
 
 use crate::history::{History, Refused, Told};
 use crate::plan::{Plan, SHARE};
+use crate::saved::Start;
 use std::io::{self, Write};
+use std::path::Path;
 use threshcoil::{ExecutionKind, ExecutionRecord, Figures, Refusal, Shares};
 
 /// Cents as units with two decimals and grouped thousands.
@@ -60,6 +62,25 @@ pub fn count(n: usize, noun: &str) -> String {
 
 pub fn refused(what: &str, refusal: Refusal) -> String {
     format!("{what} was refused, {}: {refusal}", refusal.number())
+}
+
+/// Why a file is no saved account, in words that say what to do about it.
+pub fn bad_file(file: &Path, refusal: Refusal) -> String {
+    let then = match refusal {
+        Refusal::EndsEarly => "a part of it was lost",
+        Refusal::BadNumber | Refusal::LeftOver => "it is damaged, or no saved account",
+        _ => "it is damaged, or of a form that is not known here",
+    };
+    format!("{}: {}; {then}", file.display(), refused("the saved account", refusal))
+}
+
+/// What a run continues from.
+pub fn start(out: &mut impl Write, file: &Path, start: &Start) -> io::Result<()> {
+    let (equity, periods) = (money(start.account.previous_equity()), start.kept.periods.len());
+    match start.kept.unknown {
+        None => writeln!(out, "from {}: {}, equity {equity}", file.display(), count(periods, "period")),
+        Some(_) => writeln!(out, "from {}: equity {equity}, without all its periods", file.display()),
+    }
 }
 
 pub fn refusal(file: &str, r: &Refused) -> String {
