@@ -1,8 +1,10 @@
-//! Random, truncated and damaged bytes at every entry of the C interface. The answer is held to `expected`, which reads the
-//! same bytes by document 01's table; after a refusal every lent byte is as found, and after 0 only those that were to be
-//! written differ.
+//! Random, truncated and damaged bytes at every entry of the C interface; house returns and saved accounts have runs of their own. The
+//! answer is held to `expected`, which reads the same bytes by document 01's table; after a refusal every lent byte is as found, and after
+//! 0 only those that were to be written differ.
 
 mod expected;
+
+pub use expected::sound;
 
 use crate::port::Port;
 use expected::expected;
@@ -340,7 +342,7 @@ fn spoil(random: &mut Random, g: &mut Given) {
 }
 
 /// A byte or a word changed, two words swapped, bytes cut off or added, or all of them any bytes.
-fn damage(random: &mut Random, bytes: &mut Vec<u8>) {
+pub fn damage(random: &mut Random, bytes: &mut Vec<u8>) {
     const WORDS: [u64; 9] =
         [0, 1, 2, u64::MAX, 1 << 63, (1 << 63) - 1, 0x7ff0 << 48, 0x7ff8 << 48, u64::from_be_bytes(*b"A\0B\0\0\0\0\0")];
     let words = bytes.len() / 8;
@@ -423,7 +425,7 @@ fn without_ceiling(given: &Given) -> Given {
     free
 }
 
-fn cut(random: &mut Random, bytes: &mut Vec<u8>) {
+pub fn cut(random: &mut Random, bytes: &mut Vec<u8>) {
     let length = match random.below(4) {
         0 => random.below(bytes.len() as u64 + 1) as usize,
         1 => bytes.len().saturating_sub(1 + random.below(16) as usize),

@@ -12,6 +12,7 @@ mod model;
 mod played;
 mod port;
 mod sample;
+mod saved;
 mod series;
 mod single;
 mod stack;
@@ -23,7 +24,7 @@ const USAGE: &str =
     | house [SEED [COUNT]] | accounts [SEED [COUNT]] | damage [SEED [COUNT]] | full | bench | bench values | bench figures
     | bench house | bench accounts | bench cash-first | bench ceiling | scenarios [SEED [COUNT]] | spoiled [SEED [COUNT]]
     | cash-first [SEED [COUNT]] | ceiling [SEED [COUNT]] | ceiling-fills [SEED [COUNT]] | house-groups [SEED [COUNT]]
-    | stack | table
+    | saved [SEED [COUNT]] | saved-damage [SEED [COUNT]] | saved-files [SEED [COUNT]] | stack | table
     | sample write FILE | sample check FILE | sample accounts write FILE | sample accounts check FILE";
 
 const SEED: u64 = 20261115;
@@ -47,12 +48,15 @@ fn main() {
         ["bench", "ceiling"] => bench::run_ceiling(),
         ["accounts", ref rest @ ..] => seeded(rest, 8_000, account::run),
         ["damage", ref rest @ ..] => seeded(rest, 20_000, damage::run),
+        ["saved", ref rest @ ..] => seeded(rest, 50_000, saved::run),
+        ["saved-damage", ref rest @ ..] => seeded(rest, 50_000, saved::run_damage),
         ["scenarios", ref rest @ ..] => seeded(rest, 1_000, written(account::emit)),
         ["spoiled", ref rest @ ..] => seeded(rest, 1_000, written(account::emit_spoiled)),
         ["cash-first", ref rest @ ..] => seeded(rest, 1_000, written(account::emit_cash_first)),
         ["ceiling", ref rest @ ..] => seeded(rest, 1_000, written(account::emit_ceiling)),
         ["ceiling-fills", ref rest @ ..] => seeded(rest, 20_000, written(single::emit)),
         ["house-groups", ref rest @ ..] => seeded(rest, 20_000, written(house::emit)),
+        ["saved-files", ref rest @ ..] => seeded(rest, 8_000, written(saved::emit)),
         ["stack"] => stack::run(),
         ["table"] => table::run(),
         ["sample", "accounts", "write", path] => played::write(path),
@@ -90,11 +94,13 @@ fn full() -> bool {
     let house = house::run(SEED + 1, 1_000_000);
     let accounts = account::run(SEED + 1, 90_000);
     let damage = damage::run(SEED + 1, 400_000);
+    let saved = saved::run(SEED + 1, 1_000_000) && saved::run_damage(SEED + 1, 1_000_000);
     let ceiling = model::plays(&["compare.py", "ceiling"], account::emit_ceiling, SEED + 1, 25_000);
     let ceiling_fills = model::plays(&["fills.py"], single::emit, SEED + 1, 1_000_000);
     let house_groups = model::plays(&["house.py"], house::emit, SEED + 1, 1_000_000);
-    let beside_rust = leaves && fills && single && figures && house && accounts && damage;
-    beside_rust && ceiling && ceiling_fills && house_groups
+    let saved_files = model::plays(&["saved.py"], saved::emit, SEED + 1, 200_000);
+    let beside_rust = leaves && fills && single && figures && house && accounts && damage && saved;
+    beside_rust && ceiling && ceiling_fills && house_groups && saved_files
 }
 
 fn number(word: &str) -> u64 {

@@ -54,6 +54,13 @@ impl Port {
         self.account.as_ref().map_or(Vec::new(), |account| account.as_bytes().to_vec())
     }
 
+    /// Saves the account and loads it again.
+    pub fn through_a_file(&mut self) {
+        if let Some(account) = &mut self.account {
+            *account = Account::load(&account.saved()).expect("its own file");
+        }
+    }
+
     /// None where a lent place was touched that was to stay as found.
     fn answer(&mut self, step: &Step) -> Result<Option<Reply>, Refusal> {
         let Some(account) = &mut self.account else {

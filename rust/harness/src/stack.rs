@@ -23,6 +23,7 @@ struct Lent {
     targets: Vec<u8>,
     prices: Vec<u8>,
     records: Vec<u8>,
+    file: Vec<u8>,
     equities: Vec<i64>,
     returns: Vec<f64>,
 }
@@ -55,6 +56,7 @@ fn lent() -> Lent {
         targets: entries(SYMBOLS, |k| 1.0 / (k + 40) as f64, f64::to_le_bytes),
         prices: entries(2 * SYMBOLS, |k| 1_000 + k as i64, i64::to_le_bytes),
         records: vec![0; SYMBOLS * layout::RECORD_SIZE],
+        file: vec![0; layout::FILE_SIZE],
         equities: vec![0; HOUSE_PLACES],
         returns: vec![0.0; 4_096],
     };
@@ -63,6 +65,8 @@ fn lent() -> Lent {
     assert_eq!(port::tc_set_max_trades_per_rebalance(account, 0, 0), 0);
     assert_eq!(port::tc_rebalance_simple(account, targets, prices, 0, 0, records), 64 << 8);
     assert_eq!(port::tc_set_max_trades_per_rebalance(account, 1, 60), 0);
+    let length = port::tc_save(&lent.account, &mut lent.file) >> 8;
+    lent.file.truncate(length as usize);
     // The same holdings at other prices, so that a rebalance has orders again.
     lent.prices = entries(2 * SYMBOLS, |k| 2_000 - 7 * k as i64, i64::to_le_bytes);
     lent
@@ -87,7 +91,7 @@ fn depth(call: fn(&mut Lent) -> u64) -> (u64, usize) {
 }
 
 pub fn run() -> bool {
-    let calls: [(&str, fn(&mut Lent) -> u64); 8] = [
+    let calls: [(&str, fn(&mut Lent) -> u64); 10] = [
         ("tc_open", |l| {
             let settings = l.account[layout::bytes_of(layout::SETTINGS_FROM, layout::SETTINGS.len())].to_vec();
             port::tc_open(1, &settings, &mut l.account, &mut l.equities)
@@ -108,6 +112,8 @@ pub fn run() -> bool {
                 &mut l.records[..layout::WEIGHTS_SIZE],
             )
         }),
+        ("tc_save", |l| port::tc_save(&l.account, &mut l.records)),
+        ("tc_load", |l| port::tc_load(&l.file, &mut l.account)),
         ("tc_figures", |l| port::tc_figures(&l.returns, &mut [0.0; 6], &mut [0; 3])),
         ("tc_house_return", |l| {
             const ENDS: usize = 2 * ACCOUNTS * PARTS;

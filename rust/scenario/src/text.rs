@@ -81,7 +81,8 @@ pub fn record(r: &Record) -> String {
     format!("< record {} {} {} {numbers}\n", r.sequence, context(&r.context), name(&r.symbol))
 }
 
-fn account(v: &View) -> String {
+/// The lines of an account.
+pub fn account(v: &View) -> String {
     let counters = format!("{} {} {} {}", v.last_order_count, v.last_notional, v.trimmed_count, v.trimmed_shortfall);
     let series = format!("{} {} {}", v.equity_count, v.return_count, v.previous_equity);
     let mut text = format!("< account {} {counters} {} {series}\n", v.cash, v.record_count);

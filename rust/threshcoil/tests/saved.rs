@@ -291,6 +291,6 @@ fn settings_are_all_in_the_file() {
     let account = fullest();
     let loaded = Account::load(&account.saved()).expect("its own file");
     assert_eq!(loaded.settings(), account.settings());
-    let places = [Setting::Recording, Setting::CashFirst].map(|setting| layout::setting(setting));
+    let places = [Setting::Recording, Setting::CashFirst].map(layout::setting);
     assert!(places.iter().all(|place| loaded.as_bytes()[8 * place] == 1));
 }

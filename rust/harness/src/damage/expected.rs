@@ -19,6 +19,11 @@ pub fn expected(entry: Entry, g: &Given) -> u64 {
     }
 }
 
+/// Whether bytes are a sound account.
+pub fn sound(account: &[u8]) -> bool {
+    Book::of(account).is_some()
+}
+
 fn first(checks: &[(u64, bool)]) -> u64 {
     checks.iter().find(|(_, holds)| *holds).map_or(0, |(number, _)| *number)
 }
@@ -113,7 +118,7 @@ impl Book {
         let ascend = symbols[..count].windows(2).all(|pair| pair[0] < pair[1]);
         let columns = words[layout::POSITIONS + 1..].chunks_exact(layout::PLACES);
         let unused = columns.into_iter().all(|column| column[count..].iter().all(|w| *w == 0));
-        let each = (0..count).all(|i| good_symbol(symbols[i]) && sound(quantity[i], average[i], total[i]));
+        let each = (0..count).all(|i| good_symbol(symbols[i]) && sound_position(quantity[i], average[i], total[i]));
         let held = symbols.iter().zip(&quantity).take(count).map(|(s, q)| (*s, *q)).collect();
         let book = Book {
             recording: words[layout::setting(Setting::Recording)] == 1,
@@ -125,7 +130,7 @@ impl Book {
     }
 }
 
-fn sound(quantity: i64, average: i64, total: i64) -> bool {
+fn sound_position(quantity: i64, average: i64, total: i64) -> bool {
     let worth = i128::from(quantity) * i128::from(average) / 1_000_000;
     let worth = worth.clamp(i64::MIN.into(), i64::MAX.into()) as i64;
     match quantity.signum() {
