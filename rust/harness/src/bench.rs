@@ -16,8 +16,8 @@ const COSTS: Costs = Costs { commission_bps: 5.0, slippage_bps: 2.0, min_commiss
 const CONTEXT: Context = Context { period_index: 0, kind: ExecutionKind::Rebalance };
 
 /// Batches, of which the median is told, and calls of a batch.
-const BATCHES: usize = 301;
-const CALLS: usize = 50;
+pub const BATCHES: usize = 301;
+pub const CALLS: usize = 50;
 
 #[derive(Clone, Copy, PartialEq)]
 enum Call {
@@ -208,13 +208,13 @@ fn theirs(rust: &mut Timed, call: Call, k: usize) {
 }
 
 /// Nanoseconds a call of one batch.
-fn batch(calls: impl FnOnce()) -> f64 {
+pub fn batch(calls: impl FnOnce()) -> f64 {
     let start = Instant::now();
     calls();
     start.elapsed().as_secs_f64() / CALLS as f64 * 1e9
 }
 
-fn median(mut times: Vec<f64>) -> f64 {
+pub fn median(mut times: Vec<f64>) -> f64 {
     times.sort_by(f64::total_cmp);
     times[times.len() / 2]
 }
@@ -252,6 +252,11 @@ fn ready(row: &Row, n: usize) -> Option<(Timed, Ours)> {
     let figures = [a.cash(), a.last_rebalance_order_count() as i64, a.trimmed_fill_count() as i64];
     assert_eq!(rust.figures(), figures, "both are the same account");
     Some((rust, ours))
+}
+
+/// An account that holds so many symbols, and the Rust's where that is at hand.
+pub fn holding(n: usize) -> (Account, Option<Timed>) {
+    (port_ready(&FILLED, n, COSTS).account, ready(&FILLED, n).map(|(rust, _)| rust))
 }
 
 /// A batch of the Rust's.

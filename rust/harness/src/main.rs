@@ -22,7 +22,8 @@ mod values;
 const USAGE: &str =
     "usage: harness leaves [SEED [COUNT]] | fills [SEED [COUNT]] | single [SEED [COUNT]] | figures [SEED [COUNT]]
     | house [SEED [COUNT]] | accounts [SEED [COUNT]] | damage [SEED [COUNT]] | full | bench | bench values | bench figures
-    | bench house | bench accounts | bench cash-first | bench ceiling | scenarios [SEED [COUNT]] | spoiled [SEED [COUNT]]
+    | bench house | bench saved | bench accounts | bench cash-first | bench ceiling | scenarios [SEED [COUNT]]
+    | spoiled [SEED [COUNT]]
     | cash-first [SEED [COUNT]] | ceiling [SEED [COUNT]] | ceiling-fills [SEED [COUNT]] | house-groups [SEED [COUNT]]
     | saved [SEED [COUNT]] | saved-damage [SEED [COUNT]] | saved-files [SEED [COUNT]] | stack | table
     | sample write FILE | sample check FILE | sample accounts write FILE | sample accounts check FILE";
@@ -39,10 +40,11 @@ fn main() {
         ["figures", ref rest @ ..] => seeded(rest, 120_000, series::run),
         ["house", ref rest @ ..] => seeded(rest, 200_000, house::run),
         ["full"] => full(),
-        ["bench"] => values::bench(SEED) && series::bench(SEED) && house::bench(SEED) && bench::run(),
+        ["bench"] => values::bench(SEED) && series::bench(SEED) && house::bench(SEED) && saved::bench() && bench::run(),
         ["bench", "values"] => values::bench(SEED),
         ["bench", "figures"] => series::bench(SEED),
         ["bench", "house"] => house::bench(SEED),
+        ["bench", "saved"] => saved::bench(),
         ["bench", "accounts"] => bench::run(),
         ["bench", "cash-first"] => bench::run_cash_first(),
         ["bench", "ceiling"] => bench::run_ceiling(),

@@ -1,11 +1,13 @@
 //! Saved accounts: files of random accounts beside those of a second program, files and accounts that are damaged, and calls with a save and a
 //! load between them; and the same written as text for the model to play (tools/model/saved.py).
 
+mod bench;
 mod damage;
 mod draw;
 mod reference;
 mod text;
 
+pub use bench::bench;
 pub use text::emit;
 
 use crate::port::Port;

@@ -52,6 +52,26 @@ impl Timed {
         let a = &self.account;
         [a.cash(), a.last_rebalance_order_count() as i64, a.trimmed_fill_count() as i64]
     }
+
+    /// The account as the Rust itself saves it, in JSON, with its settings and series. None where this build has no serde: tools/json makes
+    /// one that has.
+    pub fn to_json(&self) -> Option<String> {
+        #[cfg(feature = "serde")]
+        return serde_json::to_string(&self.account).ok();
+        #[cfg(not(feature = "serde"))]
+        return None;
+    }
+
+    /// Reads the account from that text. Whether it could.
+    pub fn load_json(&mut self, text: &str) -> bool {
+        #[cfg(feature = "serde")]
+        return serde_json::from_str(text).map(|account| self.account = account).is_ok();
+        #[cfg(not(feature = "serde"))]
+        return {
+            let _ = text;
+            false
+        };
+    }
 }
 
 #[cfg(not(nanobook))]
@@ -81,6 +101,14 @@ impl Timed {
     }
 
     pub fn figures(&self) -> [i64; 3] {
+        match *self {}
+    }
+
+    pub fn to_json(&self) -> Option<String> {
+        match *self {}
+    }
+
+    pub fn load_json(&mut self, _: &str) -> bool {
         match *self {}
     }
 }
