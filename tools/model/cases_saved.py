@@ -1,5 +1,6 @@
 """Cases of document 02's request 5 on the model: numbers, files and every refusal with one of its smallest files."""
 from dataclasses import replace
+from pathlib import Path
 
 import saved
 from model import SCALE, TOP, Account, Costs, Position, Settings
@@ -51,6 +52,8 @@ def negative_zeros(a):
     return replace(a, settings=replace(a.settings, costs=costs, no_trade_band_bps=-0.0))
 
 
+# A file that was written while form 1 was the newest.
+STORED = (Path(__file__).resolve().parents[2] / "rust/threshcoil/tests/files/form-1").read_bytes()
 LONGEST = saved.file_of(full())
 NINE = "80" * 9
 SAVED = [
@@ -61,6 +64,7 @@ SAVED = [
     ("signed numbers back", [saved.to_signed(n) for n in (0, 1, 2, 3, MOST - 1, MOST)], [0, -1, 1, -2, TOP, -TOP - 1]),
     ("case d", saved.save(CASE_D), (0, bytes.fromhex(CASE_D_FILE))),
     ("case d back", saved.load(bytes.fromhex(CASE_D_FILE)), (0, CASE_D)),
+    ("the stored file of form 1", saved.save(saved.load(STORED)[1]), (0, STORED)),
     ("the longest file", (len(LONGEST), saved.load(LONGEST)), (3_328, (0, full()))),
     ("negative zeros in settings", saved.save(negative_zeros(CASE_D)), saved.save(CASE_D)),
     ("an unsound account before the room", saved.save(replace(CASE_D, cash=-1), 0)[0], 11),

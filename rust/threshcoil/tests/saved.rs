@@ -157,6 +157,45 @@ fn refusals_are_as_the_page_has_them() {
     assert_eq!((told(&good), good.len()), (0, 23));
 }
 
+/// A file that was written while form 1 was the newest, no field of it as at opening.
+#[test]
+fn the_stored_file_of_form_1_is_read() {
+    let stored = include_bytes!("files/form-1");
+    let account = Account::load(stored).expect("a good file");
+    let costs = CostModel { commission_bps: 7.5, slippage_bps: 2.0, min_commission: 3, max_commission: 900 };
+    let settings = Settings {
+        cost_model: costs,
+        quantity_step: 1_000,
+        min_order_value: 150,
+        max_order_value: 90_000,
+        no_trade_band_bps: 20.0,
+        max_trades_per_rebalance: Some(5),
+        max_rebalance_notional: 4_000_000,
+        recording: true,
+        cash_first: true,
+    };
+    assert_eq!((account.cash(), account.settings()), (12_345, settings));
+    assert_eq!((account.last_rebalance_order_count(), account.last_rebalance_notional()), (3, 777));
+    assert_eq!((account.trimmed_fill_count(), account.trimmed_shortfall_cents()), (2, 33));
+    assert_eq!((account.record_count(), account.equity_count(), account.return_count()), (41, 9, 8));
+    assert_eq!(account.previous_equity(), 12_000);
+    let held = [
+        ("A", 5_000_000, 100, -7, 500),
+        ("BB", -3_000_000, 90, 40, -270),
+        ("CCC", 0, 0, -99, 0),
+        ("LONGNAME", 1, 0, 0, 0),
+    ];
+    let told = account.positions().map(|p| (p.symbol, p.quantity.0, p.avg_entry_price, p.realized_pnl, p.total_cost));
+    assert!(told.eq(held.map(|(name, quantity, average, realized, total)| (
+        symbol(name),
+        quantity,
+        average,
+        realized,
+        total
+    ))));
+    assert_eq!(account.saved()[..], stored[..]);
+}
+
 #[test]
 fn the_longest_file_is_as_long_as_it_is_said_to_be() {
     let account = fullest();
