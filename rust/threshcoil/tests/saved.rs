@@ -186,13 +186,7 @@ fn the_stored_file_of_form_1_is_read() {
         ("LONGNAME", 1, 0, 0, 0),
     ];
     let told = account.positions().map(|p| (p.symbol, p.quantity.0, p.avg_entry_price, p.realized_pnl, p.total_cost));
-    assert!(told.eq(held.map(|(name, quantity, average, realized, total)| (
-        symbol(name),
-        quantity,
-        average,
-        realized,
-        total
-    ))));
+    assert!(told.eq(held.map(|(name, q, average, realized, total)| (symbol(name), q, average, realized, total))));
     assert_eq!(account.saved()[..], stored[..]);
 }
 
