@@ -4,7 +4,7 @@ use crate::chart::Chart;
 use crate::history::{History, Told};
 use crate::html::{self, escaped};
 use crate::plan::{Plan, Unread};
-use crate::text::{count, figures, money, percent, shares};
+use crate::text::{NOT_RECORDED, count, figures, money, percent, shares};
 use std::fmt::Write;
 use threshcoil::{ExecutionKind, ExecutionRecord, Position};
 
@@ -167,6 +167,9 @@ fn trades(out: &mut String, history: &History) {
     out.push_str("<section>\n<h2>Trades</h2>\n");
     if let Some(ceiling) = history.ceiling() {
         let _ = writeln!(out, "<p class=\"span\">A fill costs at most {} in commission.</p>", money(ceiling));
+    }
+    if !history.account.settings().recording {
+        let _ = writeln!(out, "<p class=\"span\">{NOT_RECORDED}</p>");
     }
     for (k, told) in history.periods.iter().rev().filter(|t| !t.fills.is_empty()).enumerate() {
         let cut = if told.trimmed > 0 { format!(", {} cut to the cash at hand", told.trimmed) } else { String::new() };

@@ -78,10 +78,14 @@ pub fn bad_file(file: &Path, refusal: Refusal) -> String {
 pub fn start(out: &mut impl Write, file: &Path, start: &Start) -> io::Result<()> {
     let (equity, periods) = (money(start.account.previous_equity()), start.kept.periods.len());
     match start.kept.unknown {
-        None => writeln!(out, "from {}: {}, equity {equity}", file.display(), count(periods, "period")),
-        Some(_) => writeln!(out, "from {}: equity {equity}, without all its periods", file.display()),
+        None => writeln!(out, "from {}: {}, equity {equity}", file.display(), count(periods, "period"))?,
+        Some(_) => writeln!(out, "from {}: equity {equity}, without all its periods", file.display())?,
     }
+    if start.account.settings().recording { Ok(()) } else { writeln!(out, "{NOT_RECORDED}") }
 }
+
+/// Said of an account that was saved elsewhere: one that is opened here records.
+pub const NOT_RECORDED: &str = "Recording is off in this account: its fills are not listed.";
 
 pub fn refusal(file: &str, r: &Refused) -> String {
     format!("{file}:{}: {r}", r.line)

@@ -173,6 +173,25 @@ fn a_saved_account_keeps_its_settings() {
     assert!(said(&out).contains(":1: 'cash' is a setting, and the saved account has its own\n"), "{}", said(&out));
 }
 
+/// An account that was saved elsewhere need not record; a run says so and leaves that as it is.
+#[test]
+fn an_account_that_does_not_record_says_so() {
+    let file = fresh("silent.account");
+    run("silent-run", "cash 10.00\nperiod x\nprices A 1.00\n", None, Some("silent.account"));
+    let mut bytes = bytes("silent.account").unwrap();
+    // The form, the cash, four amounts, the step of 1,000,000, three rates, no cap and no ceiling stand before it.
+    let at = 1 + 2 + 4 + 3 + 3 + 2;
+    assert_eq!(bytes[at..at + 2], [1, 0]);
+    bytes[at] = 0;
+    std::fs::write(&file, bytes).unwrap();
+    let text = "period y\nprices A 1.00\ntargets A 0.5\n";
+    let (out, page) = run("silent", text, Some("silent.account"), Some("silent.account"));
+    assert_eq!(out.status.code(), Some(0), "{}", said(&out));
+    assert!(said(&out).contains("Recording is off in this account") && !said(&out).contains("buy"), "{}", said(&out));
+    assert!(page.unwrap().contains("Recording is off in this account: its fills are not listed."));
+    assert_eq!(std::fs::read(&file).unwrap()[at], 0);
+}
+
 /// Counts that no series of a run could have: the period is refused, and nothing is allocated for them.
 #[test]
 fn a_count_that_is_none_is_refused() {
