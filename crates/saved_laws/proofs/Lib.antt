@@ -1,0 +1,3 @@
+-- The laws of the saved form.
+pub mod Places
+pub mod Fields

@@ -1,0 +1,2 @@
+-- What the laws of the saved form speak of.
+pub mod Zeros

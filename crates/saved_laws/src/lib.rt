@@ -1,0 +1,1 @@
+// What holds of every saved account and of every file: definitions and laws only.
