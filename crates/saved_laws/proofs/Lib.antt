@@ -1,3 +1,5 @@
 -- The laws of the saved form.
 pub mod Places
 pub mod Fields
+pub mod Texts
+pub mod Symbols
