@@ -3,3 +3,4 @@ pub mod Places
 pub mod Fields
 pub mod Texts
 pub mod Symbols
+pub mod Positions
