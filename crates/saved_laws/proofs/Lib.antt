@@ -4,3 +4,5 @@ pub mod Fields
 pub mod Texts
 pub mod Symbols
 pub mod Positions
+pub mod Patterns
+pub mod Plain
