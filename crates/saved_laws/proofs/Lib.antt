@@ -6,3 +6,4 @@ pub mod Symbols
 pub mod Positions
 pub mod Patterns
 pub mod Plain
+pub mod Values
