@@ -7,3 +7,5 @@ pub mod Positions
 pub mod Patterns
 pub mod Plain
 pub mod Values
+pub mod Files
+pub mod ReadsBack

@@ -203,7 +203,7 @@ rolled-more l k at e r f w = record {
   same = f .same ∙ ap (λ (m : List ℕ). positionFile (e .position) ++ m) (w .same) ∙ sym (append-assoc (positionFile (e .position)) (positionsFile (r .rows)) (drop (r .next) l));
 }
 
-sound-symbol : (p : Position) → sound p ≡ true → goodSymbol (keyOf p) ≡ true
+pub sound-symbol : (p : Position) → sound p ≡ true → goodSymbol (keyOf p) ≡ true
 unfolding sound
 sound-symbol p e = both-true (goodSymbol (keyOf p)) (soundNumbers (held p) (avg p) (total p)) e .0
 

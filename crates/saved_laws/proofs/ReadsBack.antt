@@ -1,0 +1,145 @@
+-- The file of a sound account is read back, zeros' signs apart, and every proper part of it from its start ends early.
+use mathlib.Core.Path.{_≡_, refl, sym, _∙_, ap}
+use Prim.Native.Nat.{ℕ, _+_, _<_}
+use native.Mathlib.Omega.{arith}
+use mathlib.Core.Bool.{Bool, true}
+use mathlib.Core.List.{List, [], _++_, append-nil}
+use lib.Dec.{eqb}
+use lib.ListN.{length, take, drop, length-append}
+use borrow.Author.Tests.{eq-eqb}
+use Rattle.answer.specs.Choice.{pick}
+use Rattle.answer.specs.Numbers.{isDone, unless, orLater}
+use Rattle.answer.specs.declared.Answer.{Answer}
+use Rattle.answer.specs.declared.Answer.the-variants.{Done, Unsound, EndsEarly, LeftOver}
+use Rattle.account.specs.declared.account.Account.{Account}
+use Rattle.account.specs.Account.{soundAccount}
+use Rattle.account.specs.Calls.{answered}
+use Rattle.account.specs.Inner.Account.{ledgerOf}
+use Rattle.account_bytes.proofs.AccountKept.{KeptAccount}
+use Rattle.seven_bit.specs.declared.Number.{Number}
+use Rattle.seven_bit.specs.Groups.{groups}
+use Rattle.seven_bit.specs.Placed.{numberAt}
+use Rattle.saved_form.specs.Fields.{newest}
+use Rattle.saved_form.specs.Values.{headValues, accountOf}
+use Rattle.saved_form.specs.Writing.{fileOf}
+use Rattle.loading.specs.declared.head.Head.{Head}
+use Rattle.loading.specs.declared.positions.Positions.{Positions}
+use Rattle.loading.specs.Reading.{headIn, positionsIn}
+use Rattle.loading.specs.Loading.{fileAccount, loadAnswer, notLoaded, loaded}
+use Rattle.saved_laws.specs.Zeros.{plainAccount}
+use Rattle.saved_laws.proofs.Places.{after, Part, within, past, part, was}
+use Rattle.saved_laws.proofs.Plain.{plain-sound}
+use Rattle.saved_laws.proofs.Values.{head-back}
+use Rattle.saved_laws.proofs.Files.{headFile, heldFile, headTo, form-in, form-part, head-in, head-part, positions-in, held-part}
+
+-- ---- the answer by the parts of a file
+abbrev pub judgement : Number → Head → Positions → ℕ → Account → Answer
+judgement n h p end a =
+    orLater (n .answer)
+    (unless (eqb (n .value) newest) Unsound
+    (orLater (h .answer)
+    (orLater (p .answer)
+    (unless (eqb (p .next) end) LeftOver
+    (unless (soundAccount a) Unsound Done)))))
+
+pub by-parts : (l : List ℕ) → loadAnswer l ≡ judgement (numberAt l 0) (headIn l) (positionsIn l) (length l) (fileAccount l)
+unfolding loadAnswer
+by-parts l = refl
+
+form-ends : (n : Number) (h : Head) (p : Positions) (end : ℕ) (a : Account) → n .answer ≡ EndsEarly → judgement n h p end a ≡ EndsEarly
+form-ends n h p end a e = rw e
+
+head-ends : (next : ℕ) (h : Head) (p : Positions) (end : ℕ) (a : Account) → h .answer ≡ EndsEarly → judgement (was newest next) h p end a ≡ EndsEarly
+head-ends next h p end a e = rw e
+
+positions-end : (next : ℕ) (h : Head) (p : Positions) (end : ℕ) (a : Account) → h .answer ≡ Done → p .answer ≡ EndsEarly → judgement (was newest next) h p end a ≡ EndsEarly
+positions-end next h p end a d e = simp (d, e)
+
+all-done : (next : ℕ) (h : Head) (p : Positions) (end : ℕ) (a : Account) → h .answer ≡ Done → p .answer ≡ Done → p .next ≡ end → soundAccount a ≡ true → judgement (was newest next) h p end a ≡ Done
+all-done next h p end a d e n s = simp (d, e, eq-eqb (p .next) end n, s)
+
+-- the account that is loaded where the answer is Done
+pub loaded-done : (l : List ℕ) → loadAnswer l ≡ Done → loaded l ≡ answered Done (fileAccount l)
+unfolding loaded
+loaded-done l e = rw e
+
+-- a file by its account: zeros written with their positive sign
+module _ (a : Account) (e : soundAccount a ≡ true) (k : KeptAccount a) where
+  abbrev afterForm : ℕ
+  afterForm = 0 + length (groups newest)
+
+  abbrev afterHead : ℕ
+  afterHead = afterForm + length (headFile a)
+
+  abbrev positionsTo : Positions
+  positionsTo = record { answer = Done; next = afterHead + length (heldFile a); table = a .positions }
+
+  -- ---- the whole file
+  module _ (l : List ℕ) (q : l ≡ groups newest ++ (headFile a ++ heldFile a)) where
+    form-read : numberAt l 0 ≡ was newest afterForm
+    form-read = form-in a e k l (headFile a ++ heldFile a) q
+
+    behind-form : drop afterForm l ≡ headFile a ++ heldFile a
+    behind-form = after l (groups newest) (headFile a ++ heldFile a) 0 q
+
+    head-read : headIn l ≡ headTo a afterHead
+    head-read = head-in a e k l afterForm form-read (heldFile a) behind-form
+
+    positions-read : positionsIn l ≡ positionsTo
+    positions-read = positions-in a e k l afterForm form-read afterHead head-read [] (after l (headFile a) (heldFile a) afterForm behind-form ∙ sym (append-nil (heldFile a)))
+
+    account-read : fileAccount l ≡ plainAccount a
+    unfolding fileAccount
+    account-read =
+        ap (λ (h : Head). accountOf (h .values) (positionsIn l .table)) head-read
+        ∙ ap (λ (p : Positions). accountOf (headValues (ledgerOf a)) (p .table)) positions-read
+        ∙ head-back a k
+
+    ends-there : positionsIn l .next ≡ length l
+    ends-there =
+        ap (λ (p : Positions). p .next) positions-read
+        ∙ omega (arith, ap length q, length-append (groups newest) (headFile a ++ heldFile a), length-append (headFile a) (heldFile a))
+
+    answer-done : loadAnswer l ≡ Done
+    answer-done =
+        by-parts l
+        ∙ ap (λ (n : Number). judgement n (headIn l) (positionsIn l) (length l) (fileAccount l)) form-read
+        ∙ all-done afterForm (headIn l) (positionsIn l) (length l) (fileAccount l) (ap (λ (h : Head). h .answer) head-read) (ap (λ (p : Positions). p .answer) positions-read)
+            ends-there (ap soundAccount account-read ∙ plain-sound a ∙ e)
+
+  pub file-account : fileAccount (fileOf a) ≡ plainAccount a
+  unfolding fileOf
+  file-account = account-read (fileOf a) refl
+
+  pub file-done : loadAnswer (fileOf a) ≡ Done
+  unfolding fileOf
+  file-done = answer-done (fileOf a) refl
+
+  -- "reading what was written gives the account back", zeros' signs apart
+  pub reads-back : loaded (fileOf a) ≡ answered Done (plainAccount a)
+  reads-back = loaded-done (fileOf a) file-done ∙ ap (answered Done) file-account
+
+  -- ---- a part of it
+  module _ (l : List ℕ) where
+    past-head : (q : numberAt l 0 ≡ was newest afterForm) (j : ℕ) → drop afterForm l ≡ take j (headFile a ++ heldFile a) → Part (headFile a) (heldFile a) j → loadAnswer l ≡ EndsEarly
+    past-head q j d (within g r) =
+        by-parts l
+        ∙ ap (λ (n : Number). judgement n (headIn l) (positionsIn l) (length l) (fileAccount l)) q
+        ∙ head-ends afterForm (headIn l) (positionsIn l) (length l) (fileAccount l) (head-part a e k l afterForm q j g (d ∙ r))
+    past-head q j d (past i g r) =
+        let h = head-in a e k l afterForm q (take i (heldFile a)) (d ∙ r) in
+        let s = after l (headFile a) (take i (heldFile a)) afterForm (d ∙ r) in
+        by-parts l
+        ∙ ap (λ (n : Number). judgement n (headIn l) (positionsIn l) (length l) (fileAccount l)) q
+        ∙ positions-end afterForm (headIn l) (positionsIn l) (length l) (fileAccount l) (ap (λ (h : Head). h .answer) h) (held-part a e k l afterForm q afterHead h i g s)
+
+    past-form : (j : ℕ) → l ≡ take j (groups newest ++ (headFile a ++ heldFile a)) → Part (groups newest) (headFile a ++ heldFile a) j → loadAnswer l ≡ EndsEarly
+    past-form j q (within g r) = by-parts l ∙ form-ends (numberAt l 0) (headIn l) (positionsIn l) (length l) (fileAccount l) (form-part a e k l j g (q ∙ r))
+    past-form j q (past i g r) =
+        past-head (form-in a e k l (take i (headFile a ++ heldFile a)) (q ∙ r)) i
+        (after l (groups newest) (take i (headFile a ++ heldFile a)) 0 (q ∙ r)) (part (headFile a) (heldFile a) i g)
+
+  -- "every proper prefix of a good file is 16"
+  pub ends-early : (j : ℕ) → j < length (fileOf a) → loadAnswer (take j (fileOf a)) ≡ EndsEarly
+  unfolding fileOf
+  ends-early j h = past-form (take j (fileOf a)) j refl (part (groups newest) (headFile a ++ heldFile a) j h)
