@@ -87,7 +87,7 @@ head-whole : (a : Account) (next : ℕ) → headOf (ran (headValues (ledgerOf a)
 unfolding headOf headValues settingValues counterValues
 head-whole a next = refl
 
-at-most-64 : (n : ℕ) → n ≤ 64 → shorter n 64 ≡ n
+pub at-most-64 : (n : ℕ) → n ≤ 64 → shorter n 64 ≡ n
 at-most-64 n h = go (ltb n 64) refl
   where
     go : (t : Bool) → ltb n 64 ≡ t → pick t n 64 ≡ n

@@ -9,3 +9,5 @@ pub mod Plain
 pub mod Values
 pub mod Files
 pub mod ReadsBack
+pub mod OneFile
+pub mod SameBytes

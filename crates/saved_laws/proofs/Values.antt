@@ -36,7 +36,7 @@ use Rattle.saved_laws.proofs.Patterns.{plain-read}
 use Rattle.saved_laws.proofs.Fields.{Stands, Allowed}
 
 -- ---- of an account, number by number
-rate-allowed : (x : Float) → allowed Pattern (ratePattern x) ≡ true
+pub rate-allowed : (x : Float) → allowed Pattern (ratePattern x) ≡ true
 unfolding allowed ratePattern
 rate-allowed x = go (eqb (patternOf x) negativeZero) refl
   where
@@ -127,7 +127,7 @@ module _ (a : Account) (k : KeptAccount a) where
   )
 
 -- ---- numbers that may stand are those of their account
-allowed-length : (form : ℕ) (fs : List Field) (before : ℕ) (vs : List ℕ) → Allowed form fs before vs → length vs ≡ length fs
+pub allowed-length : (form : ℕ) (fs : List Field) (before : ℕ) (vs : List ℕ) → Allowed form fs before vs → length vs ≡ length fs
 allowed-length form [] before [] o = refl
 allowed-length form [] before (v ∷ vs) o = absurd o
 allowed-length form (f ∷ fs) before [] o = absurd o

@@ -1,0 +1,215 @@
+-- Every file that is taken is what writing its account gives; what is loaded is sound, and a refused file leaves zeros.
+use mathlib.Core.Path.{_≡_, refl, sym, _∙_, ap, subst}
+use Prim.Native.Nat.{ℕ, zero, suc, _+_, _-_, _<_, _≤_}
+use native.Mathlib.Omega.{arith}
+use mathlib.Core.Bool.{Bool, true, false}
+use mathlib.Core.List.{List, [], _∷_, _++_, map, append-nil}
+use lib.Dec.{eqb}
+use lib.IntN.{ℤ, pos}
+use lib.ListN.{length, getD, take, drop, replicate, length-append, length-map, length-replicate, drop-of-length-le}
+use lib.Seq.{drop-length}
+use borrow.Author.Tests.{eqb-true}
+use Rattle.answer.specs.Choice.{pick, all}
+use Rattle.answer.specs.Numbers.{isDone, unless, orLater}
+use Rattle.answer.proofs.Answers.{done-is, passed, passed-both}
+use Rattle.answer.specs.declared.Answer.{Answer}
+use Rattle.answer.specs.declared.Answer.the-variants.{Done, Unsound, LeftOver}
+use Rattle.position.specs.declared.position.Position.{Position}
+use Rattle.position.specs.Rows.{keyOf, held, avg, realized, total}
+use Rattle.position.specs.Fills.{sound}
+use Rattle.table.specs.declared.table.Table.{Table}
+use Rattle.table.specs.Rows.{columnsOf, paddedColumn, emptyTable, Full}
+use Rattle.table.specs.Inner.Places.{shorter}
+use Rattle.account.specs.declared.account.Account.{Account}
+use Rattle.account.specs.declared.change.Changed.{Changed}
+use Rattle.account.specs.Account.{heldIn, tableOf, soundTable, soundAccount}
+use Rattle.account.specs.Calls.{answered, zeroAccount}
+use Rattle.account.specs.Inner.Account.{ledgerOf}
+use Rattle.account.proofs.Columns.{sound-rows}
+use Rattle.account.proofs.Tables.{table-held}
+use Rattle.account.proofs.SoundAccounts.{account-table, account-settings}
+use Rattle.account_bytes.proofs.SettingsKept.{NoNan, good-rates}
+use Rattle.seven_bit.specs.declared.Number.{Number}
+use Rattle.seven_bit.specs.Groups.{groups}
+use Rattle.seven_bit.specs.Placed.{numberAt}
+use Rattle.seven_bit.proofs.Groups.{Octets}
+use Rattle.saved_form.specs.Fields.{newest, headFields}
+use Rattle.saved_form.specs.Values.{headValues, settingsOf, accountOf}
+use Rattle.saved_form.specs.Writing.{fieldsFile, positionsFile, fileOf}
+use Rattle.loading.specs.declared.head.Head.{Head}
+use Rattle.loading.specs.declared.positions.Positions.{Positions}
+use Rattle.loading.specs.Reading.{Run, fieldsRead, headOf, headRead, positionRead, Rows, noRows, withRow, thenRows, positionsRead, filed, tableRead, headIn, positionsIn}
+use Rattle.loading.specs.Loading.{fileAccount, loadAnswer, notLoaded, loaded}
+use Rattle.saved_laws.proofs.Places.{Shortest, number-one}
+use Rattle.saved_laws.proofs.Fields.{Allowed, Whole, fields-one}
+use Rattle.saved_laws.proofs.Positions.{Rolled, positions-one}
+use Rattle.saved_laws.proofs.Values.{allowed-length, few, head-one}
+use Rattle.saved_laws.proofs.Files.{at-most-64}
+use Rattle.saved_laws.proofs.ReadsBack.{judgement, by-parts, loaded-done}
+
+-- ---- what a file that is taken passed
+pub record Passed (l : List ℕ) : Type 0 where
+  pub form : numberAt l 0 .answer ≡ Done
+  pub newest : numberAt l 0 .value ≡ newest
+  pub head : headIn l .answer ≡ Done
+  pub positions : positionsIn l .answer ≡ Done
+  pub end : positionsIn l .next ≡ length l
+  pub sound : soundAccount (fileAccount l) ≡ true
+
+pub taken : (l : List ℕ) → loadAnswer l ≡ Done → Passed l
+taken l e =
+    let d : isDone (judgement (numberAt l 0) (headIn l) (positionsIn l) (length l) (fileAccount l)) ≡ true = ap isDone (sym (by-parts l) ∙ e) in
+    let a = passed-both (numberAt l 0 .answer) _ d in
+    let b = passed (eqb (numberAt l 0 .value) newest) Unsound _ refl (a .1) in
+    let c = passed-both (headIn l .answer) _ (b .1) in
+    let p = passed-both (positionsIn l .answer) _ (c .1) in
+    let n = passed (eqb (positionsIn l .next) (length l)) LeftOver _ refl (p .1) in
+    let s = passed (soundAccount (fileAccount l)) Unsound Done refl (n .1) in
+    record {
+      form = done-is (numberAt l 0 .answer) (a .0);
+      newest = eqb-true (numberAt l 0 .value) newest (b .0);
+      head = done-is (headIn l .answer) (c .0);
+      positions = done-is (positionsIn l .answer) (p .0);
+      end = eqb-true (positionsIn l .next) (length l) (n .0);
+      sound = s .0;
+    }
+
+-- ---- the table of what was read
+rows-by : (k : ℕ) (p : Position) (r : Rows) (w : Rows) (t : Bool) → length (r .rows) ≤ k → w .rows ≡ [] → length (pick t (withRow p r) w .rows) ≤ suc k
+rows-by k p r w true h e = omega arith
+rows-by k p r w false h e = omega (arith, ap length e)
+
+rows-few : (k : ℕ) (l : List ℕ) (form at : ℕ) → length (positionsRead k l form at .rows) ≤ k
+unfolding positionsRead thenRows
+rows-few zero l form at = omega arith
+rows-few (suc k) l form at =
+    let e = positionRead l form at in
+    rows-by k (e .position) (positionsRead k l form (e .next)) (noRows (e .answer) (e .next)) (isDone (e .answer)) (rows-few k l form (e .next)) refl
+
+padded-length : {A P : Type 0} (z : A) (g : P → A) (ps : List P) → length ps ≤ 64 → length (paddedColumn 64 z (map g ps)) ≡ 64
+padded-length z g ps h = simp (length-append, length-replicate, length-map) (omega arith)
+
+table-full : (ps : List Position) → length ps ≤ 64 → Full (columnsOf (tableOf ps))
+unfolding tableOf
+table-full ps h = record {
+  symbol = padded-length 0 keyOf ps h;
+  quantity = padded-length (pos 0) held ps h;
+  average = padded-length (pos 0) avg ps h;
+  realized = padded-length (pos 0) realized ps h;
+  total = padded-length (pos 0) total ps h;
+}
+
+table-count : (ps : List Position) → tableOf ps .count ≡ length ps
+unfolding tableOf
+table-count ps = refl
+
+rows-sound : (ps : List Position) → length ps ≤ 64 → soundTable (tableOf ps) ≡ true → all sound ps ≡ true
+rows-sound ps h e = sym (ap (all sound) (table-held ps h)) ∙ sound-rows (tableOf ps .count) (columnsOf (tableOf ps)) (table-full ps h) e
+
+-- ---- the file of what was read
+module _ (l : List ℕ) where
+  joined : (n m : ℕ) (vs : List ℕ) (ps : List Position) → l ≡ groups newest ++ drop n l → drop n l ≡ fieldsFile newest headFields 0 vs ++ drop m l → drop m l ≡ positionsFile ps
+      → headValues (ledgerOf (accountOf vs (tableOf ps))) ≡ vs → heldIn (tableOf ps) ≡ ps → fileOf (accountOf vs (tableOf ps)) ≡ l
+  unfolding fileOf accountOf
+  joined n m vs ps f h p v t =
+      let w : fileOf (accountOf vs (tableOf ps)) ≡ groups newest ++ (fieldsFile newest headFields 0 vs ++ positionsFile ps) = ap (λ (us : List ℕ). groups newest ++ (fieldsFile newest headFields 0 us ++ positionsFile (heldIn (tableOf ps)))) v ∙ ap (λ (qs : List Position). groups newest ++ (fieldsFile newest headFields 0 vs ++ positionsFile qs)) t in
+      w ∙ sym (f ∙ ap (λ (x : List ℕ). groups newest ++ x) (h ∙ ap (λ (x : List ℕ). fieldsFile newest headFields 0 vs ++ x) p))
+
+  module _ (o : Octets l) (e : loadAnswer l ≡ Done) where
+    abbrev passes : Passed l
+    passes = taken l e
+
+    abbrev from : ℕ
+    from = numberAt l 0 .next
+
+    abbrev run : Run
+    run = fieldsRead l newest headFields 0 from
+
+    abbrev places : Rows
+    places = positionsRead (getD (run .values) 22 0) l newest (run .next)
+
+    form-first : l ≡ groups newest ++ drop from l
+    form-first = number-one l 0 o (passes .form) .same ∙ ap (λ (v : ℕ). groups v ++ drop from l) (passes .newest)
+
+    run-done : run .answer ≡ Done
+    unfolding headRead headOf
+    run-done = sym (ap (λ (v : ℕ). fieldsRead l v headFields 0 from .answer) (passes .newest)) ∙ passes .head
+
+    run-whole : Whole l newest headFields 0 from run
+    run-whole = fields-one l newest headFields 0 from o run-done
+
+    head-is : headIn l ≡ record { answer = run .answer; next = run .next; values = run .values }
+    unfolding headRead headOf headFields
+    head-is =
+        let n : length (run .values) ≡ 23 = allowed-length newest headFields 0 (run .values) (run-whole .allowed) in
+        let z : 23 - length (run .values) ≡ 0 = omega arith in
+        ap (λ (v : ℕ). headRead l v from) (passes .newest)
+        ∙ ap (λ (us : List ℕ). record { answer = run .answer; next = run .next; values = us }) (ap (λ (k : ℕ). run .values ++ replicate k 0) z ∙ append-nil (run .values))
+
+    at-most : getD (run .values) 22 0 ≤ 64
+    at-most = few (run .values) emptyTable (run-whole .allowed)
+
+    positions-are : positionsIn l ≡ filed places
+    unfolding tableRead
+    positions-are =
+        ap (λ (h : Head). tableRead l (numberAt l 0 .value) (getD (h .values) 22 0) (h .next)) head-is
+        ∙ ap (λ (v : ℕ). tableRead l v (getD (run .values) 22 0) (run .next)) (passes .newest)
+        ∙ ap (λ (k : ℕ). filed (positionsRead k l newest (run .next))) (at-most-64 (getD (run .values) 22 0) at-most)
+
+    abbrev held-rows : List Position
+    held-rows = places .rows
+
+    account-is : fileAccount l ≡ accountOf (run .values) (tableOf held-rows)
+    unfolding fileAccount filed
+    account-is =
+        ap (λ (h : Head). accountOf (h .values) (positionsIn l .table)) head-is
+        ∙ ap (λ (p : Positions). accountOf (run .values) (p .table)) positions-are
+
+    account-sound : soundAccount (accountOf (run .values) (tableOf held-rows)) ≡ true
+    account-sound = sym (ap soundAccount account-is) ∙ passes .sound
+
+    short : length held-rows ≤ 64
+    short = omega (arith, rows-few (getD (run .values) 22 0) l newest (run .next), at-most)
+
+    each-sound : all sound held-rows ≡ true
+    unfolding accountOf
+    each-sound = rows-sound held-rows short (account-table (accountOf (run .values) (tableOf held-rows)) account-sound)
+
+    rolled : Rolled l (getD (run .values) 22 0) (run .next) places
+    unfolding filed
+    rolled = positions-one (getD (run .values) 22 0) l (run .next) o (sym (ap (λ (p : Positions). p .answer) positions-are) ∙ passes .positions) each-sound
+
+    last-first : drop (run .next) l ≡ positionsFile held-rows
+    unfolding filed
+    last-first =
+        let n : places .next ≡ length l = sym (ap (λ (p : Positions). p .next) positions-are) ∙ passes .end in
+        rolled .same ∙ ap (λ (k : ℕ). positionsFile held-rows ++ drop k l) n ∙ ap (λ (x : List ℕ). positionsFile held-rows ++ x) (drop-length l) ∙ append-nil (positionsFile held-rows)
+
+    values-are : headValues (ledgerOf (accountOf (run .values) (tableOf held-rows))) ≡ run .values
+    unfolding accountOf
+    values-are =
+        head-one (run .values) (tableOf held-rows) (run-whole .allowed)
+        (good-rates (settingsOf (run .values)) (account-settings (accountOf (run .values) (tableOf held-rows)) account-sound))
+        (table-count held-rows ∙ rolled .count)
+
+    -- "every accepted file of the newest form is what writing its account gives"
+    pub one-file : fileOf (fileAccount l) ≡ l
+    one-file = ap fileOf account-is ∙ joined from (run .next) (run .values) held-rows form-first (run-whole .same) last-first values-are (table-held held-rows short)
+
+-- ---- what is loaded, and what is not
+pub loads-sound : (l : List ℕ) → loadAnswer l ≡ Done → soundAccount (fileAccount l) ≡ true
+loads-sound l e = taken l e .sound
+
+-- "A refused load: zeros by value"
+pub refused-zeros : (l : List ℕ) → isDone (loadAnswer l) ≡ false → loaded l ≡ answered (loadAnswer l) zeroAccount
+unfolding loaded
+refused-zeros l e = rw e
+
+-- either way the answer is told, and an account that is not all zeros is sound
+pub loaded-answer : (l : List ℕ) → loaded l .answer ≡ loadAnswer l
+unfolding loaded
+loaded-answer l = go (isDone (loadAnswer l)) refl
+  where
+    go : (t : Bool) → isDone (loadAnswer l) ≡ t → pick t (answered Done (fileAccount l)) (notLoaded (loadAnswer l)) .answer ≡ loadAnswer l
+    go true e = sym (done-is (loadAnswer l) e)
+    go false e = refl
