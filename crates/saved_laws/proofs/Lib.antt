@@ -11,3 +11,5 @@ pub mod Files
 pub mod ReadsBack
 pub mod OneFile
 pub mod SameBytes
+pub mod Longest
+pub mod Cases

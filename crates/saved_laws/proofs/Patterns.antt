@@ -15,7 +15,7 @@ use Rattle.word_bytes.specs.Numbers.{floatOf, patternOf}
 use Rattle.word_bytes.proofs.Numbers.{float-pattern, pattern-float}
 use Rattle.saved_laws.specs.Zeros.{plainZero}
 
-zero-pattern : (s : Bool) (e : ℤ) → patternOf (fin s 0 e) ≡ pick s (2 ^ 63) 0
+pub zero-pattern : (s : Bool) (e : ℤ) → patternOf (fin s 0 e) ≡ pick s (2 ^ 63) 0
 unfolding toBits
 zero-pattern true e = simp (zero-mul, zero-div)
 zero-pattern false e = simp (zero-mul, zero-div)
