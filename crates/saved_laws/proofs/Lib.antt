@@ -12,4 +12,5 @@ pub mod ReadsBack
 pub mod OneFile
 pub mod SameBytes
 pub mod Longest
+pub mod Fullest
 pub mod Cases
