@@ -10,6 +10,7 @@ use Rattle.answer.specs.Numbers.{isDone}
 use Rattle.answer.proofs.Answers.{done-is}
 use Rattle.answer.specs.declared.Answer.{Answer}
 use Rattle.answer.specs.declared.Answer.the-variants.{Done, Unsound, EndsEarly}
+use Rattle.word_bytes.proofs.Words.{Words}
 use Rattle.seven_bit.specs.declared.Number.{Number}
 use Rattle.seven_bit.specs.Groups.{groups}
 use Rattle.seven_bit.specs.Placed.{numberAt}
@@ -19,7 +20,7 @@ use Rattle.saved_form.specs.declared.field.Kind.{Kind}
 use Rattle.saved_form.specs.Fields.{allowed, hasField}
 use Rattle.saved_form.specs.Writing.{fieldFile, fieldsFile}
 use Rattle.loading.specs.Reading.{Run, refusedAt, thenNumber, judged, fieldRead, ended, withValue, thenRun, fieldsRead}
-use Rattle.saved_laws.proofs.Places.{after, Part, within, past, part, apart, was, number-back, number-part, Shortest, number-one}
+use Rattle.saved_laws.proofs.Places.{after, Part, within, past, part, apart, clash, was, number-back, number-part, Shortest, number-one}
 
 -- a number that may stand where its field does, and 0 where it does not
 abbrev pub Stands : Bool → Kind → ℕ → Type 0
@@ -31,6 +32,23 @@ Allowed form [] before [] = 0 ≤ 0
 Allowed form [] before (v ∷ vs) = ⊥
 Allowed form (f ∷ fs) before [] = ⊥
 Allowed form (f ∷ fs) before (v ∷ vs) = Stands (hasField form f before) (f .kind) v × Allowed form fs v vs
+
+-- each of them fits, and there are as many as fields
+stands-small : (t : Bool) (k : Kind) (v : ℕ) → Stands t k v → v < 2 ^ 64
+stands-small true k v s = s .1
+stands-small false k v s = omega arith
+
+pub allowed-words : (form : ℕ) (fs : List Field) (before : ℕ) (vs : List ℕ) → Allowed form fs before vs → Words vs
+allowed-words form [] before [] o = omega arith
+allowed-words form [] before (v ∷ vs) o = absurd o
+allowed-words form (f ∷ fs) before [] o = absurd o
+allowed-words form (f ∷ fs) before (v ∷ vs) o = (stands-small (hasField form f before) (f .kind) v (o .0), allowed-words form fs v vs (o .1))
+
+pub allowed-length : (form : ℕ) (fs : List Field) (before : ℕ) (vs : List ℕ) → Allowed form fs before vs → length vs ≡ length fs
+allowed-length form [] before [] o = refl
+allowed-length form [] before (v ∷ vs) o = absurd o
+allowed-length form (f ∷ fs) before [] o = absurd o
+allowed-length form (f ∷ fs) before (v ∷ vs) o = ap suc (allowed-length form fs v vs (o .1))
 
 -- ---- one field
 judged-back : (l rest : List ℕ) (k : Kind) (at v : ℕ) → allowed k v ≡ true → v < 2 ^ 64 → drop at l ≡ groups v ++ rest → judged k at (numberAt l at) ≡ was v (at + length (groups v))
@@ -101,7 +119,7 @@ judged-by : (k : Kind) (at : ℕ) (n : Number) (w : Answer) (d t : Bool) → w �
     → (n .answer ≡ Done) × (allowed k (n .value) ≡ true) × (pick d (pick t n (refusedAt Unsound at)) n ≡ n)
 judged-by k at n w true true q e f h = (h, f, refl)
 judged-by k at n w true false q e f h = apart Unsound Done h (λ z. omega arith)
-judged-by k at n w false t q e f h = let z : false ≡ true = sym e ∙ ap isDone (q ∙ h) in apart Unsound Done (let n : _≡_ {A = ℕ} 0 1 = cc in absurd (omega arith)) (λ z. omega arith)
+judged-by k at n w false t q e f h = clash (isDone w) (ap isDone (q ∙ h)) e
 
 pub judged-done : (k : Kind) (at : ℕ) (n : Number) → judged k at n .answer ≡ Done → (n .answer ≡ Done) × (allowed k (n .value) ≡ true) × (judged k at n ≡ n)
 unfolding judged
@@ -131,7 +149,7 @@ pub record Whole (l : List ℕ) (form : ℕ) (fs : List Field) (before at : ℕ)
 then-by : (n : Number) (more : Number → Run) (d : Bool) → isDone (n .answer) ≡ d → pick d (withValue (n .value) (more n)) (ended (n .answer) (n .next)) .answer ≡ Done
     → (n .answer ≡ Done) × (more n .answer ≡ Done) × (pick d (withValue (n .value) (more n)) (ended (n .answer) (n .next)) ≡ withValue (n .value) (more n))
 then-by n more true e h = (done-is (n .answer) e, h, refl)
-then-by n more false e h = let z : false ≡ true = sym e ∙ ap isDone h in let n : _≡_ {A = ℕ} 0 1 = cc in absurd (omega arith)
+then-by n more false e h = clash (isDone (n .answer)) (ap isDone h) e
 
 pub then-done : (n : Number) (more : Number → Run) → thenRun n more .answer ≡ Done → (n .answer ≡ Done) × (more n .answer ≡ Done) × (thenRun n more ≡ withValue (n .value) (more n))
 then-done n more h = then-by n more (isDone (n .answer)) refl h

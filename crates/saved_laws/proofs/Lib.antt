@@ -9,6 +9,7 @@ pub mod Plain
 pub mod Values
 pub mod Files
 pub mod ReadsBack
+pub mod Kept
 pub mod OneFile
 pub mod SameBytes
 pub mod Longest

@@ -38,7 +38,7 @@ use Rattle.saved_form.specs.Fields.{newest, headFields, positionFields, negativ
 use Rattle.saved_form.specs.Texts.{textOf, symbolFile}
 use Rattle.saved_form.specs.Values.{ratePattern, settingValues, counterValues, headValues}
 use Rattle.saved_form.specs.Writing.{fieldFile, fieldsFile, positionFile, positionsFile, fileOf}
-use Rattle.saved_laws.proofs.Texts.{Text, clash}
+use Rattle.saved_laws.proofs.Texts.{Text}
 use Rattle.saved_laws.proofs.Patterns.{zero-pattern}
 use Rattle.saved_laws.proofs.Positions.{Fit, Fits}
 use Rattle.saved_laws.proofs.Files.{rows-count, rows-fit}

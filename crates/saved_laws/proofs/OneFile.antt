@@ -29,6 +29,7 @@ use Rattle.account.proofs.Columns.{sound-rows}
 use Rattle.account.proofs.Tables.{table-held}
 use Rattle.account.proofs.SoundAccounts.{account-table, account-settings}
 use Rattle.account_bytes.proofs.SettingsKept.{NoNan, good-rates}
+use Rattle.account_bytes.proofs.AccountKept.{KeptAccount}
 use Rattle.seven_bit.specs.declared.Number.{Number}
 use Rattle.seven_bit.specs.Groups.{groups}
 use Rattle.seven_bit.specs.Placed.{numberAt}
@@ -41,16 +42,17 @@ use Rattle.loading.specs.declared.positions.Positions.{Positions}
 use Rattle.loading.specs.Reading.{Run, fieldsRead, headOf, headRead, positionRead, Rows, noRows, withRow, thenRows, positionsRead, filed, tableRead, headIn, positionsIn}
 use Rattle.loading.specs.Loading.{fileAccount, loadAnswer, notLoaded, loaded}
 use Rattle.saved_laws.proofs.Places.{Shortest, number-one}
-use Rattle.saved_laws.proofs.Fields.{Allowed, Whole, fields-one}
+use Rattle.saved_laws.proofs.Fields.{Allowed, allowed-length, allowed-words, Whole, fields-one}
 use Rattle.saved_laws.proofs.Positions.{Rolled, positions-one}
-use Rattle.saved_laws.proofs.Values.{allowed-length, few, head-one}
+use Rattle.saved_laws.proofs.Kept.{table-full, kept-account}
+use Rattle.saved_laws.proofs.Values.{few, head-one}
 use Rattle.saved_laws.proofs.Files.{at-most-64}
 use Rattle.saved_laws.proofs.ReadsBack.{judgement, by-parts, loaded-done}
 
 -- ---- what a file that is taken passed
 pub record Passed (l : List ℕ) : Type 0 where
   pub form : numberAt l 0 .answer ≡ Done
-  pub newest : numberAt l 0 .value ≡ newest
+  pub known : numberAt l 0 .value ≡ newest
   pub head : headIn l .answer ≡ Done
   pub positions : positionsIn l .answer ≡ Done
   pub end : positionsIn l .next ≡ length l
@@ -67,7 +69,7 @@ taken l e =
     let s = passed (soundAccount (fileAccount l)) Unsound Done refl (n .1) in
     record {
       form = done-is (numberAt l 0 .answer) (a .0);
-      newest = eqb-true (numberAt l 0 .value) newest (b .0);
+      known = eqb-true (numberAt l 0 .value) newest (b .0);
       head = done-is (headIn l .answer) (c .0);
       positions = done-is (positionsIn l .answer) (p .0);
       end = eqb-true (positionsIn l .next) (length l) (n .0);
@@ -85,19 +87,6 @@ rows-few zero l form at = omega arith
 rows-few (suc k) l form at =
     let e = positionRead l form at in
     rows-by k (e .position) (positionsRead k l form (e .next)) (noRows (e .answer) (e .next)) (isDone (e .answer)) (rows-few k l form (e .next)) refl
-
-padded-length : {A P : Type 0} (z : A) (g : P → A) (ps : List P) → length ps ≤ 64 → length (paddedColumn 64 z (map g ps)) ≡ 64
-padded-length z g ps h = simp (length-append, length-replicate, length-map) (omega arith)
-
-table-full : (ps : List Position) → length ps ≤ 64 → Full (columnsOf (tableOf ps))
-unfolding tableOf
-table-full ps h = record {
-  symbol = padded-length 0 keyOf ps h;
-  quantity = padded-length (pos 0) held ps h;
-  average = padded-length (pos 0) avg ps h;
-  realized = padded-length (pos 0) realized ps h;
-  total = padded-length (pos 0) total ps h;
-}
 
 table-count : (ps : List Position) → tableOf ps .count ≡ length ps
 unfolding tableOf
@@ -129,11 +118,11 @@ module _ (l : List ℕ) where
     places = positionsRead (getD (run .values) 22 0) l newest (run .next)
 
     form-first : l ≡ groups newest ++ drop from l
-    form-first = number-one l 0 o (passes .form) .same ∙ ap (λ (v : ℕ). groups v ++ drop from l) (passes .newest)
+    form-first = number-one l 0 o (passes .form) .same ∙ ap (λ (v : ℕ). groups v ++ drop from l) (passes .known)
 
     run-done : run .answer ≡ Done
     unfolding headRead headOf
-    run-done = sym (ap (λ (v : ℕ). fieldsRead l v headFields 0 from .answer) (passes .newest)) ∙ passes .head
+    run-done = sym (ap (λ (v : ℕ). fieldsRead l v headFields 0 from .answer) (passes .known)) ∙ passes .head
 
     run-whole : Whole l newest headFields 0 from run
     run-whole = fields-one l newest headFields 0 from o run-done
@@ -143,7 +132,7 @@ module _ (l : List ℕ) where
     head-is =
         let n : length (run .values) ≡ 23 = allowed-length newest headFields 0 (run .values) (run-whole .allowed) in
         let z : 23 - length (run .values) ≡ 0 = omega arith in
-        ap (λ (v : ℕ). headRead l v from) (passes .newest)
+        ap (λ (v : ℕ). headRead l v from) (passes .known)
         ∙ ap (λ (us : List ℕ). record { answer = run .answer; next = run .next; values = us }) (ap (λ (k : ℕ). run .values ++ replicate k 0) z ∙ append-nil (run .values))
 
     at-most : getD (run .values) 22 0 ≤ 64
@@ -153,7 +142,7 @@ module _ (l : List ℕ) where
     unfolding tableRead
     positions-are =
         ap (λ (h : Head). tableRead l (numberAt l 0 .value) (getD (h .values) 22 0) (h .next)) head-is
-        ∙ ap (λ (v : ℕ). tableRead l v (getD (run .values) 22 0) (run .next)) (passes .newest)
+        ∙ ap (λ (v : ℕ). tableRead l v (getD (run .values) 22 0) (run .next)) (passes .known)
         ∙ ap (λ (k : ℕ). filed (positionsRead k l newest (run .next))) (at-most-64 (getD (run .values) 22 0) at-most)
 
     abbrev held-rows : List Position
@@ -185,12 +174,20 @@ module _ (l : List ℕ) where
         let n : places .next ≡ length l = sym (ap (λ (p : Positions). p .next) positions-are) ∙ passes .end in
         rolled .same ∙ ap (λ (k : ℕ). positionsFile held-rows ++ drop k l) n ∙ ap (λ (x : List ℕ). positionsFile held-rows ++ x) (drop-length l) ∙ append-nil (positionsFile held-rows)
 
+    rates-numbers : NoNan (settingsOf (run .values))
+    unfolding accountOf
+    rates-numbers = good-rates (settingsOf (run .values)) (account-settings (accountOf (run .values) (tableOf held-rows)) account-sound)
+
     values-are : headValues (ledgerOf (accountOf (run .values) (tableOf held-rows))) ≡ run .values
     unfolding accountOf
     values-are =
-        head-one (run .values) (tableOf held-rows) (run-whole .allowed)
-        (good-rates (settingsOf (run .values)) (account-settings (accountOf (run .values) (tableOf held-rows)) account-sound))
-        (table-count held-rows ∙ rolled .count)
+        head-one (run .values) (tableOf held-rows) (run-whole .allowed) rates-numbers (table-count held-rows ∙ rolled .count)
+
+    -- the fields of what was read fit their widths
+    pub loads-kept : KeptAccount (fileAccount l)
+    loads-kept =
+        subst KeptAccount (sym account-is)
+        (kept-account (run .values) held-rows (allowed-words newest headFields 0 (run .values) (run-whole .allowed)) rates-numbers short (rolled .kept))
 
     -- "every accepted file of the newest form is what writing its account gives"
     pub one-file : fileOf (fileAccount l) ≡ l

@@ -46,7 +46,10 @@ octets-take zero l o = omega arith
 octets-take (suc n) [] o = o
 octets-take (suc n) (b ∷ l) o = (o .0, octets-take n l (o .1))
 
--- ---- answers that differ
+-- ---- tests and answers that differ
+pub clash : {A : Type 0} (b : Bool) → b ≡ true → b ≡ false → A
+clash b p q = absurd (let z : _≡_ {A = Bool} true false = sym p ∙ q in let n : _≡_ {A = ℕ} 0 1 = cc in omega arith)
+
 pub apart : {A : Type 0} (a b : Answer) → a ≡ b → (numberOf a ≡ numberOf b → ⊥) → A
 apart a b e f = absurd (f (ap numberOf e))
 

@@ -17,16 +17,18 @@ use Rattle.position.specs.Symbols.{goodSymbol}
 use Rattle.position.specs.Fills.{sound, soundNumbers}
 use Rattle.seven_bit.specs.declared.Number.{Number}
 use Rattle.seven_bit.specs.Signed.{folded, unfolded}
-use Rattle.seven_bit.proofs.Signed.{unfolded-folded, folded-unfolded}
+use Rattle.seven_bit.proofs.Signed.{unfolded-folded, folded-unfolded, unfolded-fits}
+use Rattle.word_bytes.proofs.Words.{Words}
+use Rattle.account_bytes.proofs.Lists.{Numbers, word-lt}
 use Rattle.seven_bit.proofs.Groups.{Octets}
 use Rattle.saved_form.specs.Fields.{newest, positionFields, allowed, follows, hasField}
 use Rattle.saved_form.specs.Texts.{symbolFile}
 use Rattle.saved_form.specs.Writing.{fieldsFile, positionFile, positionsFile}
 use Rattle.loading.specs.declared.entry.Entry.{Entry}
 use Rattle.loading.specs.Reading.{Run, fieldsRead, noEntry, signedIn, entryOf, symbolRead, entryAfter, positionRead, Rows, noRows, withRow, thenRows, positionsRead}
-use Rattle.saved_laws.proofs.Places.{after, Part, within, past, part, was}
-use Rattle.saved_laws.proofs.Fields.{Allowed, ran, fields-back, fields-part, Whole, fields-one}
-use Rattle.saved_laws.proofs.Texts.{Text, clash}
+use Rattle.saved_laws.proofs.Places.{after, Part, within, past, part, clash, was}
+use Rattle.saved_laws.proofs.Fields.{Allowed, allowed-words, ran, fields-back, fields-part, Whole, fields-one}
+use Rattle.saved_laws.proofs.Texts.{Text}
 use Rattle.saved_laws.proofs.Symbols.{symbol-back, symbol-part, Spelt, symbol-one}
 
 -- ---- one position
@@ -137,8 +139,17 @@ values-back s (a ∷ (b ∷ (c ∷ []))) o = absurd (o .1 .1 .1)
 values-back s (a ∷ (b ∷ (c ∷ (d ∷ [])))) o = simp folded-unfolded
 values-back s (a ∷ (b ∷ (c ∷ (d ∷ (e ∷ vs))))) o = absurd (o .1 .1 .1 .1)
 
+signed-numbers : (vs : List ℕ) → Words vs → Numbers (unfolded (getD vs 0 0) ∷ unfolded (getD vs 1 0) ∷ unfolded (getD vs 2 0) ∷ unfolded (getD vs 3 0) ∷ [])
+signed-numbers vs w =
+    (unfolded-fits (getD vs 0 0) (word-lt vs 0 w),
+    (unfolded-fits (getD vs 1 0) (word-lt vs 1 w),
+    (unfolded-fits (getD vs 2 0) (word-lt vs 2 w),
+    (unfolded-fits (getD vs 3 0) (word-lt vs 3 w),
+    omega arith))))
+
 pub record Filed (l : List ℕ) (at : ℕ) (e : Entry) : Type 0 where
   pub small : keyOf (e .position) < 2 ^ 64
+  pub numbers : Numbers (numbersOf (e .position))
   pub same : drop at l ≡ positionFile (e .position) ++ drop (e .next) l
 
 module _ (l : List ℕ) (at : ℕ) (o : Octets l) where
@@ -153,6 +164,7 @@ module _ (l : List ℕ) (at : ℕ) (o : Octets l) where
       let y : List ℕ = fieldsFile newest positionFields 0 (r .values) in
       record {
         small = s .small;
+        numbers = signed-numbers (r .values) (allowed-words newest positionFields 0 (r .values) (q .allowed));
         same = s .same ∙ ap (λ (m : List ℕ). symbolFile (n .value) ++ m) (q .same) ∙ sym (append-assoc (symbolFile (n .value)) y (drop (r .next) l)) ∙ ap (λ (vs : List ℕ). (symbolFile (n .value) ++ fieldsFile newest positionFields 0 vs) ++ drop (r .next) l) (sym v);
       }
 
@@ -183,7 +195,13 @@ module _ (l : List ℕ) (at : ℕ) (o : Octets l) where
   unfolding positionRead entryAfter
   position-one d g = position-one-by (symbolRead l at) (isDone (symbolRead l at .answer)) (symbol-one l at o) refl d g
 
+-- each with a symbol and numbers that fit
+abbrev pub Kept : List Position → Type 0
+Kept [] = 0 ≤ 0
+Kept (p ∷ ps) = (keyOf p < 2 ^ 64) × Numbers (numbersOf p) × Kept ps
+
 pub record Rolled (l : List ℕ) (k at : ℕ) (r : Rows) : Type 0 where
+  pub kept : Kept (r .rows)
   pub count : length (r .rows) ≡ k
   pub same : drop at l ≡ positionsFile (r .rows) ++ drop (r .next) l
 
@@ -199,6 +217,7 @@ rows-done e more h = then-by e more (isDone (e .answer)) refl h
 rolled-more : (l : List ℕ) (k at : ℕ) (e : Entry) (r : Rows) → Filed l at e → Rolled l k (e .next) r → Rolled l (suc k) at (withRow (e .position) r)
 unfolding positionsFile
 rolled-more l k at e r f w = record {
+  kept = (f .small, f .numbers, w .kept);
   count = ap suc (w .count);
   same = f .same ∙ ap (λ (m : List ℕ). positionFile (e .position) ++ m) (w .same) ∙ sym (append-assoc (positionFile (e .position)) (positionsFile (r .rows)) (drop (r .next) l));
 }
@@ -209,7 +228,7 @@ sound-symbol p e = both-true (goodSymbol (keyOf p)) (soundNumbers (held p) (avg 
 
 pub positions-one : (k : ℕ) (l : List ℕ) (at : ℕ) → Octets l → positionsRead k l newest at .answer ≡ Done → all sound (positionsRead k l newest at .rows) ≡ true → Rolled l k at (positionsRead k l newest at)
 unfolding positionsRead positionsFile
-positions-one zero l at o h s = record { count = refl; same = refl }
+positions-one zero l at o h s = record { kept = omega arith; count = refl; same = refl }
 positions-one (suc k) l at o h s =
     let e = positionRead l newest at in
     let d = rows-done e (λ e. positionsRead k l newest (e .next)) h in

@@ -21,8 +21,8 @@ use Rattle.seven_bit.specs.Placed.{numberAt}
 use Rattle.seven_bit.proofs.Groups.{Octets}
 use Rattle.saved_form.specs.Texts.{textOf, symbolFile, goodLength, spelt}
 use Rattle.loading.specs.Reading.{refusedAt, thenNumber, textRead, symbolRead}
-use Rattle.saved_laws.proofs.Places.{after, Part, within, past, part, octets-drop, octets-take, apart, was, number-back, number-part, Shortest, number-one}
-use Rattle.saved_laws.proofs.Texts.{Text, text-of, Spelling, spelling, clash}
+use Rattle.saved_laws.proofs.Places.{after, Part, within, past, part, octets-drop, octets-take, apart, clash, was, number-back, number-part, Shortest, number-one}
+use Rattle.saved_laws.proofs.Texts.{Text, text-of, Spelling, spelling}
 
 -- ---- bytes of a text
 text-back : (l rest t : List ℕ) (n at : ℕ) → length t ≡ n → 1 ≤ n → drop at l ≡ t ++ rest → textRead l n at ≡ was (spelt t) (at + n)

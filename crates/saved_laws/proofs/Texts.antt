@@ -15,9 +15,7 @@ use Rattle.position.specs.Symbols.{bytesFrom, symbolBytes, leading, ofBytes, go
 use Rattle.position.proofs.Symbols.{bytes-give-the-number}
 use Rattle.seven_bit.proofs.Groups.{Octets}
 use Rattle.saved_form.specs.Texts.{unpadded, textOf, spelt}
-
-pub clash : {A : Type 0} (b : Bool) → b ≡ true → b ≡ false → A
-clash b p q = absurd (let z : _≡_ {A = Bool} true false = sym p ∙ q in let n : _≡_ {A = ℕ} 0 1 = cc in omega arith)
+use Rattle.saved_laws.proofs.Places.{clash}
 
 -- ---- zeros
 zeros-at : (l : List ℕ) (i : ℕ) → zeros l ≡ true → getD l i 0 ≡ 0

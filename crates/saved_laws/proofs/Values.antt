@@ -33,7 +33,7 @@ use Rattle.saved_form.specs.Fields.{newest, since, headFields, negativeZero, al
 use Rattle.saved_form.specs.Values.{ratePattern, settingValues, counterValues, headValues, settingsOf, countersOf, seriesOf, accountOf}
 use Rattle.saved_laws.specs.Zeros.{plainZero, plainSettings, plainAccount}
 use Rattle.saved_laws.proofs.Patterns.{plain-read}
-use Rattle.saved_laws.proofs.Fields.{Stands, Allowed}
+use Rattle.saved_laws.proofs.Fields.{Stands, Allowed, allowed-length}
 
 -- ---- of an account, number by number
 pub rate-allowed : (x : Float) → allowed Pattern (ratePattern x) ≡ true
@@ -127,12 +127,6 @@ module _ (a : Account) (k : KeptAccount a) where
   )
 
 -- ---- numbers that may stand are those of their account
-pub allowed-length : (form : ℕ) (fs : List Field) (before : ℕ) (vs : List ℕ) → Allowed form fs before vs → length vs ≡ length fs
-allowed-length form [] before [] o = refl
-allowed-length form [] before (v ∷ vs) o = absurd o
-allowed-length form (f ∷ fs) before [] o = absurd o
-allowed-length form (f ∷ fs) before (v ∷ vs) o = ap suc (allowed-length form fs v vs (o .1))
-
 -- the field at a place, after the number before it
 allowed-at : (form : ℕ) (fs : List Field) (before : ℕ) (vs : List ℕ) (f : Field) (i : ℕ) → Allowed form fs before vs → i < length fs → Stands (hasField form (getD fs i f) (getD (before ∷ vs) i 0)) (getD fs i f .kind) (getD vs i 0)
 allowed-at form [] before vs f i o h = absurd (omega arith)
