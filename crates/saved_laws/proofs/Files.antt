@@ -50,6 +50,7 @@ number-at (z ∷ l) (suc i) o = number-at l i (o .1)
 
 row-fits : (t : Table) (i : ℕ) → KeptTable t → sound (rowAt i (columnsOf t)) ≡ true → Fit (rowAt i (columnsOf t))
 row-fits t i k s = record {
+  small = word-lt (t .symbol) i (k .symbols);
   text = text-of (getD (t .symbol) i 0) (word-lt (t .symbol) i (k .symbols)) (sound-symbol (rowAt i (columnsOf t)) s);
   quantity = folded-fits (getD (t .quantity) i (pos 0)) (number-at (t .quantity) i (k .quantities));
   average = folded-fits (getD (t .«avg_entry_price») i (pos 0)) (number-at (t .«avg_entry_price») i (k .averages));

@@ -1,11 +1,14 @@
--- A sound account whose file has 3,328 bytes.
+-- A sound account whose file is the longest.
 use mathlib.Core.Path.{_≡_, refl}
-use Prim.Native.Nat.{ℕ, zero, suc, _+_}
+use Prim.Native.Nat.{ℕ, zero, suc, _+_, _≤_, _^_}
+use native.Mathlib.Omega.{arith}
 use mathlib.Core.Bool.{true, false}
 use mathlib.Core.List.{List, [], _∷_}
 use lib.IntN.{ℤ, pos, negsuc}
 use lib.ListN.{length}
-use lib.Ieee.{Float, fin, toBits, lt, eq, le, size}
+use lib.Ieee.{Float, fin, toBits, lt, eq, le, size, isNan, fits}
+use mir.Syntax.{w64}
+use mir.Val.{SFits}
 use Rattle.position.specs.declared.position.Position.{Position}
 use Rattle.position.specs.Rows.{row}
 use Rattle.position.specs.Symbols.{bytesFrom, padded, goodSymbol}
@@ -25,6 +28,10 @@ use Rattle.saved_form.specs.Fields.{headFields, positionFields, follows, hasFie
 use Rattle.saved_form.specs.Texts.{unpadded, symbolFile}
 use Rattle.saved_form.specs.Values.{ratePattern, settingValues, counterValues, headValues}
 use Rattle.saved_form.specs.Writing.{fieldFile, fieldsFile, positionFile, positionsFile, fileOf}
+use Rattle.account_bytes.proofs.AccountKept.{KeptAccount}
+use Rattle.saved_laws.specs.Statement.{longest}
+use Rattle.saved_laws.proofs.Positions.{Kept}
+use Rattle.saved_laws.proofs.Kept.{kept-table}
 
 -- 2^63 - 1 cents, and 2^64 - 1
 abbrev most : ℤ
@@ -42,7 +49,7 @@ symbols (suc n) s = row s most most most most ∷ symbols n (suc s)
 abbrev rate : Float
 rate = fin false 1 (pos 8)
 
-abbrev fullest : Account
+abbrev pub fullest : Account
 fullest = record {
   cash = most;
   settings = settings (ofCosts (withCeiling most (model rate rate most))) most most most rate (AtMost count) most true true;
@@ -51,10 +58,48 @@ fullest = record {
   positions = tableOf (symbols 64 4702111234474983713);
 }
 
-fullest-length : length (fileOf fullest) ≡ 3328
+pub fullest-length : length (fileOf fullest) ≡ longest
 unfolding fileOf fieldsFile fieldFile headFields positionFields hasField follows headValues settingValues counterValues ratePattern toBits size folded write positionsFile positionFile symbolFile unpadded bytesFrom zipped tableOf
 fullest-length = refl
 
-fullest-sound : soundAccount fullest ≡ true
+pub fullest-sound : soundAccount fullest ≡ true
 unfolding soundAccount soundScalars goodSettings goodRules goodCosts goodRate goodCeiling le lt eq isZero soundColumns soundPlaces ordered unused tableOf sound soundNumbers value clamp64 goodSymbol bytesFrom padded
 fullest-sound = refl
+
+-- its fields fit their widths
+most-fits : SFits w64 most
+most-fits = record { sfits = omega arith }
+
+symbols-kept : (n s : ℕ) → s + n ≤ 2 ^ 64 → Kept (symbols n s)
+symbols-kept zero s h = omega arith
+symbols-kept (suc n) s h = (omega arith, (most-fits, (most-fits, (most-fits, (most-fits, omega arith)))), symbols-kept n (suc s) (omega arith))
+
+pub fullest-kept : KeptAccount fullest
+unfolding isNan fits
+fullest-kept = record {
+  cash = most-fits;
+  settings = record {
+    rates = record { commission = refl; slippage = refl; band = refl };
+    commission = tt;
+    slippage = tt;
+    floor = most-fits;
+    ceiling = most-fits;
+    step = most-fits;
+    lowest = most-fits;
+    highest = most-fits;
+    band = tt;
+    cap = omega arith;
+    notional = most-fits;
+  };
+  counts = record {
+    orders = omega arith;
+    notional = most-fits;
+    trimmed = omega arith;
+    shortfall = most-fits;
+    records = omega arith;
+    equities = omega arith;
+    returns = omega arith;
+    previous = most-fits;
+  };
+  positions = kept-table (symbols 64 4702111234474983713) (omega arith) (symbols-kept 64 4702111234474983713 (omega arith));
+}

@@ -12,6 +12,8 @@ pub mod ReadsBack
 pub mod Kept
 pub mod OneFile
 pub mod SameBytes
+pub mod Bytes
 pub mod Longest
 pub mod Fullest
+pub mod Laws
 pub mod Cases

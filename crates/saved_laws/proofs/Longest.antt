@@ -38,6 +38,7 @@ use Rattle.saved_form.specs.Fields.{newest, headFields, positionFields, negativ
 use Rattle.saved_form.specs.Texts.{textOf, symbolFile}
 use Rattle.saved_form.specs.Values.{ratePattern, settingValues, counterValues, headValues}
 use Rattle.saved_form.specs.Writing.{fieldFile, fieldsFile, positionFile, positionsFile, fileOf}
+use Rattle.saved_laws.specs.Statement.{longest}
 use Rattle.saved_laws.proofs.Texts.{Text}
 use Rattle.saved_laws.proofs.Patterns.{zero-pattern}
 use Rattle.saved_laws.proofs.Positions.{Fit, Fits}
@@ -171,9 +172,9 @@ module _ (a : Account) (e : soundAccount a ≡ true) (k : KeptAccount a) where
       omega arith)))))))))))))))))))))))
 
   -- "The longest file of form 1 is 3,328 bytes"
-  pub longest : length (fileOf a) ≤ 3328
+  pub at-most-3328 : length (fileOf a) ≤ longest
   unfolding fileOf
-  longest =
+  at-most-3328 =
       let h : List ℕ = fieldsFile newest headFields 0 (headValues (ledgerOf a)) in
       let p : List ℕ = positionsFile (heldIn (a .positions)) in
       omega (

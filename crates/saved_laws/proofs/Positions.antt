@@ -34,6 +34,7 @@ use Rattle.saved_laws.proofs.Symbols.{symbol-back, symbol-part, Spelt, 
 -- ---- one position
 -- what can be written of a position: a good symbol, and numbers that fit
 pub record Fit (p : Position) : Type 0 where
+  pub small : keyOf p < 2 ^ 64
   pub text : Text (keyOf p)
   pub quantity : folded (held p) < 2 ^ 64
   pub average : folded (avg p) < 2 ^ 64

@@ -117,7 +117,7 @@ octet-lt [] i o = omega arith
 octet-lt (b ∷ l) zero o = o .0
 octet-lt (b ∷ l) (suc i) o = octet-lt l i (o .1)
 
-bytes-octets : (k n : ℕ) → n < 2 ^ 64 → Octets (bytesFrom k n)
+pub bytes-octets : (k n : ℕ) → n < 2 ^ 64 → Octets (bytesFrom k n)
 unfolding bytesFrom
 bytes-octets zero n h = omega arith
 bytes-octets (suc k) n h = (omega arith, bytes-octets k (n % 2 ^ 56 * 256) (omega arith))

@@ -1,0 +1,51 @@
+-- Document 02, 5: what holds of every saved account, and of every file. Statements only.
+use Prim.Native.Nat.{ℕ, _<_, _≤_}
+use mathlib.Core.Path.{_≡_}
+use mathlib.Core.Logic.{_↔_}
+use mathlib.Core.Bool.{Bool, true}
+use mathlib.Core.List.{List}
+use lib.Dec.{ltb}
+use lib.ListN.{length, take}
+use Rattle.answer.specs.Choice.{all}
+use Rattle.answer.specs.declared.Answer.the-variants.{Done, EndsEarly}
+use Rattle.account.specs.declared.account.Account.{Account}
+use Rattle.account.specs.Account.{soundAccount}
+use Rattle.account.specs.Calls.{answered, zeroAccount}
+use Rattle.saved_form.specs.Writing.{fileOf}
+use Rattle.loading.specs.Loading.{fileAccount, loadAnswer, loaded}
+use Rattle.saved_laws.specs.Zeros.{plainAccount}
+
+-- every element a byte
+abbrev pub areBytes : List ℕ → Bool
+areBytes l = all (λ b. ltb b 256) l
+
+-- the bytes of the longest file of form 1
+abbrev pub longest : ℕ
+longest = 3328
+
+-- of a sound account and its file
+pub record Saved (a : Account) : Type 0 where
+  -- "reading what was written gives the account back", up to the sign of a zero
+  pub reads-back : loaded (fileOf a) ≡ answered Done (plainAccount a)
+  -- "16 file ends early": of every part of it from its start
+  pub ends-early : (j : ℕ) → j < length (fileOf a) → loadAnswer (take j (fileOf a)) ≡ EndsEarly
+  pub bytes : areBytes (fileOf a) ≡ true
+  pub short : length (fileOf a) ≤ longest
+
+-- of two sound accounts: "Up to that, equal accounts give equal bytes", and no others do
+abbrev pub SameFile : Account → Account → Type 0
+SameFile a b = (fileOf a ≡ fileOf b) ↔ (plainAccount a ≡ plainAccount b)
+
+-- of a file that is loaded
+pub record Accepted (l : List ℕ) : Type 0 where
+  -- "then 11 for an unsound account"
+  pub sound : soundAccount (fileAccount l) ≡ true
+  -- "a negative zero" is refused
+  pub plain : plainAccount (fileAccount l) ≡ fileAccount l
+  -- "shortest form only": no other file holds its account
+  pub one-file : fileOf (fileAccount l) ≡ l
+  pub ends-early : (j : ℕ) → j < length l → loadAnswer (take j l) ≡ EndsEarly
+
+-- of a file that is refused: its number, and all zeros
+abbrev pub Refused : List ℕ → Type 0
+Refused l = loaded l ≡ answered (loadAnswer l) zeroAccount
