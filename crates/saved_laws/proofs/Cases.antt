@@ -8,7 +8,7 @@ use Rattle.seven_bit.specs.Placed.{told}
 use Rattle.position.specs.Symbols.{bytesFrom, leading, padded, goodSymbol}
 use Rattle.position.specs.Shares.{isZero}
 use Rattle.position.specs.Fills.{soundNumbers, sound}
-use Rattle.table.specs.Rows.{unused, ordered, zipped}
+use Rattle.table.specs.Rows.{unused, ordered}
 use lib.Ieee.{ofBits, lt, eq, le}
 use Rattle.cost_model.specs.Costs.{goodRate, goodCeiling, goodCosts}
 use Rattle.account.specs.Settings.{goodRules, goodSettings}

@@ -1,6 +1,6 @@
 -- Numbers in a row, each field with its own: what was written is read, a part of it ends early, and what is read is what would be written.
 use mathlib.Core.Path.{_≡_, refl, sym, _∙_, ap, subst}
-use Prim.Native.Nat.{ℕ, zero, suc, _+_, _<_, _≤_, _^_}
+use Prim.Native.Nat.{ℕ, suc, _+_, _<_, _≤_, _^_}
 use native.Mathlib.Omega.{arith}
 use mathlib.Core.Bool.{Bool, true, false}
 use mathlib.Core.List.{List, [], _∷_, _++_, append-assoc}
@@ -20,7 +20,7 @@ use Rattle.saved_form.specs.declared.field.Kind.{Kind}
 use Rattle.saved_form.specs.Fields.{allowed, hasField}
 use Rattle.saved_form.specs.Writing.{fieldFile, fieldsFile}
 use Rattle.loading.specs.Reading.{Run, refusedAt, thenNumber, judged, fieldRead, ended, withValue, thenRun, fieldsRead}
-use Rattle.saved_laws.proofs.Places.{after, Part, within, past, part, apart, clash, was, number-back, number-part, Shortest, number-one}
+use Rattle.saved_laws.proofs.Places.{after, Part, within, past, part, apart, clash, was, number-back, number-part, number-one}
 
 -- a number that may stand where its field does, and 0 where it does not
 abbrev pub Stands : Bool → Kind → ℕ → Type 0

@@ -1,13 +1,13 @@
 -- The parts of the file of a sound account, each where it stands in some bytes: read whole, or cut off.
 use mathlib.Core.Path.{_≡_, refl, sym, _∙_, ap}
-use Prim.Native.Nat.{ℕ, zero, suc, _+_, _<_, _≤_, _^_}
+use Prim.Native.Nat.{ℕ, zero, suc, _+_, _<_, _≤_}
 use native.Mathlib.Omega.{arith}
 use mathlib.Core.Bool.{Bool, true, false}
 use mathlib.Core.List.{List, [], _∷_, _++_}
 use lib.Dec.{ltb}
 use lib.ListN.{length, getD, take, drop}
 use lib.IntN.{ℤ, pos}
-use borrow.Author.Tests.{ltb-true, ltb-false}
+use borrow.Author.Tests.{ltb-false}
 use mir.Syntax.{w64}
 use mir.Val.{SFits}
 use Rattle.answer.specs.Choice.{pick}
@@ -16,10 +16,10 @@ use Rattle.position.specs.declared.position.Position.{Position}
 use Rattle.position.specs.Rows.{fresh}
 use Rattle.position.specs.Fills.{sound}
 use Rattle.table.specs.declared.table.Table.{Table}
-use Rattle.table.specs.Rows.{Cols, columnsOf, rowAt}
+use Rattle.table.specs.Rows.{columnsOf, rowAt}
 use Rattle.table.specs.Inner.Places.{shorter}
 use Rattle.account.specs.declared.account.Account.{Account}
-use Rattle.account.specs.Account.{heldIn, soundTable, soundAccount, tableOf}
+use Rattle.account.specs.Account.{heldIn, soundAccount}
 use Rattle.account.specs.Inner.Account.{ledgerOf}
 use Rattle.account.proofs.Columns.{rows-length, row-of, sound-at}
 use Rattle.account.proofs.Tables.{held-table}
@@ -35,11 +35,11 @@ use Rattle.saved_form.specs.Values.{settingValues, counterValues, headValues}
 use Rattle.saved_form.specs.Writing.{fieldsFile, positionsFile}
 use Rattle.loading.specs.declared.head.Head.{Head}
 use Rattle.loading.specs.declared.positions.Positions.{Positions}
-use Rattle.loading.specs.Reading.{Run, headOf, headRead, fieldsRead, Rows, positionsRead, filed, tableRead, headIn, positionsIn}
+use Rattle.loading.specs.Reading.{headOf, headRead, positionsRead, filed, tableRead, headIn, positionsIn}
 use Rattle.saved_laws.proofs.Places.{was, number-back, number-part}
 use Rattle.saved_laws.proofs.Fields.{ran, fields-back, fields-part}
 use Rattle.saved_laws.proofs.Texts.{text-of}
-use Rattle.saved_laws.proofs.Positions.{Fit, Fits, rowsTo, positions-back, positions-part, sound-symbol}
+use Rattle.saved_laws.proofs.Positions.{Fit, Fits, positions-back, positions-part, sound-symbol}
 use Rattle.saved_laws.proofs.Values.{head-allowed}
 
 -- ---- the positions of a sound account can be written
@@ -71,8 +71,8 @@ module _ (a : Account) (e : soundAccount a ≡ true) (k : KeptAccount a) where
       let t = a .positions in
       let c = columnsOf t in
       each (heldIn t) (λ i h.
-        let m : i < t .count = omega (arith, rows-count) in
-        rw (row-of c (k .positions .full) (t .count) i m) (row-fits t i (k .positions) (sound-at (t .count) c (k .positions .full) (account-table a e) i m)))
+      let m : i < t .count = omega (arith, rows-count) in
+      rw (row-of c (k .positions .full) (t .count) i m) (row-fits t i (k .positions) (sound-at (t .count) c (k .positions .full) (account-table a e) i m)))
 
 -- ---- where they stand
 abbrev pub headFile : Account → List ℕ

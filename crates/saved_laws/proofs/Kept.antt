@@ -1,5 +1,5 @@
 -- Numbers and positions that were read make an account whose fields fit their widths.
-use mathlib.Core.Path.{_≡_, refl}
+use mathlib.Core.Path.{_≡_}
 use Prim.Native.Nat.{ℕ, zero, suc, _+_, _-_, _<_, _≤_, _^_}
 use native.Mathlib.Omega.{arith}
 use mathlib.Core.Bool.{Bool, true, false}
@@ -13,15 +13,14 @@ use mir.Syntax.{w64}
 use mir.Val.{SFits}
 use Rattle.answer.specs.Choice.{pick}
 use Rattle.position.specs.declared.position.Position.{Position}
-use Rattle.position.specs.Rows.{keyOf, held, avg, realized, total, numbersOf}
+use Rattle.position.specs.Rows.{keyOf, held, avg, realized, total}
 use Rattle.table.specs.Rows.{columnsOf, paddedColumn, Full}
-use Rattle.account.specs.declared.settings.TradeCap.{TradeCap}
 use Rattle.account.specs.declared.settings.TradeCap.the-variants.{Absent, AtMost}
 use Rattle.account.specs.Account.{tableOf}
 use Rattle.account_bytes.specs.Settings.{capCount, capOf}
 use Rattle.account_bytes.proofs.Lists.{Numbers, words-append, word-lt}
-use Rattle.account_bytes.proofs.SettingsKept.{NoNan, Kept as KeptSettings}
-use Rattle.account_bytes.proofs.AccountKept.{KeptCounts, KeptTable, KeptAccount}
+use Rattle.account_bytes.proofs.SettingsKept.{NoNan}
+use Rattle.account_bytes.proofs.AccountKept.{KeptTable, KeptAccount}
 use Rattle.word_bytes.proofs.Words.{Words}
 use Rattle.seven_bit.proofs.Signed.{unfolded-fits}
 use Rattle.saved_form.specs.Values.{numberIn, settingsOf, countersOf, seriesOf, accountOf}

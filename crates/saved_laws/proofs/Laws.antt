@@ -1,9 +1,8 @@
 -- The laws of the saved form, of every account and of every file.
 use Prim.Native.Nat.{ℕ, _<_}
 use mathlib.Core.Path.{_≡_, refl, sym, ap, _∙_, subst}
-use mathlib.Core.Bool.{Bool, true, false}
+use mathlib.Core.Bool.{true, false}
 use mathlib.Core.List.{List, [], _∷_}
-use lib.Dec.{ltb}
 use lib.ListN.{length, take}
 use borrow.Author.Tests.{lt-ltb}
 use Rattle.answer.specs.Numbers.{isDone}
@@ -14,7 +13,6 @@ use Rattle.account_bytes.proofs.AccountKept.{KeptAccount}
 use Rattle.seven_bit.proofs.Groups.{Octets}
 use Rattle.saved_form.specs.Writing.{fileOf}
 use Rattle.loading.specs.Loading.{fileAccount, loadAnswer}
-use Rattle.saved_laws.specs.Zeros.{plainAccount}
 use Rattle.saved_laws.specs.Statement.{areBytes, Saved, SameFile, Accepted, Refused}
 use Rattle.saved_laws.proofs.ReadsBack.{file-account, reads-back, ends-early}
 use Rattle.saved_laws.proofs.OneFile.{one-file, loads-sound, loads-kept, refused-zeros}

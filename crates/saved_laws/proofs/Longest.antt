@@ -1,5 +1,5 @@
 -- How long a file can be: "at most ten groups" a number, nine where it is the pattern of a rate, one where it is a mark, a flag or a count of at most 64.
-use mathlib.Core.Path.{_≡_, refl, sym, _∙_, ap, subst}
+use mathlib.Core.Path.{_≡_, refl, sym, subst}
 use Prim.Native.Nat.{ℕ, zero, suc, _+_, _*_, _/_, _%_, _<_, _≤_, _^_}
 use native.Mathlib.Omega.{arith}
 use native.Mathlib.Nat.{mul-pos}
@@ -8,9 +8,9 @@ use mathlib.Core.List.{List, [], _∷_, _++_, map}
 use lib.Dec.{T, eqb, ltb}
 use lib.IntN.{ℤ, pos}
 use lib.ListN.{length, length-append}
-use lib.Ieee.{Float, nan, inf, fin, binary64, up, down, lt, eq, le, fits, toBits}
+use lib.Ieee.{Float, nan, inf, fin, binary64, up, le, fits, toBits}
 use lib.Ieee.Fits.{up-pos}
-use borrow.Author.Tests.{ltb-true, ltb-false, eqb-true}
+use borrow.Author.Tests.{ltb-false}
 use Rattle.answer.specs.Choice.{pick}
 use Rattle.answer.proofs.Choice.{both-true}
 use Rattle.doubles.specs.Doubles as Doubles
@@ -39,6 +39,7 @@ use Rattle.saved_form.specs.Texts.{textOf, symbolFile}
 use Rattle.saved_form.specs.Values.{ratePattern, settingValues, counterValues, headValues}
 use Rattle.saved_form.specs.Writing.{fieldFile, fieldsFile, positionFile, positionsFile, fileOf}
 use Rattle.saved_laws.specs.Statement.{longest}
+use Rattle.saved_laws.proofs.Places.{_▸_}
 use Rattle.saved_laws.proofs.Texts.{Text}
 use Rattle.saved_laws.proofs.Patterns.{zero-pattern}
 use Rattle.saved_laws.proofs.Positions.{Fit, Fits}
@@ -143,7 +144,7 @@ symbol-most s t = omega (arith, length-append (groups (length (textOf s))) (text
 position-most : (p : Position) → Fit p → length (positionFile p) ≤ 49
 unfolding positionFile
 position-most p f =
-    let n = fields-most newest positionFields 0 (map folded (numbersOf p)) (10 ∷ 10 ∷ 10 ∷ 10 ∷ []) (ten _, (ten _, (ten _, (ten _, omega arith)))) in
+    let n = fields-most newest positionFields 0 (map folded (numbersOf p)) (10 ∷ 10 ∷ 10 ∷ 10 ∷ []) (ten _ ▸ ten _ ▸ ten _ ▸ ten _ ▸ omega arith) in
     omega (arith, length-append (symbolFile (keyOf p)) (fieldsFile newest positionFields 0 (map folded (numbersOf p))), symbol-most (keyOf p) (f .text))
 
 positions-most : (ps : List Position) → Fits ps → length (positionsFile ps) ≤ 49 * length ps
@@ -162,14 +163,14 @@ module _ (a : Account) (e : soundAccount a ≡ true) (k : KeptAccount a) where
       let s = a .settings in
       let g = good-settings s (account-settings a e) in
       let c = good-costs (costsOf s) (account-costs a e) in
-      (ten _, (ten _, (ten _, (ten _, (ten _, (ten _,
-      (nine _ (rate-low (costsOf s .«commission_bps») (k .settings .commission) (c .rate)),
-      (nine _ (rate-low (s .«no_trade_band_bps») (k .settings .band) (not-below (s .«no_trade_band_bps») (g .band))),
-      (nine _ (rate-low (costsOf s .«slippage_bps») (k .settings .slippage) (c .slippage-low)),
-      (mark-one (s .«max_trades_per_rebalance»), (ten _, (ten _, (flag-one (s .recording), (flag-one (s .«cash_first»),
-      (ten _, (ten _, (ten _, (ten _, (ten _, (ten _, (ten _, (ten _,
-      (one (a .positions .count) (omega (arith, account-small a e)),
-      omega arith)))))))))))))))))))))))
+      ten _ ▸ ten _ ▸ ten _ ▸ ten _ ▸ ten _ ▸ ten _
+      ▸ nine _ (rate-low (costsOf s .«commission_bps») (k .settings .commission) (c .rate))
+      ▸ nine _ (rate-low (s .«no_trade_band_bps») (k .settings .band) (not-below (s .«no_trade_band_bps») (g .band)))
+      ▸ nine _ (rate-low (costsOf s .«slippage_bps») (k .settings .slippage) (c .slippage-low))
+      ▸ mark-one (s .«max_trades_per_rebalance») ▸ ten _ ▸ ten _ ▸ flag-one (s .recording) ▸ flag-one (s .«cash_first»)
+      ▸ ten _ ▸ ten _ ▸ ten _ ▸ ten _ ▸ ten _ ▸ ten _ ▸ ten _ ▸ ten _
+      ▸ one (a .positions .count) (omega (arith, account-small a e))
+      ▸ omega arith
 
   -- "The longest file of form 1 is 3,328 bytes"
   pub at-most-3328 : length (fileOf a) ≤ longest

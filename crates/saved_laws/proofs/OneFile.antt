@@ -1,27 +1,20 @@
 -- Every file that is taken is what writing its account gives; what is loaded is sound, and a refused file leaves zeros.
 use mathlib.Core.Path.{_≡_, refl, sym, _∙_, ap, subst}
-use Prim.Native.Nat.{ℕ, zero, suc, _+_, _-_, _<_, _≤_}
+use Prim.Native.Nat.{ℕ, zero, suc, _+_, _-_, _≤_}
 use native.Mathlib.Omega.{arith}
 use mathlib.Core.Bool.{Bool, true, false}
-use mathlib.Core.List.{List, [], _∷_, _++_, map, append-nil}
+use mathlib.Core.List.{List, [], _++_, append-nil}
 use lib.Dec.{eqb}
-use lib.IntN.{ℤ, pos}
-use lib.ListN.{length, getD, take, drop, replicate, length-append, length-map, length-replicate, drop-of-length-le}
+use lib.ListN.{length, getD, drop, replicate}
 use lib.Seq.{drop-length}
 use borrow.Author.Tests.{eqb-true}
 use Rattle.answer.specs.Choice.{pick, all}
-use Rattle.answer.specs.Numbers.{isDone, unless, orLater}
+use Rattle.answer.specs.Numbers.{isDone}
 use Rattle.answer.proofs.Answers.{done-is, passed, passed-both}
-use Rattle.answer.specs.declared.Answer.{Answer}
 use Rattle.answer.specs.declared.Answer.the-variants.{Done, Unsound, LeftOver}
 use Rattle.position.specs.declared.position.Position.{Position}
-use Rattle.position.specs.Rows.{keyOf, held, avg, realized, total}
 use Rattle.position.specs.Fills.{sound}
-use Rattle.table.specs.declared.table.Table.{Table}
-use Rattle.table.specs.Rows.{columnsOf, paddedColumn, emptyTable, Full}
-use Rattle.table.specs.Inner.Places.{shorter}
-use Rattle.account.specs.declared.account.Account.{Account}
-use Rattle.account.specs.declared.change.Changed.{Changed}
+use Rattle.table.specs.Rows.{columnsOf, emptyTable}
 use Rattle.account.specs.Account.{heldIn, tableOf, soundTable, soundAccount}
 use Rattle.account.specs.Calls.{answered, zeroAccount}
 use Rattle.account.specs.Inner.Account.{ledgerOf}
@@ -30,7 +23,6 @@ use Rattle.account.proofs.Tables.{table-held}
 use Rattle.account.proofs.SoundAccounts.{account-table, account-settings}
 use Rattle.account_bytes.proofs.SettingsKept.{NoNan, good-rates}
 use Rattle.account_bytes.proofs.AccountKept.{KeptAccount}
-use Rattle.seven_bit.specs.declared.Number.{Number}
 use Rattle.seven_bit.specs.Groups.{groups}
 use Rattle.seven_bit.specs.Placed.{numberAt}
 use Rattle.seven_bit.proofs.Groups.{Octets}
@@ -41,13 +33,13 @@ use Rattle.loading.specs.declared.head.Head.{Head}
 use Rattle.loading.specs.declared.positions.Positions.{Positions}
 use Rattle.loading.specs.Reading.{Run, fieldsRead, headOf, headRead, positionRead, Rows, noRows, withRow, thenRows, positionsRead, filed, tableRead, headIn, positionsIn}
 use Rattle.loading.specs.Loading.{fileAccount, loadAnswer, notLoaded, loaded}
-use Rattle.saved_laws.proofs.Places.{Shortest, number-one}
-use Rattle.saved_laws.proofs.Fields.{Allowed, allowed-length, allowed-words, Whole, fields-one}
+use Rattle.saved_laws.proofs.Places.{number-one}
+use Rattle.saved_laws.proofs.Fields.{allowed-length, allowed-words, Whole, fields-one}
 use Rattle.saved_laws.proofs.Positions.{Rolled, positions-one}
 use Rattle.saved_laws.proofs.Kept.{table-full, kept-account}
 use Rattle.saved_laws.proofs.Values.{few, head-one}
 use Rattle.saved_laws.proofs.Files.{at-most-64}
-use Rattle.saved_laws.proofs.ReadsBack.{judgement, by-parts, loaded-done}
+use Rattle.saved_laws.proofs.ReadsBack.{judgement, by-parts}
 
 -- ---- what a file that is taken passed
 pub record Passed (l : List ℕ) : Type 0 where

@@ -16,6 +16,11 @@ use Rattle.seven_bit.specs.Groups.{Out, ends, bad, got, number, groups}
 use Rattle.seven_bit.specs.Placed.{told, numberAt}
 use Rattle.seven_bit.proofs.Groups.{Octets, number-groups, part-ends, number-shortest}
 
+-- a fact of the first of a row, and one of the others
+infixr 60 _▸_
+abbrev pub _▸_ : {A B : Type 0} → A → B → A × B
+a ▸ b = (a, b)
+
 -- ---- bytes from a place on
 -- what follows what stands at a place
 pub after : (l x rest : List ℕ) (at : ℕ) → drop at l ≡ x ++ rest → drop (at + length x) l ≡ rest

@@ -9,7 +9,6 @@ use Rattle.answer.specs.Choice.{pick, all}
 use Rattle.answer.specs.Numbers.{isDone}
 use Rattle.answer.proofs.Choice.{both-true}
 use Rattle.answer.proofs.Answers.{done-is}
-use Rattle.answer.specs.declared.Answer.{Answer}
 use Rattle.answer.specs.declared.Answer.the-variants.{Done, EndsEarly}
 use Rattle.position.specs.declared.position.Position.{Position}
 use Rattle.position.specs.Rows.{row, keyOf, held, avg, realized, total, numbersOf}
@@ -26,7 +25,7 @@ use Rattle.saved_form.specs.Texts.{symbolFile}
 use Rattle.saved_form.specs.Writing.{fieldsFile, positionFile, positionsFile}
 use Rattle.loading.specs.declared.entry.Entry.{Entry}
 use Rattle.loading.specs.Reading.{Run, fieldsRead, noEntry, signedIn, entryOf, symbolRead, entryAfter, positionRead, Rows, noRows, withRow, thenRows, positionsRead}
-use Rattle.saved_laws.proofs.Places.{after, Part, within, past, part, clash, was}
+use Rattle.saved_laws.proofs.Places.{_▸_, after, Part, within, past, part, clash}
 use Rattle.saved_laws.proofs.Fields.{Allowed, allowed-words, ran, fields-back, fields-part, Whole, fields-one}
 use Rattle.saved_laws.proofs.Texts.{Text}
 use Rattle.saved_laws.proofs.Symbols.{symbol-back, symbol-part, Spelt, symbol-one}
@@ -49,7 +48,7 @@ numbersFile p = fieldsFile newest positionFields 0 (valuesOf p)
 
 numbers-allowed : (p : Position) → Fit p → Allowed newest positionFields 0 (valuesOf p)
 unfolding positionFields hasField follows allowed
-numbers-allowed p f = ((refl, f .quantity), ((refl, f .average), ((refl, f .realized), ((refl, f .total), omega arith))))
+numbers-allowed p f = (refl, f .quantity) ▸ (refl, f .average) ▸ (refl, f .realized) ▸ (refl, f .total) ▸ omega arith
 
 abbrev pub read : Position → ℕ → Entry
 read p next = record { answer = Done; next = next; position = p }
@@ -142,11 +141,11 @@ values-back s (a ∷ (b ∷ (c ∷ (d ∷ (e ∷ vs))))) o = absurd (o .1 .1 .1 
 
 signed-numbers : (vs : List ℕ) → Words vs → Numbers (unfolded (getD vs 0 0) ∷ unfolded (getD vs 1 0) ∷ unfolded (getD vs 2 0) ∷ unfolded (getD vs 3 0) ∷ [])
 signed-numbers vs w =
-    (unfolded-fits (getD vs 0 0) (word-lt vs 0 w),
-    (unfolded-fits (getD vs 1 0) (word-lt vs 1 w),
-    (unfolded-fits (getD vs 2 0) (word-lt vs 2 w),
-    (unfolded-fits (getD vs 3 0) (word-lt vs 3 w),
-    omega arith))))
+    unfolded-fits (getD vs 0 0) (word-lt vs 0 w)
+    ▸ unfolded-fits (getD vs 1 0) (word-lt vs 1 w)
+    ▸ unfolded-fits (getD vs 2 0) (word-lt vs 2 w)
+    ▸ unfolded-fits (getD vs 3 0) (word-lt vs 3 w)
+    ▸ omega arith
 
 pub record Filed (l : List ℕ) (at : ℕ) (e : Entry) : Type 0 where
   pub small : keyOf (e .position) < 2 ^ 64

@@ -2,13 +2,12 @@
 use mathlib.Core.Path.{_≡_, refl, sym, _∙_, ap}
 use Prim.Native.Nat.{ℕ, _+_, _<_}
 use native.Mathlib.Omega.{arith}
-use mathlib.Core.Bool.{Bool, true}
+use mathlib.Core.Bool.{true}
 use mathlib.Core.List.{List, [], _++_, append-nil}
 use lib.Dec.{eqb}
 use lib.ListN.{length, take, drop, length-append}
 use borrow.Author.Tests.{eq-eqb}
-use Rattle.answer.specs.Choice.{pick}
-use Rattle.answer.specs.Numbers.{isDone, unless, orLater}
+use Rattle.answer.specs.Numbers.{unless, orLater}
 use Rattle.answer.specs.declared.Answer.{Answer}
 use Rattle.answer.specs.declared.Answer.the-variants.{Done, Unsound, EndsEarly, LeftOver}
 use Rattle.account.specs.declared.account.Account.{Account}
@@ -25,7 +24,7 @@ use Rattle.saved_form.specs.Writing.{fileOf}
 use Rattle.loading.specs.declared.head.Head.{Head}
 use Rattle.loading.specs.declared.positions.Positions.{Positions}
 use Rattle.loading.specs.Reading.{headIn, positionsIn}
-use Rattle.loading.specs.Loading.{fileAccount, loadAnswer, notLoaded, loaded}
+use Rattle.loading.specs.Loading.{fileAccount, loadAnswer, loaded}
 use Rattle.saved_laws.specs.Zeros.{plainAccount}
 use Rattle.saved_laws.proofs.Places.{after, Part, within, past, part, was}
 use Rattle.saved_laws.proofs.Plain.{plain-sound}
@@ -105,7 +104,7 @@ module _ (a : Account) (e : soundAccount a ≡ true) (k : KeptAccount a) where
         by-parts l
         ∙ ap (λ (n : Number). judgement n (headIn l) (positionsIn l) (length l) (fileAccount l)) form-read
         ∙ all-done afterForm (headIn l) (positionsIn l) (length l) (fileAccount l) (ap (λ (h : Head). h .answer) head-read) (ap (λ (p : Positions). p .answer) positions-read)
-            ends-there (ap soundAccount account-read ∙ plain-sound a ∙ e)
+        ends-there (ap soundAccount account-read ∙ plain-sound a ∙ e)
 
   pub file-account : fileAccount (fileOf a) ≡ plainAccount a
   unfolding fileOf

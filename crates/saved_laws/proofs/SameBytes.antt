@@ -1,6 +1,6 @@
 -- Sound accounts that are equal, zeros' signs apart, have one file, and accounts that have one file are equal, zeros' signs apart.
 use mathlib.Core.Path.{_≡_, refl, sym, _∙_, ap}
-use mathlib.Core.Bool.{Bool, true, false}
+use mathlib.Core.Bool.{true, false}
 use mathlib.Core.Logic.{_↔_}
 use mathlib.Core.List.{List, _++_}
 use Prim.Native.Nat.{ℕ}
@@ -14,7 +14,6 @@ use Rattle.account_bytes.specs.Settings.{costsOf}
 use Rattle.account_bytes.proofs.AccountKept.{KeptAccount}
 use Rattle.word_bytes.specs.Numbers.{patternOf}
 use Rattle.seven_bit.specs.Groups.{groups}
-use Rattle.saved_form.specs.declared.field.Kind.the-variants.{Pattern}
 use Rattle.saved_form.specs.Fields.{newest, headFields, negativeZero, allowed}
 use Rattle.saved_form.specs.Values.{ratePattern, settingValues, counterValues, headValues}
 use Rattle.saved_form.specs.Writing.{fieldsFile, positionsFile, fileOf}

@@ -1,18 +1,17 @@
 -- "a symbol is its length and bytes": what was written is read, a part of it ends early, and what is read is what would be written.
-use mathlib.Core.Path.{_≡_, refl, sym, _∙_, ap, subst}
-use Prim.Native.Nat.{ℕ, zero, suc, _+_, _-_, _<_, _≤_, _^_}
+use mathlib.Core.Path.{_≡_, refl, sym, _∙_, ap}
+use Prim.Native.Nat.{ℕ, _+_, _-_, _<_, _≤_, _^_}
 use native.Mathlib.Omega.{arith}
 use mathlib.Core.Bool.{Bool, true, false}
-use mathlib.Core.List.{List, [], _∷_, _++_, append-assoc}
+use mathlib.Core.List.{List, _++_, append-assoc}
 use lib.Dec.{leb}
-use lib.ListN.{length, take, drop, length-append, length-drop, length-take, take-append-drop}
+use lib.ListN.{length, take, drop, length-append, length-drop, take-append-drop}
 use lib.Seq.{take-at, drop-drop, length-take-le}
 use borrow.Author.Tests.{le-leb, lt-leb, leb-true}
-use Rattle.answer.specs.Choice.{pick, both}
+use Rattle.answer.specs.Choice.{pick}
 use Rattle.answer.specs.Numbers.{isDone}
 use Rattle.answer.proofs.Choice.{both-true}
 use Rattle.answer.proofs.Answers.{done-is}
-use Rattle.answer.specs.declared.Answer.{Answer}
 use Rattle.answer.specs.declared.Answer.the-variants.{Done, Unsound, EndsEarly}
 use Rattle.position.specs.Symbols.{goodSymbol}
 use Rattle.seven_bit.specs.declared.Number.{Number}
@@ -22,7 +21,7 @@ use Rattle.seven_bit.proofs.Groups.{Octets}
 use Rattle.saved_form.specs.Texts.{textOf, symbolFile, goodLength, spelt}
 use Rattle.loading.specs.Reading.{refusedAt, thenNumber, textRead, symbolRead}
 use Rattle.saved_laws.proofs.Places.{after, Part, within, past, part, octets-drop, octets-take, apart, clash, was, number-back, number-part, Shortest, number-one}
-use Rattle.saved_laws.proofs.Texts.{Text, text-of, Spelling, spelling}
+use Rattle.saved_laws.proofs.Texts.{Text, spelling}
 
 -- ---- bytes of a text
 text-back : (l rest t : List ℕ) (n at : ℕ) → length t ≡ n → 1 ≤ n → drop at l ≡ t ++ rest → textRead l n at ≡ was (spelt t) (at + n)

@@ -1,15 +1,15 @@
 -- A good symbol's text: one to eight bytes, of which none is 0, that spell it; and a text that spells a good symbol is that symbol's.
 use mathlib.Core.Path.{_≡_, refl, sym, _∙_, ap, subst}
-use Prim.Native.Nat.{ℕ, zero, suc, _+_, _-_, _*_, _/_, _%_, _<_, _≤_, _^_}
+use Prim.Native.Nat.{ℕ, zero, suc, _+_, _-_, _*_, _%_, _<_, _≤_, _^_}
 use native.Mathlib.Omega.{arith}
 use native.Mathlib.Nat.{pow-suc}
-use mathlib.Core.Bool.{Bool, true, false, not, cond, _&&_}
+use mathlib.Core.Bool.{Bool, true, false, not, cond}
 use mathlib.Core.List.{List, [], _∷_, _++_}
-use lib.Dec.{eqb, leb, ltb}
+use lib.Dec.{eqb, ltb}
 use lib.ListN.{length, getD, replicate, length-append, length-replicate}
 use lib.Seq.{ext-getD}
-use borrow.Author.Tests.{eqb-true, eqb-false, eq-eqb, ltb-true, ltb-false, leb-true, not-true}
-use Rattle.answer.specs.Choice.{pick, both}
+use borrow.Author.Tests.{eqb-true, eq-eqb, ltb-true, ltb-false, not-true}
+use Rattle.answer.specs.Choice.{pick}
 use Rattle.answer.proofs.Choice.{both-true}
 use Rattle.position.specs.Symbols.{bytesFrom, symbolBytes, leading, ofBytes, goodByte, zeros, padded, goodSymbol}
 use Rattle.position.proofs.Symbols.{bytes-give-the-number}

@@ -1,18 +1,19 @@
 -- The numbers before the positions: those of an account may stand, they give it back with plain zeros, and numbers that may stand are those of their account.
-use mathlib.Core.Path.{_≡_, refl, sym, _∙_, ap, subst}
-use Prim.Native.Nat.{ℕ, zero, suc, _+_, _<_, _≤_, _^_}
+use mathlib.Core.Path.{_≡_, refl, sym, _∙_, subst}
+use Prim.Native.Nat.{ℕ, zero, suc, _<_, _≤_, _^_}
 use native.Mathlib.Omega.{arith}
 use mathlib.Core.Bool.{Bool, true, false, not}
 use mathlib.Core.List.{List, [], _∷_}
-use lib.Dec.{T, eqb, leb, ltb}
-use lib.ListN.{length, getD, take}
+use lib.Dec.{T, eqb}
+use lib.ListN.{length, getD, drop}
 use lib.Seq.{take-all}
 use lib.Ieee.{Float, binary64, fits, isNan}
-use borrow.Author.Tests.{eq-eqb, ne-eqb, eqb-true, eqb-false, le-leb, leb-true, ltb-true, not-true}
-use Rattle.answer.specs.Choice.{pick, both}
+use borrow.Author.Tests.{le-leb, leb-true, ltb-true, not-true}
+use Rattle.answer.specs.Choice.{pick}
 use Rattle.table.specs.declared.table.Table.{Table}
 use Rattle.account.specs.declared.account.Account.{Account}
-use Rattle.account.specs.declared.account.Ledger.{Ledger}
+use Rattle.account.specs.declared.account.Counters.{Counters}
+use Rattle.account.specs.declared.account.Series.{Series}
 use Rattle.account.specs.declared.settings.Settings.{Settings}
 use Rattle.account.specs.declared.settings.TradeCap.{TradeCap}
 use Rattle.account.specs.declared.settings.TradeCap.the-variants.{Absent, AtMost}
@@ -21,18 +22,19 @@ use Rattle.account.specs.Inner.Account.{ledgerOf}
 use Rattle.account.proofs.SoundAccounts.{account-small}
 use Rattle.account_bytes.specs.Settings.{costsOf, capMark, capCount, capOf, flagWord, flagOf}
 use Rattle.account_bytes.proofs.SettingsKept.{NoNan, Kept}
-use Rattle.account_bytes.proofs.AccountKept.{KeptCounts, KeptTable, KeptAccount}
+use Rattle.account_bytes.proofs.AccountKept.{KeptCounts, KeptAccount}
 use Rattle.account_bytes.proofs.Lists.{run, run-is}
 use Rattle.word_bytes.specs.Numbers.{floatOf, patternOf}
 use Rattle.word_bytes.proofs.Numbers.{pattern-float, pattern-lt}
-use Rattle.seven_bit.specs.Signed.{folded, unfolded}
+use Rattle.seven_bit.specs.Signed.{folded}
 use Rattle.seven_bit.proofs.Signed.{unfolded-folded, folded-unfolded, folded-fits}
 use Rattle.saved_form.specs.declared.field.Field.{Field}
-use Rattle.saved_form.specs.declared.field.Kind.the-variants.{Any, Flag, AfterMark, Pattern, Positions}
+use Rattle.saved_form.specs.declared.field.Kind.the-variants.{Any, Flag, AfterMark, Pattern}
 use Rattle.saved_form.specs.Fields.{newest, since, headFields, negativeZero, allowed, follows, hasField}
 use Rattle.saved_form.specs.Values.{ratePattern, settingValues, counterValues, headValues, settingsOf, countersOf, seriesOf, accountOf}
-use Rattle.saved_laws.specs.Zeros.{plainZero, plainSettings, plainAccount}
+use Rattle.saved_laws.specs.Zeros.{plainZero, plainAccount}
 use Rattle.saved_laws.proofs.Patterns.{plain-read}
+use Rattle.saved_laws.proofs.Places.{_▸_}
 use Rattle.saved_laws.proofs.Fields.{Stands, Allowed, allowed-length}
 
 -- ---- of an account, number by number
@@ -67,38 +69,44 @@ unfolding allowed
 flag-stands true = (refl, omega arith)
 flag-stands false = (refl, omega arith)
 
-module _ (a : Account) (e : soundAccount a ≡ true) (k : KeptAccount a) where
-  pub head-allowed : Allowed newest headFields 0 (headValues (ledgerOf a))
-  unfolding headFields headValues settingValues counterValues hasField follows allowed
-  head-allowed =
-      let s = a .settings in
-      let c = a .counters in
-      let g = k .settings in
-      let h = k .counts in
-      ((refl, folded-fits (a .cash) (k .cash)),
-      ((refl, folded-fits (costsOf s .«min_commission») (g .floor)),
-      ((refl, folded-fits (s .«min_order_value») (g .lowest)),
-      ((refl, folded-fits (s .«max_order_value») (g .highest)),
-      ((refl, folded-fits (s .«max_rebalance_notional») (g .notional)),
-      ((refl, folded-fits (s .«quantity_step») (g .step)),
-      ((rate-allowed (costsOf s .«commission_bps»), rate-small (costsOf s .«commission_bps») (g .commission)),
-      ((rate-allowed (s .«no_trade_band_bps»), rate-small (s .«no_trade_band_bps») (g .band)),
-      ((rate-allowed (costsOf s .«slippage_bps»), rate-small (costsOf s .«slippage_bps») (g .slippage)),
-      (mark-stands (s .«max_trades_per_rebalance»),
-      (count-stands (s .«max_trades_per_rebalance») (g .cap),
-      ((refl, folded-fits (costsOf s .«max_commission») (g .ceiling)),
-      (flag-stands (s .recording),
-      (flag-stands (s .«cash_first»),
-      ((refl, h .orders),
-      ((refl, folded-fits (c .«last_rebalance_notional») (h .notional)),
-      ((refl, h .trimmed),
-      ((refl, folded-fits (c .«trimmed_shortfall_cents») (h .shortfall)),
-      ((refl, h .records),
-      ((refl, h .equities),
-      ((refl, h .returns),
-      ((refl, folded-fits (a .series .«prev_equity») (h .previous)),
-      ((le-leb (a .positions .count) 64 (account-small a e), k .positions .count),
-      omega arith)))))))))))))))))))))))
+settings-allowed : (s : Settings) (before : ℕ) (later : List ℕ) → Kept s → Allowed newest (drop 14 headFields) (flagWord (s .«cash_first»)) later → Allowed newest (drop 1 headFields) before (settingValues s later)
+unfolding headFields settingValues hasField follows allowed
+settings-allowed s before later g o =
+    (refl, folded-fits (costsOf s .«min_commission») (g .floor))
+    ▸ (refl, folded-fits (s .«min_order_value») (g .lowest))
+    ▸ (refl, folded-fits (s .«max_order_value») (g .highest))
+    ▸ (refl, folded-fits (s .«max_rebalance_notional») (g .notional))
+    ▸ (refl, folded-fits (s .«quantity_step») (g .step))
+    ▸ (rate-allowed (costsOf s .«commission_bps»), rate-small (costsOf s .«commission_bps») (g .commission))
+    ▸ (rate-allowed (s .«no_trade_band_bps»), rate-small (s .«no_trade_band_bps») (g .band))
+    ▸ (rate-allowed (costsOf s .«slippage_bps»), rate-small (costsOf s .«slippage_bps») (g .slippage))
+    ▸ mark-stands (s .«max_trades_per_rebalance»)
+    ▸ count-stands (s .«max_trades_per_rebalance») (g .cap)
+    ▸ (refl, folded-fits (costsOf s .«max_commission») (g .ceiling))
+    ▸ flag-stands (s .recording)
+    ▸ flag-stands (s .«cash_first»)
+    ▸ o
+
+counts-allowed : (c : Counters) (x : Series) (before n : ℕ) → KeptCounts c x → n ≤ 64 → Allowed newest (drop 14 headFields) before (counterValues c x (n ∷ []))
+unfolding headFields counterValues hasField follows allowed
+counts-allowed c x before n k h =
+    (refl, k .orders)
+    ▸ (refl, folded-fits (c .«last_rebalance_notional») (k .notional))
+    ▸ (refl, k .trimmed)
+    ▸ (refl, folded-fits (c .«trimmed_shortfall_cents») (k .shortfall))
+    ▸ (refl, k .records)
+    ▸ (refl, k .equities)
+    ▸ (refl, k .returns)
+    ▸ (refl, folded-fits (x .«prev_equity») (k .previous))
+    ▸ (le-leb n 64 h, omega arith)
+    ▸ omega arith
+
+pub head-allowed : (a : Account) → soundAccount a ≡ true → KeptAccount a → Allowed newest headFields 0 (headValues (ledgerOf a))
+unfolding headFields headValues hasField follows allowed
+head-allowed a e k =
+    (refl, folded-fits (a .cash) (k .cash))
+    ▸ settings-allowed (a .settings) (folded (a .cash)) (counterValues (a .counters) (a .series) (a .positions .count ∷ [])) (k .settings)
+    (counts-allowed (a .counters) (a .series) (flagWord (a .settings .«cash_first»)) (a .positions .count) (k .counts) (account-small a e))
 
 -- ---- back to the account
 rate-back : (x : Float) → T (fits binary64 x) → floatOf (ratePattern x) ≡ plainZero x
