@@ -12,7 +12,6 @@ use Rattle.position.specs.Rows.{keyOf, numbersOf}
 use Rattle.position.specs.Symbols.{symbolBytes}
 use Rattle.account.specs.declared.account.Account.{Account}
 use Rattle.account.specs.Account.{heldIn, soundAccount}
-use Rattle.account.specs.Inner.Account.{ledgerOf}
 use Rattle.account_bytes.proofs.AccountKept.{KeptAccount}
 use Rattle.seven_bit.specs.Groups.{groups}
 use Rattle.seven_bit.specs.Signed.{folded}
@@ -20,7 +19,7 @@ use Rattle.seven_bit.proofs.Groups.{Octets, write-octets}
 use Rattle.saved_form.specs.declared.field.Field.{Field}
 use Rattle.saved_form.specs.Fields.{newest, headFields, positionFields, hasField}
 use Rattle.saved_form.specs.Texts.{unpadded, textOf, symbolFile}
-use Rattle.saved_form.specs.Values.{headValues}
+use Rattle.saved_form.specs.Values.{scalarsOf, headValues}
 use Rattle.saved_form.specs.Writing.{fieldFile, fieldsFile, positionFile, positionsFile, fileOf}
 use Rattle.word_bytes.proofs.Words.{Words}
 use Rattle.saved_laws.proofs.Fields.{allowed-words}
@@ -79,8 +78,8 @@ positions-octets (p ∷ ps) f = octets-append (positionFile p) (positionsFile ps
 pub file-octets : (a : Account) → soundAccount a ≡ true → KeptAccount a → Octets (fileOf a)
 unfolding fileOf
 file-octets a e k =
-    let h : List ℕ = fieldsFile newest headFields 0 (headValues (ledgerOf a)) in
+    let h : List ℕ = fieldsFile newest headFields 0 (headValues (scalarsOf a)) in
     let p : List ℕ = positionsFile (heldIn (a .positions)) in
     octets-append (groups newest) (h ++ p) (groups-octets newest (omega arith))
-    (octets-append h p (fields-octets newest headFields 0 (headValues (ledgerOf a)) (allowed-words newest headFields 0 (headValues (ledgerOf a)) (head-allowed a e k)))
+    (octets-append h p (fields-octets newest headFields 0 (headValues (scalarsOf a)) (allowed-words newest headFields 0 (headValues (scalarsOf a)) (head-allowed a e k)))
     (positions-octets (heldIn (a .positions)) (rows-fit a e k)))

@@ -17,10 +17,8 @@ use Rattle.position.specs.Rows.{fresh}
 use Rattle.position.specs.Fills.{sound}
 use Rattle.table.specs.declared.table.Table.{Table}
 use Rattle.table.specs.Rows.{columnsOf, rowAt}
-use Rattle.table.specs.Inner.Places.{shorter}
 use Rattle.account.specs.declared.account.Account.{Account}
 use Rattle.account.specs.Account.{heldIn, soundAccount}
-use Rattle.account.specs.Inner.Account.{ledgerOf}
 use Rattle.account.proofs.Columns.{rows-length, row-of, sound-at}
 use Rattle.account.proofs.Tables.{held-table}
 use Rattle.account.proofs.SoundAccounts.{account-small, account-table}
@@ -31,11 +29,11 @@ use Rattle.seven_bit.specs.Groups.{groups}
 use Rattle.seven_bit.specs.Placed.{numberAt}
 use Rattle.seven_bit.proofs.Signed.{folded-fits}
 use Rattle.saved_form.specs.Fields.{newest, headFields}
-use Rattle.saved_form.specs.Values.{settingValues, counterValues, headValues}
+use Rattle.saved_form.specs.Values.{scalarsOf, settingValues, counterValues, headValues}
 use Rattle.saved_form.specs.Writing.{fieldsFile, positionsFile}
 use Rattle.loading.specs.declared.head.Head.{Head}
 use Rattle.loading.specs.declared.positions.Positions.{Positions}
-use Rattle.loading.specs.Reading.{headOf, headRead, positionsRead, filed, tableRead, headIn, positionsIn}
+use Rattle.loading.specs.Reading.{headOf, headRead, positionsRead, filed, upTo64, tableRead, headIn, positionsIn}
 use Rattle.saved_laws.proofs.Places.{was, number-back, number-part}
 use Rattle.saved_laws.proofs.Fields.{ran, fields-back, fields-part}
 use Rattle.saved_laws.proofs.Texts.{text-of}
@@ -76,28 +74,24 @@ module _ (a : Account) (e : soundAccount a ≡ true) (k : KeptAccount a) where
 
 -- ---- where they stand
 abbrev pub headFile : Account → List ℕ
-headFile a = fieldsFile newest headFields 0 (headValues (ledgerOf a))
+headFile a = fieldsFile newest headFields 0 (headValues (scalarsOf a))
 
 abbrev pub heldFile : Account → List ℕ
 heldFile a = positionsFile (heldIn (a .positions))
 
 abbrev pub headTo : Account → ℕ → Head
-headTo a next = record { answer = Done; next = next; values = headValues (ledgerOf a) }
+headTo a next = record { answer = Done; next = next; count = a .positions .count; values = headValues (scalarsOf a) }
 
-head-whole : (a : Account) (next : ℕ) → headOf (ran (headValues (ledgerOf a)) next) ≡ headTo a next
+head-whole : (a : Account) (next : ℕ) → headOf (ran (headValues (scalarsOf a)) next) ≡ headTo a next
 unfolding headOf headValues settingValues counterValues
 head-whole a next = refl
 
-pub at-most-64 : (n : ℕ) → n ≤ 64 → shorter n 64 ≡ n
+pub at-most-64 : (n : ℕ) → n ≤ 64 → upTo64 n ≡ n
 at-most-64 n h = go (ltb n 64) refl
   where
     go : (t : Bool) → ltb n 64 ≡ t → pick t n 64 ≡ n
     go true e = refl
     go false e = omega (arith, ltb-false n 64 e)
-
-count-in : (a : Account) → getD (headValues (ledgerOf a)) 22 0 ≡ a .positions .count
-unfolding headValues settingValues counterValues
-count-in a = refl
 
 module _ (a : Account) (e : soundAccount a ≡ true) (k : KeptAccount a) (l : List ℕ) where
   pub form-in : (rest : List ℕ) → l ≡ groups newest ++ rest → numberAt l 0 ≡ was newest (0 + length (groups newest))
@@ -111,24 +105,22 @@ module _ (a : Account) (e : soundAccount a ≡ true) (k : KeptAccount a) (l : Li
     unfolding headRead
     head-in rest q =
         ap (λ (m : Number). headRead l (m .value) (m .next)) f
-        ∙ ap headOf (fields-back l rest newest headFields 0 (headValues (ledgerOf a)) n (head-allowed a e k) q)
+        ∙ ap headOf (fields-back l rest newest headFields 0 (headValues (scalarsOf a)) n (head-allowed a e k) q)
         ∙ head-whole a (n + length (headFile a))
 
     pub head-part : (j : ℕ) → j < length (headFile a) → drop n l ≡ take j (headFile a) → headIn l .answer ≡ EndsEarly
     unfolding headRead headOf
     head-part j h q =
         ap (λ (m : Number). headRead l (m .value) (m .next) .answer) f
-        ∙ fields-part l newest headFields 0 (headValues (ledgerOf a)) n j (head-allowed a e k) h q
+        ∙ fields-part l newest headFields 0 (headValues (scalarsOf a)) n j (head-allowed a e k) h q
 
     module _ (m : ℕ) (g : headIn l ≡ headTo a m) where
       places-read : positionsIn l ≡ filed (positionsRead (length (heldIn (a .positions))) l newest m)
       unfolding tableRead
       places-read =
-          let c : shorter (getD (headValues (ledgerOf a)) 22 0) 64 ≡ length (heldIn (a .positions)) =
-          ap (λ (i : ℕ). shorter i 64) (count-in a) ∙ at-most-64 (a .positions .count) (account-small a e) ∙ sym (rows-count a e k) in
-          ap (λ (h : Head). tableRead l (numberAt l 0 .value) (getD (h .values) 22 0) (h .next)) g
-          ∙ ap (λ (i : Number). tableRead l (i .value) (getD (headValues (ledgerOf a)) 22 0) m) f
-          ∙ ap (λ (i : ℕ). filed (positionsRead i l newest m)) c
+          ap (λ (h : Head). tableRead l (numberAt l 0 .value) (h .count) (h .next)) g
+          ∙ ap (λ (i : Number). tableRead l (i .value) (a .positions .count) m) f
+          ∙ ap (λ (i : ℕ). filed (positionsRead i l newest m)) (at-most-64 (a .positions .count) (account-small a e) ∙ sym (rows-count a e k))
 
       pub positions-in : (rest : List ℕ) → drop m l ≡ heldFile a ++ rest → positionsIn l ≡ record { answer = Done; next = m + length (heldFile a); table = a .positions }
       unfolding filed

@@ -23,7 +23,6 @@ use Rattle.account.specs.declared.account.Account.{Account}
 use Rattle.account.specs.declared.settings.TradeCap.{TradeCap}
 use Rattle.account.specs.declared.settings.TradeCap.the-variants.{Absent, AtMost}
 use Rattle.account.specs.Account.{heldIn, soundAccount}
-use Rattle.account.specs.Inner.Account.{ledgerOf}
 use Rattle.account.proofs.Changes.{good-parts as good-settings}
 use Rattle.account.proofs.SoundAccounts.{account-small, account-settings, account-costs}
 use Rattle.account_bytes.specs.Settings.{costsOf, capMark, flagWord}
@@ -36,7 +35,7 @@ use Rattle.seven_bit.proofs.Groups.{write-few}
 use Rattle.saved_form.specs.declared.field.Field.{Field}
 use Rattle.saved_form.specs.Fields.{newest, headFields, positionFields, negativeZero, hasField}
 use Rattle.saved_form.specs.Texts.{textOf, symbolFile}
-use Rattle.saved_form.specs.Values.{ratePattern, settingValues, counterValues, headValues}
+use Rattle.saved_form.specs.Values.{scalarsOf, ratePattern, settingValues, counterValues, headValues}
 use Rattle.saved_form.specs.Writing.{fieldFile, fieldsFile, positionFile, positionsFile, fileOf}
 use Rattle.saved_laws.specs.Statement.{longest}
 use Rattle.saved_laws.proofs.Places.{_▸_}
@@ -157,7 +156,7 @@ abbrev bounds : List ℕ
 bounds = 10 ∷ 10 ∷ 10 ∷ 10 ∷ 10 ∷ 10 ∷ 9 ∷ 9 ∷ 9 ∷ 1 ∷ 10 ∷ 10 ∷ 1 ∷ 1 ∷ 10 ∷ 10 ∷ 10 ∷ 10 ∷ 10 ∷ 10 ∷ 10 ∷ 10 ∷ 1 ∷ []
 
 module _ (a : Account) (e : soundAccount a ≡ true) (k : KeptAccount a) where
-  head-within : Within (headValues (ledgerOf a)) bounds
+  head-within : Within (headValues (scalarsOf a)) bounds
   unfolding headValues settingValues counterValues
   head-within =
       let s = a .settings in
@@ -176,14 +175,14 @@ module _ (a : Account) (e : soundAccount a ≡ true) (k : KeptAccount a) where
   pub at-most-3328 : length (fileOf a) ≤ longest
   unfolding fileOf
   at-most-3328 =
-      let h : List ℕ = fieldsFile newest headFields 0 (headValues (ledgerOf a)) in
+      let h : List ℕ = fieldsFile newest headFields 0 (headValues (scalarsOf a)) in
       let p : List ℕ = positionsFile (heldIn (a .positions)) in
       omega (
         arith,
         length-append (groups newest) (h ++ p),
         length-append h p,
         one newest (omega arith),
-        fields-most newest headFields 0 (headValues (ledgerOf a)) bounds head-within,
+        fields-most newest headFields 0 (headValues (scalarsOf a)) bounds head-within,
         positions-most (heldIn (a .positions)) (rows-fit a e k),
         rows-count a e k,
         account-small a e,

@@ -17,7 +17,6 @@ use Rattle.position.specs.Fills.{sound}
 use Rattle.table.specs.Rows.{columnsOf, emptyTable}
 use Rattle.account.specs.Account.{heldIn, tableOf, soundTable, soundAccount}
 use Rattle.account.specs.Calls.{answered, zeroAccount}
-use Rattle.account.specs.Inner.Account.{ledgerOf}
 use Rattle.account.proofs.Columns.{sound-rows}
 use Rattle.account.proofs.Tables.{table-held}
 use Rattle.account.proofs.SoundAccounts.{account-table, account-settings}
@@ -27,7 +26,7 @@ use Rattle.seven_bit.specs.Groups.{groups}
 use Rattle.seven_bit.specs.Placed.{numberAt}
 use Rattle.seven_bit.proofs.Groups.{Octets}
 use Rattle.saved_form.specs.Fields.{newest, headFields}
-use Rattle.saved_form.specs.Values.{headValues, settingsOf, accountOf}
+use Rattle.saved_form.specs.Values.{scalarsOf, headValues, settingsOf, accountOf}
 use Rattle.saved_form.specs.Writing.{fieldsFile, positionsFile, fileOf}
 use Rattle.loading.specs.declared.head.Head.{Head}
 use Rattle.loading.specs.declared.positions.Positions.{Positions}
@@ -90,7 +89,7 @@ rows-sound ps h e = sym (ap (all sound) (table-held ps h)) ∙ sound-rows (table
 -- ---- the file of what was read
 module _ (l : List ℕ) where
   joined : (n m : ℕ) (vs : List ℕ) (ps : List Position) → l ≡ groups newest ++ drop n l → drop n l ≡ fieldsFile newest headFields 0 vs ++ drop m l → drop m l ≡ positionsFile ps
-      → headValues (ledgerOf (accountOf vs (tableOf ps))) ≡ vs → heldIn (tableOf ps) ≡ ps → fileOf (accountOf vs (tableOf ps)) ≡ l
+      → headValues (scalarsOf (accountOf vs (tableOf ps))) ≡ vs → heldIn (tableOf ps) ≡ ps → fileOf (accountOf vs (tableOf ps)) ≡ l
   unfolding fileOf accountOf
   joined n m vs ps f h p v t =
       let w : fileOf (accountOf vs (tableOf ps)) ≡ groups newest ++ (fieldsFile newest headFields 0 vs ++ positionsFile ps) = ap (λ (us : List ℕ). groups newest ++ (fieldsFile newest headFields 0 us ++ positionsFile (heldIn (tableOf ps)))) v ∙ ap (λ (qs : List Position). groups newest ++ (fieldsFile newest headFields 0 vs ++ positionsFile qs)) t in
@@ -119,13 +118,13 @@ module _ (l : List ℕ) where
     run-whole : Whole l newest headFields 0 from run
     run-whole = fields-one l newest headFields 0 from o run-done
 
-    head-is : headIn l ≡ record { answer = run .answer; next = run .next; values = run .values }
+    head-is : headIn l ≡ record { answer = run .answer; next = run .next; count = getD (run .values) 22 0; values = run .values }
     unfolding headRead headOf headFields
     head-is =
         let n : length (run .values) ≡ 23 = allowed-length newest headFields 0 (run .values) (run-whole .allowed) in
         let z : 23 - length (run .values) ≡ 0 = omega arith in
         ap (λ (v : ℕ). headRead l v from) (passes .known)
-        ∙ ap (λ (us : List ℕ). record { answer = run .answer; next = run .next; values = us }) (ap (λ (k : ℕ). run .values ++ replicate k 0) z ∙ append-nil (run .values))
+        ∙ ap (λ (us : List ℕ). record { answer = run .answer; next = run .next; count = getD (run .values) 22 0; values = us }) (ap (λ (k : ℕ). run .values ++ replicate k 0) z ∙ append-nil (run .values))
 
     at-most : getD (run .values) 22 0 ≤ 64
     at-most = few (run .values) emptyTable (run-whole .allowed)
@@ -133,7 +132,7 @@ module _ (l : List ℕ) where
     positions-are : positionsIn l ≡ filed places
     unfolding tableRead
     positions-are =
-        ap (λ (h : Head). tableRead l (numberAt l 0 .value) (getD (h .values) 22 0) (h .next)) head-is
+        ap (λ (h : Head). tableRead l (numberAt l 0 .value) (h .count) (h .next)) head-is
         ∙ ap (λ (v : ℕ). tableRead l v (getD (run .values) 22 0) (run .next)) (passes .known)
         ∙ ap (λ (k : ℕ). filed (positionsRead k l newest (run .next))) (at-most-64 (getD (run .values) 22 0) at-most)
 
@@ -170,7 +169,7 @@ module _ (l : List ℕ) where
     unfolding accountOf
     rates-numbers = good-rates (settingsOf (run .values)) (account-settings (accountOf (run .values) (tableOf held-rows)) account-sound)
 
-    values-are : headValues (ledgerOf (accountOf (run .values) (tableOf held-rows))) ≡ run .values
+    values-are : headValues (scalarsOf (accountOf (run .values) (tableOf held-rows))) ≡ run .values
     unfolding accountOf
     values-are =
         head-one (run .values) (tableOf held-rows) (run-whole .allowed) rates-numbers (table-count held-rows ∙ rolled .count)

@@ -13,13 +13,12 @@ use Rattle.answer.specs.declared.Answer.the-variants.{Done, Unsound, EndsEarly,
 use Rattle.account.specs.declared.account.Account.{Account}
 use Rattle.account.specs.Account.{soundAccount}
 use Rattle.account.specs.Calls.{answered}
-use Rattle.account.specs.Inner.Account.{ledgerOf}
 use Rattle.account_bytes.proofs.AccountKept.{KeptAccount}
 use Rattle.seven_bit.specs.declared.Number.{Number}
 use Rattle.seven_bit.specs.Groups.{groups}
 use Rattle.seven_bit.specs.Placed.{numberAt}
 use Rattle.saved_form.specs.Fields.{newest}
-use Rattle.saved_form.specs.Values.{headValues, accountOf}
+use Rattle.saved_form.specs.Values.{scalarsOf, headValues, accountOf}
 use Rattle.saved_form.specs.Writing.{fileOf}
 use Rattle.loading.specs.declared.head.Head.{Head}
 use Rattle.loading.specs.declared.positions.Positions.{Positions}
@@ -91,7 +90,7 @@ module _ (a : Account) (e : soundAccount a ≡ true) (k : KeptAccount a) where
     unfolding fileAccount
     account-read =
         ap (λ (h : Head). accountOf (h .values) (positionsIn l .table)) head-read
-        ∙ ap (λ (p : Positions). accountOf (headValues (ledgerOf a)) (p .table)) positions-read
+        ∙ ap (λ (p : Positions). accountOf (headValues (scalarsOf a)) (p .table)) positions-read
         ∙ head-back a k
 
     ends-there : positionsIn l .next ≡ length l

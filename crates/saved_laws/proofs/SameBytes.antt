@@ -9,13 +9,12 @@ use lib.Dec.{T, eqb}
 use lib.Ieee.{Float, binary64, fits}
 use Rattle.account.specs.declared.account.Account.{Account}
 use Rattle.account.specs.Account.{heldIn, soundAccount}
-use Rattle.account.specs.Inner.Account.{ledgerOf}
 use Rattle.account_bytes.specs.Settings.{costsOf}
 use Rattle.account_bytes.proofs.AccountKept.{KeptAccount}
 use Rattle.word_bytes.specs.Numbers.{patternOf}
 use Rattle.seven_bit.specs.Groups.{groups}
 use Rattle.saved_form.specs.Fields.{newest, headFields, negativeZero, allowed}
-use Rattle.saved_form.specs.Values.{ratePattern, settingValues, counterValues, headValues}
+use Rattle.saved_form.specs.Values.{scalarsOf, ratePattern, settingValues, counterValues, headValues}
 use Rattle.saved_form.specs.Writing.{fieldsFile, positionsFile, fileOf}
 use Rattle.loading.specs.Loading.{fileAccount}
 use Rattle.saved_laws.specs.Zeros.{plainZero, plainAccount}
@@ -30,7 +29,7 @@ plain-rate x f =
     let n : eqb (ratePattern x) negativeZero ≡ false = not-true (eqb (ratePattern x) negativeZero) (rate-allowed x) in
     rw p (rw n refl)
 
-plain-values : (a : Account) → KeptAccount a → headValues (ledgerOf (plainAccount a)) ≡ headValues (ledgerOf a)
+plain-values : (a : Account) → KeptAccount a → headValues (scalarsOf (plainAccount a)) ≡ headValues (scalarsOf a)
 unfolding headValues settingValues counterValues
 plain-values a k =
     simp (

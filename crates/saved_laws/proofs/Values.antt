@@ -18,7 +18,6 @@ use Rattle.account.specs.declared.settings.Settings.{Settings}
 use Rattle.account.specs.declared.settings.TradeCap.{TradeCap}
 use Rattle.account.specs.declared.settings.TradeCap.the-variants.{Absent, AtMost}
 use Rattle.account.specs.Account.{soundAccount}
-use Rattle.account.specs.Inner.Account.{ledgerOf}
 use Rattle.account.proofs.SoundAccounts.{account-small}
 use Rattle.account_bytes.specs.Settings.{costsOf, capMark, capCount, capOf, flagWord, flagOf}
 use Rattle.account_bytes.proofs.SettingsKept.{NoNan, Kept}
@@ -31,7 +30,7 @@ use Rattle.seven_bit.proofs.Signed.{unfolded-folded, folded-unfolded, folded-fi
 use Rattle.saved_form.specs.declared.field.Field.{Field}
 use Rattle.saved_form.specs.declared.field.Kind.the-variants.{Any, Flag, AfterMark, Pattern}
 use Rattle.saved_form.specs.Fields.{newest, since, headFields, negativeZero, allowed, follows, hasField}
-use Rattle.saved_form.specs.Values.{ratePattern, settingValues, counterValues, headValues, settingsOf, countersOf, seriesOf, accountOf}
+use Rattle.saved_form.specs.Values.{scalarsOf, ratePattern, settingValues, counterValues, headValues, settingsOf, countersOf, seriesOf, accountOf}
 use Rattle.saved_laws.specs.Zeros.{plainZero, plainAccount}
 use Rattle.saved_laws.proofs.Patterns.{plain-read}
 use Rattle.saved_laws.proofs.Places.{_▸_}
@@ -101,7 +100,7 @@ counts-allowed c x before n k h =
     ▸ (le-leb n 64 h, omega arith)
     ▸ omega arith
 
-pub head-allowed : (a : Account) → soundAccount a ≡ true → KeptAccount a → Allowed newest headFields 0 (headValues (ledgerOf a))
+pub head-allowed : (a : Account) → soundAccount a ≡ true → KeptAccount a → Allowed newest headFields 0 (headValues (scalarsOf a))
 unfolding headFields headValues hasField follows allowed
 head-allowed a e k =
     (refl, folded-fits (a .cash) (k .cash))
@@ -123,7 +122,7 @@ flag-back true = refl
 flag-back false = refl
 
 module _ (a : Account) (k : KeptAccount a) where
-  pub head-back : accountOf (headValues (ledgerOf a)) (a .positions) ≡ plainAccount a
+  pub head-back : accountOf (headValues (scalarsOf a)) (a .positions) ≡ plainAccount a
   unfolding accountOf settingsOf countersOf seriesOf headValues settingValues counterValues
   head-back = simp (
     unfolded-folded,
@@ -176,7 +175,7 @@ module _ (vs : List ℕ) (t : Table) (o : Allowed newest headFields 0 vs) where
   few = leb-true (getD vs 22 0) 64 (at-place 22 (omega arith) .0)
 
   module _ (n : NoNan (settingsOf vs)) (c : t .count ≡ getD vs 22 0) where
-    pub head-one : headValues (ledgerOf (accountOf vs t)) ≡ vs
+    pub head-one : headValues (scalarsOf (accountOf vs t)) ≡ vs
     unfolding accountOf settingsOf countersOf seriesOf headValues settingValues counterValues headFields hasField follows allowed
     head-one =
         let l : length vs ≡ 23 = allowed-length newest headFields 0 vs o in
