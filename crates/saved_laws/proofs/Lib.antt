@@ -4,8 +4,6 @@ pub mod Fields
 pub mod Texts
 pub mod Symbols
 pub mod Positions
-pub mod Patterns
-pub mod Plain
 pub mod Values
 pub mod Files
 pub mod ReadsBack

@@ -40,7 +40,8 @@ use Rattle.saved_form.specs.Writing.{fieldFile, fieldsFile, positionFile, posit
 use Rattle.saved_laws.specs.Statement.{longest}
 use Rattle.saved_laws.proofs.Places.{_▸_}
 use Rattle.saved_laws.proofs.Texts.{Text}
-use Rattle.saved_laws.proofs.Patterns.{zero-pattern}
+use Rattle.zero_laws.proofs.Patterns.{plain-pattern}
+use Rattle.zero_laws.specs.Zeros.{plainZero}
 use Rattle.saved_laws.proofs.Positions.{Fit, Fits}
 use Rattle.saved_laws.proofs.Files.{rows-count, rows-fit}
 
@@ -99,7 +100,7 @@ unfolding ratePattern
 rate-low nan f h = unfold le in absurd h
 rate-low (inf true) f h = unfold le in absurd h
 rate-low (inf false) f h = picked-low (patternOf (inf false)) (eqb (patternOf (inf false)) negativeZero) (unfold toBits in omega arith)
-rate-low (fin true zero e) f h = rw (zero-pattern true e) (omega arith)
+rate-low (fin true zero e) f h = subst (λ (n : ℕ). n < 2 ^ 63) (plain-pattern (fin true zero e) f) (unfold plainZero toBits in omega arith)
 rate-low (fin true (suc m) e) f h =
     let p : 0 < suc m * up e = mul-pos (omega arith) (up-pos e) in
     absurd (omega (arith, le-fin→ false 0 (pos 0) true (suc m) e h))

@@ -24,9 +24,9 @@ use Rattle.loading.specs.declared.head.Head.{Head}
 use Rattle.loading.specs.declared.positions.Positions.{Positions}
 use Rattle.loading.specs.Reading.{headIn, positionsIn}
 use Rattle.loading.specs.Loading.{fileAccount, loadAnswer, loaded}
-use Rattle.saved_laws.specs.Zeros.{plainAccount}
+use Rattle.zero_laws.specs.Zeros.{plainAccount}
 use Rattle.saved_laws.proofs.Places.{after, Part, within, past, part, was}
-use Rattle.saved_laws.proofs.Plain.{plain-sound}
+use Rattle.zero_laws.proofs.Sound.{plain-sound}
 use Rattle.saved_laws.proofs.Values.{head-back}
 use Rattle.saved_laws.proofs.Files.{headFile, heldFile, headTo, form-in, form-part, head-in, head-part, positions-in, held-part}
 

@@ -17,8 +17,8 @@ use Rattle.saved_form.specs.Fields.{newest, headFields, negativeZero, allowed}
 use Rattle.saved_form.specs.Values.{scalarsOf, ratePattern, settingValues, counterValues, headValues}
 use Rattle.saved_form.specs.Writing.{fieldsFile, positionsFile, fileOf}
 use Rattle.loading.specs.Loading.{fileAccount}
-use Rattle.saved_laws.specs.Zeros.{plainZero, plainAccount}
-use Rattle.saved_laws.proofs.Patterns.{plain-pattern}
+use Rattle.zero_laws.specs.Zeros.{plainZero, plainAccount}
+use Rattle.zero_laws.proofs.Patterns.{plain-pattern}
 use Rattle.saved_laws.proofs.Values.{rate-allowed}
 use Rattle.saved_laws.proofs.ReadsBack.{file-account}
 

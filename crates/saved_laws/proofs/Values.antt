@@ -31,8 +31,8 @@ use Rattle.saved_form.specs.declared.field.Field.{Field}
 use Rattle.saved_form.specs.declared.field.Kind.the-variants.{Any, Flag, AfterMark, Pattern}
 use Rattle.saved_form.specs.Fields.{newest, since, headFields, negativeZero, allowed, follows, hasField}
 use Rattle.saved_form.specs.Values.{scalarsOf, ratePattern, settingValues, counterValues, headValues, settingsOf, countersOf, seriesOf, accountOf}
-use Rattle.saved_laws.specs.Zeros.{plainZero, plainAccount}
-use Rattle.saved_laws.proofs.Patterns.{plain-read}
+use Rattle.zero_laws.specs.Zeros.{plainZero, plainAccount}
+use Rattle.zero_laws.proofs.Patterns.{plain-read}
 use Rattle.saved_laws.proofs.Places.{_▸_}
 use Rattle.saved_laws.proofs.Fields.{Stands, Allowed, allowed-length}
 

@@ -1,3 +1,2 @@
--- What the laws of the saved form speak of, and what they say.
-pub mod Zeros
+-- What the laws of the saved form say.
 pub mod Statement

@@ -13,7 +13,7 @@ use Rattle.account.specs.Account.{soundAccount}
 use Rattle.account.specs.Calls.{answered, zeroAccount}
 use Rattle.saved_form.specs.Writing.{fileOf}
 use Rattle.loading.specs.Loading.{fileAccount, loadAnswer, loaded}
-use Rattle.saved_laws.specs.Zeros.{plainAccount}
+use Rattle.zero_laws.specs.Zeros.{plainAccount}
 
 -- every element a byte
 abbrev pub areBytes : List ℕ → Bool
