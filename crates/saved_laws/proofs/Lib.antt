@@ -13,5 +13,6 @@ pub mod SameBytes
 pub mod Bytes
 pub mod Longest
 pub mod Fullest
+pub mod Later
 pub mod Laws
 pub mod Cases

@@ -13,7 +13,9 @@ use Rattle.account.specs.Account.{soundAccount}
 use Rattle.account.specs.Calls.{answered, zeroAccount}
 use Rattle.saved_form.specs.Writing.{fileOf}
 use Rattle.loading.specs.Loading.{fileAccount, loadAnswer, loaded}
-use Rattle.zero_laws.specs.Zeros.{plainAccount}
+use Rattle.zero_laws.specs.Zeros.{plainAccount, Alike}
+use Rattle.zero_laws.specs.Told.{SameTold}
+use Rattle.zero_laws.specs.History.{Step, replies, left}
 
 -- every element a byte
 abbrev pub areBytes : List ℕ → Bool
@@ -31,6 +33,14 @@ pub record Saved (a : Account) : Type 0 where
   pub ends-early : (j : ℕ) → j < length (fileOf a) → loadAnswer (take j (fileOf a)) ≡ EndsEarly
   pub bytes : areBytes (fileOf a) ≡ true
   pub short : length (fileOf a) ≤ longest
+
+-- "Saving and loading between calls changes no later answer in demands 2 and 3, that sign apart": of a sound account, and of any calls after it with more loads between them
+pub record Later (a : Account) : Type 0 where
+  -- every answer, record, figure and lent place
+  pub replies-same : (h : List Step) → replies h (loaded (fileOf a) .account) ≡ replies h a
+  -- the account that they leave, and whatever is asked of it
+  pub left-alike : (h : List Step) → Alike (left h (loaded (fileOf a) .account)) (left h a)
+  pub told-same : (h : List Step) → SameTold (left h (loaded (fileOf a) .account)) (left h a)
 
 -- of two sound accounts: "Up to that, equal accounts give equal bytes", and no others do
 abbrev pub SameFile : Account → Account → Type 0
