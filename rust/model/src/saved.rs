@@ -48,8 +48,10 @@ pub fn save(file: &Path, name: &str, history: &History, left_out: &[String]) -> 
         Ok(length) => length,
         Err(refusal) => return Ok(Err(not_saved(file, refusal))),
     };
-    replace(&beside(file), kept::written(name, history, left_out).as_bytes())?;
-    replace(file, &room[..length])?;
+    let beside = beside(file);
+    let (account, kept) = (place(file)?, place(&beside)?);
+    replace(&kept, kept::written(name, history, left_out).as_bytes())?;
+    replace(&account, &room[..length])?;
     Ok(Ok(()))
 }
 
@@ -67,9 +69,21 @@ fn beside(file: &Path) -> PathBuf {
     with_ending(file, ".history")
 }
 
+/// Where a file is to be written. A link stays one, since what it leads to is replaced; a folder or a device is not replaced.
+fn place(file: &Path) -> io::Result<PathBuf> {
+    let place = std::fs::canonicalize(file).unwrap_or_else(|_| file.into());
+    if place.exists() && !place.is_file() {
+        return Err(io::Error::new(
+            io::ErrorKind::InvalidInput,
+            format!("{}: it is no file that could be replaced", file.display()),
+        ));
+    }
+    Ok(place)
+}
+
 fn replace(file: &Path, bytes: &[u8]) -> io::Result<()> {
     let new = with_ending(file, ".new");
-    let told = |e: io::Error| io::Error::new(e.kind(), format!("{}: {e}", file.display()));
+    let told = |e| named(file, e);
     if let Some(folder) = file.parent() {
         std::fs::create_dir_all(folder).map_err(told)?;
     }
@@ -78,5 +92,9 @@ fn replace(file: &Path, bytes: &[u8]) -> io::Result<()> {
 
 /// The bytes of a file, or why not, with its name.
 pub fn read(file: &Path) -> io::Result<Vec<u8>> {
-    std::fs::read(file).map_err(|e| io::Error::new(e.kind(), format!("{}: {e}", file.display())))
+    std::fs::read(file).map_err(|e| named(file, e))
+}
+
+fn named(file: &Path, e: io::Error) -> io::Error {
+    io::Error::new(e.kind(), format!("{}: {e}", file.display()))
 }

@@ -229,3 +229,21 @@ fn a_group_has_no_saved_account() {
         assert!(said(&out).contains(&format!("{word} names a file")));
     }
 }
+
+/// What is no file is not replaced, and then nothing is written beside it either; a link goes on leading where it did.
+#[cfg(unix)]
+#[test]
+fn only_a_file_is_replaced() {
+    let folder = fresh("no-file.account");
+    std::fs::create_dir_all(&folder).unwrap();
+    let (out, _) = run("no-file", EXAMPLE, None, Some("no-file.account"));
+    assert!(!out.status.success() && said(&out).contains("it is no file that could be replaced"), "{}", said(&out));
+    assert!(folder.is_dir() && bytes("no-file.account.history").is_none());
+    std::fs::remove_dir(&folder).unwrap();
+
+    let (target, link) = (fresh("linked.account"), fresh("link.account"));
+    std::fs::write(&target, b"").unwrap();
+    std::os::unix::fs::symlink(&target, &link).unwrap();
+    run("link", EXAMPLE, None, Some("link.account"));
+    assert!(link.is_symlink() && bytes("linked.account").is_some_and(|file| file[0] == 1));
+}
