@@ -1,6 +1,6 @@
 -- The steps of the code that reads positions: one from its symbol and numbers, one after the other into five columns, and the table of columns that were zeros.
 use Prim.Native.Nat.{ℕ, zero, suc, _+_, _-_, _<_, _≤_}
-use mathlib.Core.Path.{_≡_, refl, sym, ap, _∙_}
+use mathlib.Core.Path.{_≡_, refl, ap, _∙_}
 use mathlib.Core.Bool.{true, false}
 use mathlib.Core.List.{List, [], _∷_, map}
 use native.Mathlib.Omega.{arith}
@@ -24,6 +24,7 @@ use Rattle.table.proofs.Places.{shorter-within}
 use Rattle.account.specs.Account.{tableOf}
 use Rattle.seven_bit.specs.declared.Number.{Number}
 use Rattle.seven_bit.specs.Signed.{unfolded}
+use Rattle.saved_form.proofs.Fields.{position-fields}
 use Rattle.saved_form.specs.declared.field.Field.{Field}
 use Rattle.saved_form.specs.Fields.{positionFields}
 use Rattle.loading.specs.declared.number.Reached.{Reached}
@@ -32,7 +33,7 @@ use Rattle.loading.specs.declared.positions.Filed.{Filed}
 use Rattle.loading.specs.declared.positions.Positions.{Positions}
 use Rattle.loading.specs.Reading.{Run, fieldsRead, symbolRead, noEntry, signedIn, entryOf, entryAfter, positionRead, Rows, noRows, withRow, thenRows, positionsRead, filed, tableRead}
 use Rattle.loading.specs.Inner.Reading.{reached, filedAs, setRows}
-use Rattle.loading.proofs.Numbers.{position-is, runFrom, few-read}
+use Rattle.loading.proofs.Numbers.{runFrom, few-read}
 use Rattle.loading.proofs.Padded.{sets-padded, sets-at}
 
 -- ---- one position
@@ -60,7 +61,7 @@ module _ (l : List ℕ) (form place : ℕ) (s : Number) (e : s ≡ symbolRead l 
     unfolding positionRead entryAfter
     goes-on =
         let w : isDone (symbolRead l place .answer) ≡ true = rw e at d in
-        simp w (ap (λ (fs : List Field). entryOf (s .value) (fieldsRead l form fs 0 (s .next))) (sym position-is) ∙ ap (λ (x : Number). entryOf (x .value) (fieldsRead l form positionFields 0 (x .next))) e)
+        simp w (ap (λ (fs : List Field). entryOf (s .value) (fieldsRead l form fs 0 (s .next))) position-fields ∙ ap (λ (x : Number). entryOf (x .value) (fieldsRead l form positionFields 0 (x .next))) e)
 
     module _ (r : Reached) (v : List ℕ) (f : (r ≡ reached run) × (v ≡ sets (replicate 4 0) 0 (run .values))) where
       pub no-numbers : isDone (r .answer) ≡ false → noEntry (r .answer) (r .next) ≡ positionRead l form place

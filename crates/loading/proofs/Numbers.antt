@@ -13,7 +13,8 @@ use Rattle.answer.specs.declared.Answer.the-variants.{Done, Unsound}
 use Rattle.seven_bit.specs.declared.Number.{Number}
 use Rattle.seven_bit.specs.Placed.{numberAt}
 use Rattle.saved_form.specs.declared.field.Field.{Field}
-use Rattle.saved_form.specs.Fields.{fieldAt, hasField, allowed, headFields, positionFields}
+use Rattle.saved_form.specs.Fields.{fieldAt, hasField, allowed}
+use Rattle.saved_form.proofs.Fields.{head-fields}
 use Rattle.saved_form.specs.Inner.Fields.{fieldsFrom}
 use Rattle.table.specs.Rows.{paddedColumn}
 use Rattle.loading.specs.declared.number.Reached.{Reached}
@@ -120,14 +121,6 @@ module _ {l : List ℕ} {form first place : ℕ} {was out : List ℕ} {i before 
       (ap reached r ∙ h .ends, ap (λ (x : Run). sets out i (x .values)) r ∙ h .kept)
 
 -- ---- the numbers before the positions
-pub head-is : headFields ≡ fieldsFrom 0 23
-unfolding headFields fieldsFrom fieldAt positionFields
-head-is = refl
-
-pub position-is : positionFields ≡ fieldsFrom 23 4
-unfolding headFields fieldsFrom fieldAt positionFields
-position-is = refl
-
 -- at most as many numbers as fields
 few-then : (n : Number) (r : Run) (k : ℕ) (done : Bool) → length (r .values) ≤ k → length (pick done (withValue (n .value) r) (ended (n .answer) (n .next)) .values) ≤ suc k
 few-then n r k true h = omega arith
@@ -148,7 +141,7 @@ head-read l form place {r} {values} (e, f) =
     let few = few-read l form 0 23 0 place in
     let v : values ≡ paddedColumn 23 0 (run .values) = f ∙ sets-padded 23 0 (run .values) few in
     let k : getD values 22 0 ≡ getD (run .values) 22 0 = ap (λ (x : List ℕ). getD x 22 0) f ∙ sets-at 23 0 (run .values) 22 few in
-    let h : headOf run ≡ headRead l form place = ap (λ (fs : List Field). headOf (fieldsRead l form fs 0 place)) (sym head-is) in
+    let h : headOf run ≡ headRead l form place = ap (λ (fs : List Field). headOf (fieldsRead l form fs 0 place)) head-fields in
     ap (λ (x : Reached). record { answer = x .answer; next = x .next; count = getD values 22 0; values = values }) e
     ∙ ap (λ (x : ℕ). record { answer = run .answer; next = run .next; count = x; values = values }) k
     ∙ ap (λ (x : List ℕ). record { answer = run .answer; next = run .next; count = getD (run .values) 22 0; values = x }) v

@@ -4,14 +4,14 @@ use Prim.Native.Nat.{ℕ, zero, suc, _+_, _-_, _<_, _≤_}
 use native.Mathlib.Omega.{arith}
 use mathlib.Core.Bool.{Bool, true, false}
 use mathlib.Core.List.{List, [], _∷_, _++_, map}
-use lib.Dec.{leb, ltb}
+use lib.Dec.{ltb}
 use lib.ListN.{length, getD, take, drop, replicate}
 use borrow.Author.Tests.{le-leb, lt-leb, ltb-true, ltb-false}
-use Rattle.answer.specs.Choice.{both}
 use Rattle.saved_form.specs.declared.field.Kind.{Kind}
 use Rattle.saved_form.specs.declared.field.Kind.the-variants.{Any, Flag, AfterMark, Pattern, Positions}
 use Rattle.saved_form.specs.declared.field.Field.{Field}
 use Rattle.saved_form.specs.Fields.{since, headFields, positionFields, fieldAt, follows, hasField}
+use Rattle.saved_form.specs.Inner.Fields.{fieldsFrom}
 
 in-row : {A : Type 0} (x d : A) (n : ℕ) (l : List A) (i : ℕ) → i < n → getD (replicate n x ++ l) i d ≡ x
 in-row x d zero l i h = absurd (omega arith)
@@ -107,3 +107,12 @@ too-early form f before h = simp (lt-leb (f .since) form h)
 pub in-time : (form : ℕ) (f : Field) (before : ℕ) → f .since ≤ form → follows (f .kind) before ≡ hasField form f before
 unfolding hasField
 in-time form f before h = simp (le-leb (f .since) form h)
+
+-- ---- the lists by number
+pub head-fields : fieldsFrom 0 23 ≡ headFields
+unfolding fieldsFrom fieldAt headFields positionFields
+head-fields = refl
+
+pub position-fields : fieldsFrom 23 4 ≡ positionFields
+unfolding fieldsFrom fieldAt headFields positionFields
+position-fields = refl

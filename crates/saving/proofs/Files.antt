@@ -17,9 +17,10 @@ use Rattle.account.specs.Inner.Account.{ledgerOf}
 use Rattle.seven_bit.specs.Groups.{groups}
 use Rattle.seven_bit.proofs.Groups.{write-few}
 use Rattle.saved_form.specs.declared.field.Field.{Field}
-use Rattle.saved_form.specs.Fields.{newest, headFields, positionFields, fieldAt}
+use Rattle.saved_form.specs.Fields.{newest, headFields}
 use Rattle.saved_form.specs.Inner.Fields.{fieldsFrom}
 use Rattle.saved_form.specs.Values.{settingValues, counterValues, headValues}
+use Rattle.saved_form.proofs.Fields.{head-fields}
 use Rattle.saved_form.specs.Writing.{fieldsFile, positionFile, positionsFile, fileOf}
 use Rattle.saving.specs.Saving.{saveAnswer, refused, savedTold, savedInto}
 use Rattle.saving.specs.Inner.Putting.{Put}
@@ -30,10 +31,6 @@ use Rattle.saving.proofs.PositionRuns.{position-short}
 pub head-length : (h : Ledger) → length (headValues h) ≡ 23
 unfolding headValues settingValues counterValues
 head-length h = refl
-
-head-fields : fieldsFrom 0 23 ≡ headFields
-unfolding fieldsFrom fieldAt headFields positionFields
-head-fields = refl
 
 -- ---- how long it is
 positions-short : (ps : List Position) → length (positionsFile ps) ≤ 58 * length ps

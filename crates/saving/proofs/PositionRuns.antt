@@ -1,5 +1,5 @@
 -- Positions, one after the other.
-use mathlib.Core.Path.{_≡_, refl, sym, _∙_, ap}
+use mathlib.Core.Path.{_≡_, sym, _∙_, ap}
 use Prim.Native.Nat.{ℕ, suc, _+_, _*_, _<_, _≤_}
 use native.Mathlib.Omega.{arith}
 use mathlib.Core.List.{List, [], _++_, map}
@@ -13,9 +13,9 @@ use Rattle.table.specs.declared.found.Found.the-variants.{At}
 use Rattle.account.proofs.Columns.{held-row, rows-length, row-of}
 use Rattle.seven_bit.specs.Signed.{folded}
 use Rattle.saved_form.specs.declared.field.Field.{Field}
-use Rattle.saved_form.specs.Fields.{newest, headFields, positionFields, fieldAt}
-use Rattle.saved_form.specs.Inner.Fields.{fieldsFrom}
+use Rattle.saved_form.specs.Fields.{newest, positionFields}
 use Rattle.saved_form.specs.Texts.{symbolFile}
+use Rattle.saved_form.proofs.Fields.{position-fields}
 use Rattle.saved_form.specs.Writing.{fieldsFile, positionFile, positionsFile}
 use Rattle.saving.specs.Inner.Putting.{Put}
 use Rattle.saving.proofs.Putting.{put-same, put-then, Left, left-all, left-put, left-none}
@@ -23,10 +23,6 @@ use Rattle.saving.proofs.Texts.{symbol-short}
 use Rattle.saving.proofs.FieldRuns.{fields-short, fieldsLeft}
 
 -- the fields after those before the positions
-pub position-fields : fieldsFrom 23 4 ≡ positionFields
-unfolding fieldsFrom fieldAt headFields positionFields
-position-fields = refl
-
 pub position-short : (p : Position) → length (positionFile p) ≤ 58
 unfolding positionFile
 position-short p = omega (arith, length-append (symbolFile (keyOf p)) (fieldsFile newest positionFields 0 (map folded (numbersOf p))), symbol-short (keyOf p), fields-short newest positionFields 0 (map folded (numbersOf p)))
