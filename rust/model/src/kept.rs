@@ -9,6 +9,8 @@ const FIRST: &str = "threshcoil history 1";
 
 #[derive(Clone, Debug, Default)]
 pub struct Kept {
+    /// The account's file in hexadecimal digits, as it was saved; nothing where nothing was.
+    pub account: String,
     pub name: String,
     /// How many equities and returns came before the first equity here; none of either where that is the opening's.
     pub unknown: Option<(u64, u64)>,
@@ -28,10 +30,11 @@ impl Kept {
         Kept { name: "Saved account".into(), unknown, equities: vec![account.previous_equity()], ..Kept::default() }
     }
 
-    /// Whether the account counts what is here, and its last equity is the last one here.
-    pub fn is_of(&self, account: &Account) -> bool {
+    /// Whether this was saved with the account of a file, which then counts what is here, its last equity the last one here.
+    pub fn is_of(&self, file: &[u8], account: &Account) -> bool {
         let (equities, returns) = self.unknown.unwrap_or((0, 0));
-        equities.checked_add(self.equities.len() as u64) == Some(account.equity_count())
+        self.account == hexadecimal(file)
+            && equities.checked_add(self.equities.len() as u64) == Some(account.equity_count())
             && returns.checked_add(self.returns.len() as u64) == Some(account.return_count())
             && self.equities.last() == Some(&account.previous_equity())
     }
@@ -53,6 +56,7 @@ impl Kept {
     fn take(&mut self, word: &str, rest: &str) -> Option<()> {
         let begun = !self.equities.is_empty();
         match word {
+            "account" => self.account = rest.into(),
             "name" => self.name = rest.into(),
             "opening" if !begun => self.equities.push(rest.parse().ok()?),
             "saved" if !begun => {
@@ -90,13 +94,13 @@ impl Kept {
 }
 
 /// What is kept of a run, to stand beside its account; `left_out` is as its page shows it.
-pub fn written(name: &str, history: &History, left_out: &[String]) -> String {
+pub fn written(account: &[u8], name: &str, history: &History, left_out: &[String]) -> String {
     let first = history.equities.first().copied().unwrap_or(0);
     let begins = match history.unknown {
         None => format!("opening {first}"),
         Some((equities, returns)) => format!("saved {first} {equities} {returns}"),
     };
-    let mut out = format!("{FIRST}\nname {name}\n{begins}\n");
+    let mut out = format!("{FIRST}\naccount {}\nname {name}\n{begins}\n", hexadecimal(account));
     for told in &history.periods {
         let _ = writeln!(out, "period {}", told.label);
         for r in &told.fills {
@@ -200,4 +204,8 @@ mod tests {
             assert_eq!(Kept::read(&bad).err(), Some(line), "{bad}");
         }
     }
+}
+
+fn hexadecimal(bytes: &[u8]) -> String {
+    bytes.iter().map(|byte| format!("{byte:02x}")).collect()
 }

@@ -16,6 +16,7 @@ use heard::Heard;
 use history::History;
 use plan::{Plan, Unread};
 use saved::Start;
+use std::ffi::OsString;
 use std::io::{self, IsTerminal, Write};
 use std::path::{Path, PathBuf};
 use std::process::ExitCode;
@@ -70,10 +71,12 @@ fn asked() -> Result<Asked, String> {
             Some("--page") => asked.page = words.next().ok_or("--page names a file")?.into(),
             Some("--stop") if kind == Kind::Model => asked.stop = true,
             Some("--from") if kind == Kind::Model => {
-                asked.from = Some(words.next().ok_or("--from names a file")?.into())
+                let file = words.next().ok_or("--from names a file")?;
+                once(&mut asked.from, file, "one account is continued at a time")?;
             }
             Some("--save") if kind == Kind::Model => {
-                asked.save = Some(words.next().ok_or("--save names a file")?.into())
+                let file = words.next().ok_or("--save names a file")?;
+                once(&mut asked.save, file, "the account is saved to one file")?;
             }
             Some("--example") => asked.text = Some(kind.example()),
             Some("--help" | "-h") => asked.text = Some(USAGE),
@@ -82,7 +85,18 @@ fn asked() -> Result<Asked, String> {
             _ => asked.file = Some(word.into()),
         }
     }
+    if asked.save.as_ref().is_some_and(|save| asked.file.as_ref() == Some(save) || asked.page == *save) {
+        return Err("--save would replace FILE or the page".into());
+    }
     Ok(asked)
+}
+
+fn once(place: &mut Option<PathBuf>, file: OsString, why: &str) -> Result<(), String> {
+    if place.is_some() || file.is_empty() {
+        return Err(why.into());
+    }
+    *place = Some(file.into());
+    Ok(())
 }
 
 fn main() -> ExitCode {
@@ -181,7 +195,10 @@ fn write_page(out: &mut impl Write, page: &Path, html: &str) -> io::Result<()> {
 fn publish(out: &mut impl Write, asked: &Asked, plan: &Plan, unread: &[Unread], history: &History) -> io::Result<bool> {
     let entries = page::left_out(unread, history);
     write_page(out, &asked.page, &page::page(plan, &entries, history))?;
-    if let Some(file) = &asked.save {
+    if let Some(file) = asked.save.as_ref().filter(|_| history.stopped) {
+        // The corrected file is to be run from where this one began.
+        eprintln!("threshcoil: the run was stopped, so {} is not written", file.display());
+    } else if let Some(file) = &asked.save {
         if let Err(why) = saved::save(file, &plan.name, history, &entries)? {
             eprintln!("{why}");
             return Ok(false);

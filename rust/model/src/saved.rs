@@ -4,7 +4,7 @@ use crate::history::{History, Refused, bad_opening};
 use crate::kept::{self, Kept};
 use crate::plan::{Opening, Plan};
 use crate::text;
-use std::io;
+use std::io::{self, Read, Write};
 use std::path::{Path, PathBuf};
 use threshcoil::{Account, Refusal};
 
@@ -22,7 +22,8 @@ impl Start {
 
     /// The account of a file, with what is kept beside it, or why it can't be.
     pub fn loaded(file: &Path) -> io::Result<Result<Start, String>> {
-        let account = match Account::load(&read(file)?) {
+        let bytes = front(file)?;
+        let account = match Account::load(&bytes) {
             Ok(account) => account,
             Err(refusal) => return Ok(Err(text::bad_file(file, refusal))),
         };
@@ -32,7 +33,7 @@ impl Start {
         }
         let text = String::from_utf8_lossy(&read(&beside)?).into_owned();
         Ok(match Kept::read(&text) {
-            Ok(kept) if kept.is_of(&account) => Ok(Start { account, kept }),
+            Ok(kept) if kept.is_of(&bytes, &account) => Ok(Start { account, kept }),
             Ok(_) => Err(format!("{}: it is not the history of the account in {}", beside.display(), file.display())),
             Err(line) => Err(format!("{}:{line}: the line can't be read", beside.display())),
         }
@@ -40,18 +41,19 @@ impl Start {
     }
 }
 
-/// Writes the account, and beside it what is kept for its page. A file that is replaced is whole at every moment: a saved account may be the
-/// only one.
+/// Writes the account, and beside it what is kept for its page. Both are written whole beside their places before either is put there: a saved
+/// account may be the only one.
 pub fn save(file: &Path, name: &str, history: &History, left_out: &[String]) -> io::Result<Result<(), String>> {
     let mut room = [0; Account::FILE_SIZE];
-    let length = match history.account.save(&mut room) {
-        Ok(length) => length,
+    let account = match history.account.save(&mut room) {
+        Ok(length) => &room[..length],
         Err(refusal) => return Ok(Err(not_saved(file, refusal))),
     };
-    let beside = beside(file);
-    let (account, kept) = (place(file)?, place(&beside)?);
-    replace(&kept, kept::written(name, history, left_out).as_bytes())?;
-    replace(&account, &room[..length])?;
+    let kept = kept::written(account, name, history, left_out);
+    let kept = New::written(&beside(file), kept.as_bytes())?;
+    let account = New::written(file, account)?;
+    kept.put()?;
+    account.put()?;
     Ok(Ok(()))
 }
 
@@ -69,25 +71,55 @@ fn beside(file: &Path) -> PathBuf {
     with_ending(file, ".history")
 }
 
-/// Where a file is to be written. A link stays one, since what it leads to is replaced; a folder or a device is not replaced.
-fn place(file: &Path) -> io::Result<PathBuf> {
-    let place = std::fs::canonicalize(file).unwrap_or_else(|_| file.into());
-    if place.exists() && !place.is_file() {
-        return Err(io::Error::new(
-            io::ErrorKind::InvalidInput,
-            format!("{}: it is no file that could be replaced", file.display()),
-        ));
-    }
-    Ok(place)
+/// A file that is written, and not yet at its place; what is not put there goes.
+struct New {
+    written: PathBuf,
+    place: PathBuf,
 }
 
-fn replace(file: &Path, bytes: &[u8]) -> io::Result<()> {
-    let new = with_ending(file, ".new");
-    let told = |e| named(file, e);
-    if let Some(folder) = file.parent() {
-        std::fs::create_dir_all(folder).map_err(told)?;
+impl New {
+    /// A link stays one, since what it leads to is replaced; a folder or a device is not replaced, and a file keeps who may read it.
+    fn written(file: &Path, bytes: &[u8]) -> io::Result<New> {
+        let place = std::fs::canonicalize(file).unwrap_or_else(|_| file.into());
+        if place.exists() && !place.is_file() {
+            let why = io::Error::new(io::ErrorKind::InvalidInput, "it is no file that could be replaced");
+            return Err(named(file, why));
+        }
+        let new = New { written: with_ending(&place, ".new"), place };
+        new.write(bytes).map_err(|e| named(file, e))?;
+        Ok(new)
     }
-    std::fs::write(&new, bytes).and_then(|()| std::fs::rename(&new, file)).map_err(told)
+
+    fn write(&self, bytes: &[u8]) -> io::Result<()> {
+        if let Some(folder) = self.place.parent() {
+            std::fs::create_dir_all(folder)?;
+        }
+        let mut file = std::fs::File::create(&self.written)?;
+        if let Ok(found) = std::fs::metadata(&self.place) {
+            file.set_permissions(found.permissions())?;
+        }
+        file.write_all(bytes)?;
+        file.sync_all()
+    }
+
+    fn put(&self) -> io::Result<()> {
+        std::fs::rename(&self.written, &self.place).map_err(|e| named(&self.place, e))
+    }
+}
+
+impl Drop for New {
+    fn drop(&mut self) {
+        let _ = std::fs::remove_file(&self.written);
+    }
+}
+
+/// As many bytes of a file as tell whether it is a saved account: one more than any has.
+fn front(file: &Path) -> io::Result<Vec<u8>> {
+    let mut bytes = Vec::new();
+    let most = Account::FILE_SIZE as u64 + 1;
+    let read = std::fs::File::open(file).and_then(|found| found.take(most).read_to_end(&mut bytes));
+    read.map_err(|e| named(file, e))?;
+    Ok(bytes)
 }
 
 /// The bytes of a file, or why not, with its name.

@@ -184,6 +184,7 @@ fn an_account_that_does_not_record_says_so() {
     assert_eq!(bytes[at..at + 2], [1, 0]);
     bytes[at] = 0;
     std::fs::write(&file, bytes).unwrap();
+    std::fs::remove_file(format!("{}.history", file.display())).unwrap();
     let text = "period y\nprices A 1.00\ntargets A 0.5\n";
     let (out, page) = run("silent", text, Some("silent.account"), Some("silent.account"));
     assert_eq!(out.status.code(), Some(0), "{}", said(&out));
@@ -246,4 +247,55 @@ fn only_a_file_is_replaced() {
     std::os::unix::fs::symlink(&target, &link).unwrap();
     run("link", EXAMPLE, None, Some("link.account"));
     assert!(link.is_symlink() && bytes("linked.account").is_some_and(|file| file[0] == 1));
+}
+
+/// A run that was stopped is run again from where it began, so its account stays as it was.
+#[test]
+fn a_stopped_run_is_not_saved() {
+    let file = fresh("stopped.account");
+    run("stopped-before", "cash 10.00\nperiod x\nprices A 1.00\n", None, Some("stopped.account"));
+    let before = (bytes("stopped.account"), bytes("stopped.account.history"));
+    let text = "period y\nprices A 1.00\ntargets A 0.5\nperiod z\nprices A 0.00\n";
+    let path = file.display().to_string();
+    let (out, _) = command::run(&[], "stopped", Some(text), &["--from", &path, "--save", &path, "--stop"]);
+    assert_eq!(out.status.code(), Some(1));
+    assert!(said(&out).contains(&format!("the run was stopped, so {path} is not written")), "{}", said(&out));
+    assert!(before.0.is_some() && before == (bytes("stopped.account"), bytes("stopped.account.history")));
+}
+
+/// Where one of the two files can't be written, both stay as they were, and nothing is left beside them.
+#[test]
+fn account_and_history_are_replaced_together() {
+    let file = fresh("pair.account");
+    run("pair-before", "cash 10.00\nperiod x\nprices A 1.00\n", None, Some("pair.account"));
+    let before = (bytes("pair.account"), bytes("pair.account.history"));
+    let blocked = format!("{}.new", file.display());
+    std::fs::create_dir_all(&blocked).unwrap();
+    let (out, _) = run("pair", "period y\nprices A 2.00\n", Some("pair.account"), Some("pair.account"));
+    std::fs::remove_dir(&blocked).unwrap();
+    assert_eq!(out.status.code(), Some(2), "{}", said(&out));
+    assert!(before.0.is_some() && before == (bytes("pair.account"), bytes("pair.account.history")));
+    assert!(!place("pair.account.history.new").exists());
+}
+
+/// Two accounts may count the same; a history is one account's.
+#[test]
+fn another_accounts_history_is_not_taken() {
+    let [mine, other] = ["mine.account", "other.account"].map(fresh);
+    for (name, floor) in [("mine", "0.10"), ("other", "0.20")] {
+        let text = format!("cash 10.00\nmin_commission {floor}\nperiod x\nprices A 1.00\n");
+        run(&format!("{name}-run"), &text, None, Some(&format!("{name}.account")));
+    }
+    std::fs::copy(format!("{}.history", other.display()), format!("{}.history", mine.display())).unwrap();
+    let (out, page) = run("mine", "period y\n", Some("mine.account"), None);
+    assert_eq!((out.status.code(), page), (Some(1), None));
+    assert!(said(&out).contains("it is not the history of the account in "), "{}", said(&out));
+}
+
+#[test]
+fn what_is_named_twice_is_not_run() {
+    for words in [["--from", "a", "--from", "b"], ["--save", "a", "--save", "b"], ["--save", "a", "--page", "a"]] {
+        let (out, page) = command::run(&[], "twice", None, &words);
+        assert_eq!((out.status.code(), page), (Some(2), None), "{words:?}");
+    }
 }
