@@ -24,7 +24,7 @@ octets-bytes : (l : List ℕ) → Octets l → areBytes l ≡ true
 octets-bytes [] o = refl
 octets-bytes (b ∷ l) o = simp (lt-ltb b 256 (o .0), octets-bytes l (o .1))
 
--- `KeptAccount` asks that fields fit their widths and columns have 64 places, as those of every account in a program do.
+-- `KeptAccount` asks that fields fit their widths and columns have 64 places, as those of every account in a program do, and that no rate is a NaN, which soundness gives.
 pub saved : (a : Account) → soundAccount a ≡ true → KeptAccount a → Saved a
 saved a e k = record {
   reads-back = reads-back a e k;

@@ -34,9 +34,10 @@ pub record Saved (a : Account) : Type 0 where
   pub bytes : areBytes (fileOf a) ≡ true
   pub short : length (fileOf a) ≤ longest
 
--- "Saving and loading between calls changes no later answer in demands 2 and 3, that sign apart": of a sound account, and of any calls after it with more loads between them
+-- "Saving and loading between calls changes no later answer in demands 2 and 3, that sign apart": of a sound account, and of any calls after it. A `reload` among them makes a zero rate's sign positive, as
+-- loading what was saved does by `reads-back`.
 pub record Later (a : Account) : Type 0 where
-  -- every answer, record, figure and lent place
+  -- every answer, every record, and the equities and returns as they are left; where records are filed in lent places is said call by call in zero_laws
   pub replies-same : (h : List Step) → replies h (loaded (fileOf a) .account) ≡ replies h a
   -- the account that they leave, and whatever is asked of it
   pub left-alike : (h : List Step) → Alike (left h (loaded (fileOf a) .account)) (left h a)

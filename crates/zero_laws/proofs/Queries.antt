@@ -86,6 +86,7 @@ module _ (a b : Account) (e : Alike a b) where
     record-count = told toldCount (λ c. c .counters .«record_count»);
     equity-count = told toldCount (λ c. c .series .«equity_count»);
     return-count = told toldCount (λ c. c .series .«return_count»);
+    previous-equity = told toldCents (λ c. c .series .«prev_equity»);
     position-count = told toldCount (λ c. c .positions .count);
     position = λ s. through (positionOf s) (λ x. plain-position x s);
     position-at = λ i. through (positionAt i) (λ x. plain-position-at x i);

@@ -37,6 +37,7 @@ pub record SameTold (a b : Account) : Type 0 where
   pub record-count : TellSame toldCount (λ x. x .counters .«record_count») a b
   pub equity-count : TellSame toldCount (λ x. x .series .«equity_count») a b
   pub return-count : TellSame toldCount (λ x. x .series .«return_count») a b
+  pub previous-equity : TellSame toldCents (λ x. x .series .«prev_equity») a b
   -- positions
   pub position-count : TellSame toldCount (λ x. x .positions .count) a b
   pub position : (s : ℕ) → positionOf s a ≡ positionOf s b
