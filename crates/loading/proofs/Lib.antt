@@ -2,6 +2,7 @@
 pub mod Entries
 pub mod Loading
 pub mod Loan
+pub mod Moving
 pub mod Numbers
 pub mod Padded
 pub mod Texts

@@ -1,16 +1,14 @@
 -- What loading answers, refusal by refusal, of a file whose parts were read.
 use mathlib.Core.Path.{_≡_, refl, sym, _∙_, ap}
 use Prim.Native.Nat.{ℕ}
-use native.Mathlib.Omega.{arith}
-use mathlib.Core.Bool.{Bool, true, false}
+use mathlib.Core.Bool.{true, false}
 use mathlib.Core.List.{List}
 use lib.Dec.{eqb}
-use lib.ListN.{length, getD}
+use lib.ListN.{length}
 use borrow.Author.Tests.{eq-eqb, ne-eqb}
-use Rattle.answer.specs.Numbers.{isDone, unless, orLater}
+use Rattle.answer.specs.Numbers.{isDone}
 use Rattle.answer.specs.declared.Answer.{Answer}
 use Rattle.answer.specs.declared.Answer.the-variants.{Done, Unsound, LeftOver}
-use Rattle.table.specs.declared.table.Table.{Table}
 use Rattle.account.specs.Account.{soundAccount}
 use Rattle.account.specs.Calls.{answered}
 use Rattle.seven_bit.specs.Placed.{numberAt}
