@@ -13,7 +13,7 @@ pub struct Head {
     pub values: [u64; HEAD_FIELDS],
 }
 
-pub fn head_at(bytes: &[u8], form: u64, place: usize) -> Head
+pub(crate) fn head_at(bytes: &[u8], form: u64, place: usize) -> Head
     ensures { λ r. ⌜ r ≡ headRead (now (bytes .entry)) form place ⌝ }
 {
     let mut values = [0u64; HEAD_FIELDS];

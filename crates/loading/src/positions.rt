@@ -78,7 +78,7 @@ fn positions_at(
 }
 
 // So many positions, at most 64, as a table.
-pub fn table_at(bytes: &[u8], form: u64, count: u64, place: usize) -> Positions
+pub(crate) fn table_at(bytes: &[u8], form: u64, count: u64, place: usize) -> Positions
     ensures { λ r. ⌜ r ≡ tableRead (now (bytes .entry)) form count place ⌝ }
 {
     let mut symbol = [0u64; 64];
