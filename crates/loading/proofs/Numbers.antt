@@ -18,13 +18,13 @@ use Rattle.saved_form.proofs.Fields.{head-fields}
 use Rattle.saved_form.specs.Inner.Fields.{fieldsFrom}
 use Rattle.table.specs.Rows.{paddedColumn}
 use Rattle.loading.specs.declared.number.Reached.{Reached}
-use Rattle.loading.specs.Reading.{refusedAt, judged, fieldRead, Run, ended, withValue, fieldsRead, headOf, headRead}
+use Rattle.loading.specs.Reading.{noNumber, judged, fieldRead, Run, ended, withValue, fieldsRead, headOf, headRead}
 use Rattle.loading.specs.Inner.Reading.{reached}
 use Rattle.loading.proofs.Padded.{sets-padded, sets-at}
 
 -- ---- one number
 module _ (l : List ℕ) (form before place : ℕ) {f g : Field} (e : f ≡ g) {has : Bool} (h : has ≡ hasField form f before) where
-  pub has-none : not has ≡ true → refusedAt Done place ≡ fieldRead l form g before place
+  pub has-none : not has ≡ true → noNumber Done place ≡ fieldRead l form g before place
   unfolding fieldRead
   has-none n = rw (← e) (simp (sym h ∙ not-true has n))
 
@@ -38,10 +38,10 @@ module _ (l : List ℕ) (form before place : ℕ) {f g : Field} (e : f ≡ g) {h
     no-number k = let q : n ≡ judged (f .kind) place n = simp (sym d ∙ not-true done k) in q ∙ ap (judged (f .kind) place) r ∙ stands-here s
 
     module _ (k : not done ≡ false) {may : Bool} (a : may ≡ allowed (f .kind) (n .value)) where
-      pub not-allowed : not may ≡ true → refusedAt Unsound place ≡ fieldRead l form g before place
+      pub not-allowed : not may ≡ true → noNumber Unsound place ≡ fieldRead l form g before place
       unfolding judged
       not-allowed m =
-          let q : refusedAt Unsound place ≡ judged (f .kind) place n = simp (sym d ∙ not-false done k, sym a ∙ not-true may m) in
+          let q : noNumber Unsound place ≡ judged (f .kind) place n = simp (sym d ∙ not-false done k, sym a ∙ not-true may m) in
           q ∙ ap (judged (f .kind) place) r ∙ stands-here s
 
       pub number-stands : not may ≡ false → n ≡ fieldRead l form g before place

@@ -17,7 +17,7 @@ use Rattle.position.specs.Symbols.{leading, ofBytes}
 use Rattle.seven_bit.specs.declared.Number.{Number}
 use Rattle.seven_bit.specs.Placed.{numberAt}
 use Rattle.saved_form.specs.Texts.{goodLength, spelt}
-use Rattle.loading.specs.Reading.{refusedAt, thenNumber, textRead, symbolRead}
+use Rattle.loading.specs.Reading.{noNumber, thenNumber, textRead, symbolRead}
 
 -- ---- letters
 pub letter-in : (l : List ℕ) (at n i : ℕ) → i < n → getD l (at + i) 0 ≡ getD (take n (drop at l)) i 0
@@ -78,7 +78,7 @@ module _ (l : List ℕ) (n at : ℕ) where
   unfolding textRead
   text-in v h e = simp (le-leb (at + n) (length l) h) (ap (λ (x : ℕ). record { answer = Done; value = x; next = at + n }) e)
 
-  pub text-past : length l < at + n → refusedAt EndsEarly (length l) ≡ textRead l n at
+  pub text-past : length l < at + n → noNumber EndsEarly (length l) ≡ textRead l n at
   unfolding textRead
   text-past h = simp (lt-leb (at + n) (length l) h)
 
@@ -93,7 +93,7 @@ module _ (m n : Number) (more : Number → Number) (e : n ≡ m) where
 -- ---- "a symbol length outside 1 to 8"
 module _ (l : List ℕ) (place : ℕ) (n : Number) (e : n ≡ numberAt l place) where
   abbrev after : Number → Number
-  after n = pick (goodLength (n .value)) (textRead l (n .value) (n .next)) (refusedAt Unsound place)
+  after n = pick (goodLength (n .value)) (textRead l (n .value) (n .next)) (noNumber Unsound place)
 
   pub no-number : isDone (n .answer) ≡ false → n ≡ symbolRead l place
   unfolding symbolRead
@@ -104,11 +104,11 @@ module _ (l : List ℕ) (place : ℕ) (n : Number) (e : n ≡ numberAt l place) 
     unfolding symbolRead
     follows h = h ∙ goes-on (numberAt l place) n after e d
 
-    pub no-length : n .value ≡ 0 → refusedAt Unsound place ≡ symbolRead l place
+    pub no-length : n .value ≡ 0 → noNumber Unsound place ≡ symbolRead l place
     no-length z = follows (simp (lt-leb 1 (n .value) (omega arith)))
 
     pub good-length : (n .value ≡ 0 → ⊥) → n .value ≤ 8 → textRead l (n .value) (n .next) ≡ symbolRead l place
     good-length z h = follows (simp (le-leb 1 (n .value) (omega (arith, z)), le-leb (n .value) 8 h))
 
-    pub long-length : 8 < n .value → refusedAt Unsound place ≡ symbolRead l place
+    pub long-length : 8 < n .value → noNumber Unsound place ≡ symbolRead l place
     long-length h = follows (simp (lt-leb (n .value) 8 h, both-false))

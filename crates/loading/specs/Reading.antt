@@ -24,8 +24,9 @@ use Rattle.loading.specs.declared.entry.Entry.{Entry}
 use Rattle.loading.specs.declared.positions.Positions.{Positions}
 use Rattle.loading.specs.declared.reader.Parsed.{Parsed}
 
-abbrev pub refusedAt : Answer → ℕ → Number
-refusedAt w place = record { answer = w; value = 0; next = place }
+-- no number, and why: a refusal, or none where the form has no number there
+abbrev pub noNumber : Answer → ℕ → Number
+noNumber w place = record { answer = w; value = 0; next = place }
 
 -- what follows a number that was read, else its refusal
 abbrev pub thenNumber : Number → (Number → Number) → Number
@@ -33,11 +34,11 @@ thenNumber n more = pick (isDone (n .answer)) (more n) n
 
 -- "11 for .. a flag or cap mark above 1, a negative zero, over 64 positions ..., as the bytes are met"
 unfoldable pub judged : Kind → ℕ → Number → Number
-judged k place n = thenNumber n (λ n. pick (allowed k (n .value)) n (refusedAt Unsound place))
+judged k place n = thenNumber n (λ n. pick (allowed k (n .value)) n (noNumber Unsound place))
 
 -- "with opening defaults": 0 where the form has no such number
 unfoldable pub fieldRead : List ℕ → ℕ → Field → ℕ → ℕ → Number
-fieldRead l form f before place = pick (hasField form f before) (judged (f .kind) place (numberAt l place)) (refusedAt Done place)
+fieldRead l form f before place = pick (hasField form f before) (judged (f .kind) place (numberAt l place)) (noNumber Done place)
 
 -- ---- numbers in a row: those read whole, and where they ended
 pub record Run : Type 0 where
@@ -67,11 +68,11 @@ headRead l form place = headOf (fieldsRead l form headFields 0 place)
 
 -- ---- "a symbol is its length and bytes"
 unfoldable pub textRead : List ℕ → ℕ → ℕ → Number
-textRead l n at = pick (leb (at + n) (length l)) (record { answer = Done; value = spelt (take n (drop at l)); next = at + n }) (refusedAt EndsEarly (length l))
+textRead l n at = pick (leb (at + n) (length l)) (record { answer = Done; value = spelt (take n (drop at l)); next = at + n }) (noNumber EndsEarly (length l))
 
 -- "11 for .. a symbol length outside 1 to 8, as the bytes are met"
 unfoldable pub symbolRead : List ℕ → ℕ → Number
-symbolRead l place = thenNumber (numberAt l place) (λ n. pick (goodLength (n .value)) (textRead l (n .value) (n .next)) (refusedAt Unsound place))
+symbolRead l place = thenNumber (numberAt l place) (λ n. pick (goodLength (n .value)) (textRead l (n .value) (n .next)) (noNumber Unsound place))
 
 -- ---- "positions .., each in `Position`'s field order"
 abbrev pub noEntry : Answer → ℕ → Entry

@@ -4,6 +4,7 @@ ghost use Rattle.loading.specs.Reading.{headRead};
 use crate::number::fields_at;
 use answer::Answer;
 use saved_form::HEAD_FIELDS;
+use saved_form::POSITION_COUNT;
 
 // Those that were read whole, 0 for the rest, and where they ended. The last one, how many positions follow, also stands by itself.
 pub struct Head {
@@ -22,7 +23,7 @@ pub(crate) fn head_at(bytes: &[u8], form: u64, place: usize) -> Head
     Head {
         answer,
         next: r.next,
-        count: values[22],
+        count: values[POSITION_COUNT],
         values,
     }
 }

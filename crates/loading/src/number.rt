@@ -5,7 +5,7 @@ ghost use lib.ListN.{length};
 ghost use lib.Seq.{sets};
 ghost use Rattle.saved_form.specs.Fields.{fieldAt};
 ghost use Rattle.saved_form.specs.Inner.Fields.{fieldsFrom};
-ghost use Rattle.loading.specs.Reading.{refusedAt, fieldRead, fieldsRead};
+ghost use Rattle.loading.specs.Reading.{noNumber, fieldRead, fieldsRead};
 ghost use Rattle.loading.specs.Inner.Reading.{reached};
 use answer::Answer;
 use answer::is_done;
@@ -21,8 +21,9 @@ pub(crate) struct Reached {
     pub(crate) next: usize,
 }
 
-pub(crate) fn refused_at(answer: Answer, place: usize) -> Number
-    ensures { λ r. ⌜ r ≡ refusedAt answer place ⌝ }
+// No number, and why: a refusal, or none where the form has no number there.
+pub(crate) fn no_number(answer: Answer, place: usize) -> Number
+    ensures { λ r. ⌜ r ≡ noNumber answer place ⌝ }
 {
     Number {
         answer,
@@ -37,7 +38,7 @@ pub(crate) fn field_at(bytes: &[u8], place: usize, form: u64, i: usize, before: 
 {
     let f = nth_field(i);
     if !stands(form, f, before) {
-        return refused_at(Answer::Done, place);
+        return no_number(Answer::Done, place);
     }
     let n = number_at(bytes, place);
     let answer = n.answer;
@@ -46,7 +47,7 @@ pub(crate) fn field_at(bytes: &[u8], place: usize, form: u64, i: usize, before: 
     }
     let kind = f.kind;
     if !allows(kind, n.value) {
-        return refused_at(Answer::Unsound, place);
+        return no_number(Answer::Unsound, place);
     }
     n
 }

@@ -5,7 +5,7 @@ ghost use lib.ListN.{length, getD, take, drop};
 ghost use Rattle.position.specs.Symbols.{ofBytes};
 ghost use Rattle.saved_form.specs.Texts.{spelt};
 ghost use Rattle.loading.specs.Reading.{textRead, symbolRead};
-use crate::number::refused_at;
+use crate::number::no_number;
 use answer::Answer;
 use answer::is_done;
 use seven_bit::Number;
@@ -52,10 +52,10 @@ fn text_at(bytes: &[u8], n: usize, at: usize) -> Number
     ensures { λ r. ⌜ r ≡ textRead (now (bytes .entry)) n at ⌝ }
 {
     if bytes.len() < n {
-        return refused_at(Answer::EndsEarly, bytes.len());
+        return no_number(Answer::EndsEarly, bytes.len());
     }
     if bytes.len() - n < at {
-        return refused_at(Answer::EndsEarly, bytes.len());
+        return no_number(Answer::EndsEarly, bytes.len());
     }
     Number {
         answer: Answer::Done,
@@ -74,10 +74,10 @@ pub(crate) fn symbol_at(bytes: &[u8], place: usize) -> Number
         return n;
     }
     if n.value == 0 {
-        return refused_at(Answer::Unsound, place);
+        return no_number(Answer::Unsound, place);
     }
     if n.value <= 8 {
         return text_at(bytes, n.value as usize, n.next);
     }
-    refused_at(Answer::Unsound, place)
+    no_number(Answer::Unsound, place)
 }

@@ -19,7 +19,7 @@ use Rattle.saved_form.specs.declared.field.Field.{Field}
 use Rattle.saved_form.specs.declared.field.Kind.{Kind}
 use Rattle.saved_form.specs.Fields.{allowed, hasField}
 use Rattle.saved_form.specs.Writing.{fieldFile, fieldsFile}
-use Rattle.loading.specs.Reading.{Run, refusedAt, thenNumber, judged, fieldRead, ended, withValue, thenRun, fieldsRead}
+use Rattle.loading.specs.Reading.{Run, noNumber, thenNumber, judged, fieldRead, ended, withValue, thenRun, fieldsRead}
 use Rattle.saved_laws.proofs.Places.{after, Part, within, past, part, apart, clash, was, number-back, number-part, number-one}
 
 -- a number that may stand where its field does, and 0 where it does not
@@ -53,9 +53,9 @@ allowed-length form (f ∷ fs) before (v ∷ vs) o = ap suc (allowed-length form
 -- ---- one field
 judged-back : (l rest : List ℕ) (k : Kind) (at v : ℕ) → allowed k v ≡ true → v < 2 ^ 64 → drop at l ≡ groups v ++ rest → judged k at (numberAt l at) ≡ was v (at + length (groups v))
 unfolding judged
-judged-back l rest k at v s h e = ap (λ (n : Number). thenNumber n (λ n. pick (allowed k (n .value)) n (refusedAt Unsound at))) (number-back l rest at v h e) ∙ simp s
+judged-back l rest k at v s h e = ap (λ (n : Number). thenNumber n (λ n. pick (allowed k (n .value)) n (noNumber Unsound at))) (number-back l rest at v h e) ∙ simp s
 
-field-by : (l rest : List ℕ) (k : Kind) (at v : ℕ) (t : Bool) → Stands t k v → drop at l ≡ pick t (groups v) [] ++ rest → pick t (judged k at (numberAt l at)) (refusedAt Done at) ≡ was v (at + length (pick t (groups v) []))
+field-by : (l rest : List ℕ) (k : Kind) (at v : ℕ) (t : Bool) → Stands t k v → drop at l ≡ pick t (groups v) [] ++ rest → pick t (judged k at (numberAt l at)) (noNumber Done at) ≡ was v (at + length (pick t (groups v) []))
 field-by l rest k at v true s e = judged-back l rest k at v (s .0) (s .1) e
 field-by l rest k at v false s e = let z : at ≡ at + 0 = omega arith in simp (s, ← z)
 
@@ -67,7 +67,7 @@ judged-ends : (k : Kind) (at : ℕ) (n : Number) → n .answer ≡ EndsEarly →
 unfolding judged
 judged-ends k at n e = rw e
 
-part-by : (l : List ℕ) (k : Kind) (at v j : ℕ) (t : Bool) → j < length (pick t (groups v) []) → drop at l ≡ take j (pick t (groups v) []) → pick t (judged k at (numberAt l at)) (refusedAt Done at) .answer ≡ EndsEarly
+part-by : (l : List ℕ) (k : Kind) (at v j : ℕ) (t : Bool) → j < length (pick t (groups v) []) → drop at l ≡ take j (pick t (groups v) []) → pick t (judged k at (numberAt l at)) (noNumber Done at) .answer ≡ EndsEarly
 part-by l k at v j true h e = judged-ends k at (numberAt l at) (number-part l at v j h e)
 part-by l k at v j false h e = absurd (omega arith)
 
@@ -115,8 +115,8 @@ fields-part l form (f ∷ fs) before (v ∷ vs) at j o h e =
     (λ k g q. fields-part l form fs v vs (at + length (fieldFile form f before v)) k (o .1) g q)
 
 -- ---- what is read is what would be written
-judged-by : (k : Kind) (at : ℕ) (n : Number) (w : Answer) (d t : Bool) → w ≡ n .answer → isDone w ≡ d → allowed k (n .value) ≡ t → pick d (pick t n (refusedAt Unsound at)) n .answer ≡ Done
-    → (n .answer ≡ Done) × (allowed k (n .value) ≡ true) × (pick d (pick t n (refusedAt Unsound at)) n ≡ n)
+judged-by : (k : Kind) (at : ℕ) (n : Number) (w : Answer) (d t : Bool) → w ≡ n .answer → isDone w ≡ d → allowed k (n .value) ≡ t → pick d (pick t n (noNumber Unsound at)) n .answer ≡ Done
+    → (n .answer ≡ Done) × (allowed k (n .value) ≡ true) × (pick d (pick t n (noNumber Unsound at)) n ≡ n)
 judged-by k at n w true true q e f h = (h, f, refl)
 judged-by k at n w true false q e f h = apart Unsound Done h (λ z. omega arith)
 judged-by k at n w false t q e f h = clash (isDone w) (ap isDone (q ∙ h)) e
@@ -130,7 +130,7 @@ pub record Taken (l : List ℕ) (t : Bool) (k : Kind) (at : ℕ) (n : Number) : 
   pub stands : Stands t k (n .value)
   pub same : drop at l ≡ pick t (groups (n .value)) [] ++ drop (n .next) l
 
-taken-by : (l : List ℕ) (k : Kind) (at : ℕ) (t : Bool) → Octets l → pick t (judged k at (numberAt l at)) (refusedAt Done at) .answer ≡ Done → Taken l t k at (pick t (judged k at (numberAt l at)) (refusedAt Done at))
+taken-by : (l : List ℕ) (k : Kind) (at : ℕ) (t : Bool) → Octets l → pick t (judged k at (numberAt l at)) (noNumber Done at) .answer ≡ Done → Taken l t k at (pick t (judged k at (numberAt l at)) (noNumber Done at))
 taken-by l k at false o h = record { stands = refl; same = refl }
 taken-by l k at true o h =
     let j = judged-done k at (numberAt l at) h in

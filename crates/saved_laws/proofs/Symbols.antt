@@ -19,7 +19,7 @@ use Rattle.seven_bit.specs.Groups.{groups}
 use Rattle.seven_bit.specs.Placed.{numberAt}
 use Rattle.seven_bit.proofs.Groups.{Octets}
 use Rattle.saved_form.specs.Texts.{textOf, symbolFile, goodLength, spelt}
-use Rattle.loading.specs.Reading.{refusedAt, thenNumber, textRead, symbolRead}
+use Rattle.loading.specs.Reading.{noNumber, thenNumber, textRead, symbolRead}
 use Rattle.saved_laws.proofs.Places.{after, Part, within, past, part, octets-drop, octets-take, apart, clash, was, number-back, number-part, Shortest, number-one}
 use Rattle.saved_laws.proofs.Texts.{Text, spelling}
 
@@ -39,7 +39,7 @@ text-part l t n at j e s d =
 
 -- ---- a symbol
 abbrev textAfter : List ℕ → ℕ → Number → Number
-textAfter l at n = pick (goodLength (n .value)) (textRead l (n .value) (n .next)) (refusedAt Unsound at)
+textAfter l at n = pick (goodLength (n .value)) (textRead l (n .value) (n .next)) (noNumber Unsound at)
 
 good-length : (n : ℕ) → 1 ≤ n → n ≤ 8 → goodLength n ≡ true
 good-length n a b = simp (le-leb 1 n a, le-leb n 8 b)
@@ -72,9 +72,9 @@ pub record Spelt (l : List ℕ) (at : ℕ) (n : Number) : Type 0 where
 
 module _ (l : List ℕ) (at : ℕ) (o : Octets l) where
   text-one : (n from : ℕ) → 1 ≤ n → n ≤ 8 → drop at l ≡ groups n ++ drop from l → (t : Bool) → leb (from + n) (length l) ≡ t
-      → pick t (was (spelt (take n (drop from l))) (from + n)) (refusedAt EndsEarly (length l)) .answer ≡ Done
-      → goodSymbol (pick t (was (spelt (take n (drop from l))) (from + n)) (refusedAt EndsEarly (length l)) .value) ≡ true
-      → Spelt l at (pick t (was (spelt (take n (drop from l))) (from + n)) (refusedAt EndsEarly (length l)))
+      → pick t (was (spelt (take n (drop from l))) (from + n)) (noNumber EndsEarly (length l)) .answer ≡ Done
+      → goodSymbol (pick t (was (spelt (take n (drop from l))) (from + n)) (noNumber EndsEarly (length l)) .value) ≡ true
+      → Spelt l at (pick t (was (spelt (take n (drop from l))) (from + n)) (noNumber EndsEarly (length l)))
   unfolding symbolFile
   text-one n from a b s true e d g =
       let t : List ℕ = take n (drop from l) in
@@ -87,9 +87,9 @@ module _ (l : List ℕ) (at : ℕ) (o : Octets l) where
   text-one n from a b s false e d g = apart EndsEarly Done d (λ z. omega arith)
 
   length-one : (n : Number) → n .answer ≡ Done → Shortest l at n → (t : Bool) → goodLength (n .value) ≡ t
-      → pick t (textRead l (n .value) (n .next)) (refusedAt Unsound at) .answer ≡ Done
-      → goodSymbol (pick t (textRead l (n .value) (n .next)) (refusedAt Unsound at) .value) ≡ true
-      → Spelt l at (pick t (textRead l (n .value) (n .next)) (refusedAt Unsound at))
+      → pick t (textRead l (n .value) (n .next)) (noNumber Unsound at) .answer ≡ Done
+      → goodSymbol (pick t (textRead l (n .value) (n .next)) (noNumber Unsound at) .value) ≡ true
+      → Spelt l at (pick t (textRead l (n .value) (n .next)) (noNumber Unsound at))
   unfolding textRead
   length-one n e s true q d g =
       let b = both-true (leb 1 (n .value)) (leb (n .value) 8) q in

@@ -11,13 +11,13 @@ nth-field-requires c κs = search needs
 stands-requires : tie.Need-stands-requires
 stands-requires c κs = search needs
 
-refused-at-requires : tie.Need-refused-at-requires
-refused-at-requires c κs = search needs
+no-number-requires : tie.Need-no-number-requires
+no-number-requires c κs = search needs
 
 returns : tie.Need-returns
 returns c =
     let s = c .before .before in
-    c .refused-at .ensures ∙ N.has-none _ _ _ _ (s .before .nth-field .ensures) (s .stands .ensures) (c .before .if1 .taken)
+    c .no-number .ensures ∙ N.has-none _ _ _ _ (s .before .nth-field .ensures) (s .stands .ensures) (c .before .if1 .taken)
 
 number-at-requires : tie.Need-number-at-requires
 number-at-requires c κs = search needs
@@ -34,15 +34,15 @@ returns-2 c =
 allows-requires : tie.Need-allows-requires
 allows-requires c κs = search needs
 
-refused-at-requires-2 : tie.Need-refused-at-requires-2
-refused-at-requires-2 c κs = search needs
+no-number-requires-2 : tie.Need-no-number-requires-2
+no-number-requires-2 c κs = search needs
 
 returns-3 : tie.Need-returns-3
 returns-3 c =
     let a = c .before .before in
     let d = a .before .before in
     let s = d .before .before .before in
-    c .refused-at2 .ensures
+    c .no-number2 .ensures
     ∙ N.not-allowed _ _ _ _ (s .before .nth-field .ensures) (s .stands .ensures) (d .before .before .if1 .left) (d .before .number-at .ensures) (d .is-done .ensures) (a .before .if2 .left)
     (a .allows .ensures) (c .before .if3 .taken)
 
@@ -60,12 +60,12 @@ field-at-spec =
     (tie.spec
     nth-field-requires
     stands-requires
-    refused-at-requires
+    no-number-requires
     returns
     number-at-requires
     is-done-requires
     returns-2
     allows-requires
-    refused-at-requires-2
+    no-number-requires-2
     returns-3
     returns-4)

@@ -17,14 +17,14 @@ returns c =
     let d = c .before in
     X.no-number _ _ _ (d .before .number-at .ensures) (sym (d .is-done .ensures) ∙ not-true _ (c .if1 .taken))
 
-refused-at-requires : tie.Need-refused-at-requires
-refused-at-requires c κs = search needs
+no-number-requires : tie.Need-no-number-requires
+no-number-requires c κs = search needs
 
 returns-2 : tie.Need-returns-2
 returns-2 c =
     let i = c .before .before .before in
     let d = i .before in
-    c .refused-at .ensures ∙ X.no-length _ _ _ (d .before .number-at .ensures) (sym (d .is-done .ensures) ∙ not-false _ (i .if1 .left)) (c .before .if2 .taken)
+    c .no-number .ensures ∙ X.no-length _ _ _ (d .before .number-at .ensures) (sym (d .is-done .ensures) ∙ not-false _ (i .if1 .left)) (c .before .if2 .taken)
 
 text-at-requires : tie.Need-text-at-requires
 text-at-requires c κs = search needs
@@ -36,15 +36,15 @@ returns-3 c =
     let d = i .before in
     c .text-at .ensures ∙ X.good-length _ _ _ (d .before .number-at .ensures) (sym (d .is-done .ensures) ∙ not-false _ (i .if1 .left)) (n .if2 .left) (c .before .if3 .taken)
 
-refused-at-requires-2 : tie.Need-refused-at-requires-2
-refused-at-requires-2 c κs = search needs
+no-number-requires-2 : tie.Need-no-number-requires-2
+no-number-requires-2 c κs = search needs
 
 returns-4 : tie.Need-returns-4
 returns-4 c =
     let n = c .before .before .before in
     let i = n .before .before in
     let d = i .before in
-    c .refused-at2 .ensures ∙ X.long-length _ _ _ (d .before .number-at .ensures) (sym (d .is-done .ensures) ∙ not-false _ (i .if1 .left)) (c .before .if3 .left)
+    c .no-number2 .ensures ∙ X.long-length _ _ _ (d .before .number-at .ensures) (sym (d .is-done .ensures) ∙ not-false _ (i .if1 .left)) (c .before .if3 .left)
 
 pub symbol-at-spec : {M : Type 1} → statement M
 symbol-at-spec =
@@ -53,9 +53,9 @@ symbol-at-spec =
     number-at-requires
     is-done-requires
     returns
-    refused-at-requires
+    no-number-requires
     returns-2
     text-at-requires
     returns-3
-    refused-at-requires-2
+    no-number-requires-2
     returns-4)

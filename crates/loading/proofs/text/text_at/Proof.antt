@@ -5,20 +5,20 @@ use Rattle.loading.proofs.Texts as X
 use Rattle.loading.proofs.text.text_at.Statement.{statement}
 use Rattle.loading.proofs.text.text_at.Tie as tie
 
-refused-at-requires : tie.Need-refused-at-requires
-refused-at-requires c κs = search needs
+no-number-requires : tie.Need-no-number-requires
+no-number-requires c κs = search needs
 
 returns : tie.Need-returns
-returns c = c .refused-at .ensures ∙ X.text-past _ _ _ (search needs)
+returns c = c .no-number .ensures ∙ X.text-past _ _ _ (search needs)
 
 sub-if2 : tie.Need-sub-if2
 sub-if2 c = search needs
 
-refused-at-requires-2 : tie.Need-refused-at-requires-2
-refused-at-requires-2 c κs = search needs
+no-number-requires-2 : tie.Need-no-number-requires-2
+no-number-requires-2 c κs = search needs
 
 returns-2 : tie.Need-returns-2
-returns-2 c = c .refused-at2 .ensures ∙ X.text-past _ _ _ (search needs)
+returns-2 c = c .no-number2 .ensures ∙ X.text-past _ _ _ (search needs)
 
 spelt-at-requires : tie.Need-spelt-at-requires
 spelt-at-requires c κs = search needs
@@ -33,10 +33,10 @@ pub text-at-spec : {M : Type 1} → statement M
 text-at-spec =
     tie.close
     (tie.spec
-    refused-at-requires
+    no-number-requires
     returns
     sub-if2
-    refused-at-requires-2
+    no-number-requires-2
     returns-2
     spelt-at-requires
     add-t4
