@@ -15,4 +15,5 @@ pub mod Longest
 pub mod Fullest
 pub mod Later
 pub mod Laws
+pub mod Histories
 pub mod Cases

@@ -1,2 +1,3 @@
 -- What the laws of the saved form say.
 pub mod Statement
+pub mod History
