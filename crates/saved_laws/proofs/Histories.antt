@@ -3,9 +3,7 @@ use Prim.Native.Nat.{_≤_}
 use mathlib.Core.Path.{_≡_, refl, ap, _∙_}
 use mathlib.Core.Bool.{true}
 use mathlib.Core.List.{List, [], _∷_}
-use native.Mathlib.Omega.{arith}
 use Rattle.account.specs.declared.account.Account.{Account}
-use Rattle.account.specs.declared.change.Changed.{Changed}
 use Rattle.account.specs.Account.{soundAccount}
 use Rattle.account_bytes.proofs.AccountKept.{KeptAccount}
 use Rattle.zero_laws.specs.Zeros.{plainAccount, Alike}
@@ -13,8 +11,8 @@ use Rattle.zero_laws.specs.Told.{SameTold}
 use Rattle.zero_laws.specs.History.{Reply, Step, call, reload, replyTo, leftBy, replies, left, unsaved}
 use Rattle.zero_laws.proofs.Histories.{later-answers-same, left-same}
 use Rattle.zero_laws.proofs.Queries.{same-told}
-use Rattle.saved_laws.specs.History.{reloaded, filedReplies, filedLeft}
-use Rattle.saved_laws.proofs.ReadsBack.{reads-back}
+use Rattle.saved_laws.specs.History.{filedReplies, filedLeft}
+use Rattle.saved_laws.proofs.Later.{loaded-is}
 
 -- Wherever the account is saved it is sound, as an account that was opened stays; and its fields fit their widths, as those of every account in a program do.
 abbrev pub Savable : List Step → Account → Type 0
@@ -22,20 +20,17 @@ Savable [] a = 0 ≤ 0
 Savable (call c ∷ h) a = Savable h (leftBy c a)
 Savable (reload ∷ h) a = (soundAccount a ≡ true) × KeptAccount a × Savable h (plainAccount a)
 
-pub reloaded-plain : (a : Account) → soundAccount a ≡ true → KeptAccount a → reloaded a ≡ plainAccount a
-reloaded-plain a e k = ap (λ (r : Changed). r .account) (reads-back a e k)
-
 replies-filed : (h : List Step) (a : Account) → Savable h a → filedReplies h a ≡ replies h a
 unfolding filedReplies replies
 replies-filed [] a s = refl
 replies-filed (call c ∷ h) a s = ap (λ (rs : List Reply). replyTo c a ∷ rs) (replies-filed h (leftBy c a) s)
-replies-filed (reload ∷ h) a s = ap (filedReplies h) (reloaded-plain a (s .0) (s .1)) ∙ replies-filed h (plainAccount a) (s .2)
+replies-filed (reload ∷ h) a s = ap (filedReplies h) (loaded-is a (s .0) (s .1)) ∙ replies-filed h (plainAccount a) (s .2)
 
 left-filed : (h : List Step) (a : Account) → Savable h a → filedLeft h a ≡ left h a
 unfolding filedLeft left
 left-filed [] a s = refl
 left-filed (call c ∷ h) a s = left-filed h (leftBy c a) s
-left-filed (reload ∷ h) a s = ap (filedLeft h) (reloaded-plain a (s .0) (s .1)) ∙ left-filed h (plainAccount a) (s .2)
+left-filed (reload ∷ h) a s = ap (filedLeft h) (loaded-is a (s .0) (s .1)) ∙ left-filed h (plainAccount a) (s .2)
 
 module _ (h : List Step) (a : Account) (s : Savable h a) where
   -- every answer, record and lent place is that of the calls never saved

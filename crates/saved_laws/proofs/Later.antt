@@ -16,7 +16,7 @@ use Rattle.saved_laws.specs.Statement.{Later}
 use Rattle.saved_laws.proofs.ReadsBack.{reads-back}
 
 module _ (a : Account) (e : soundAccount a ≡ true) (k : KeptAccount a) where
-  loaded-is : loaded (fileOf a) .account ≡ plainAccount a
+  pub loaded-is : loaded (fileOf a) .account ≡ plainAccount a
   loaded-is = ap (λ (c : Changed). c .account) (reads-back a e k)
 
   replies-after : (h : List Step) → replies h (loaded (fileOf a) .account) ≡ replies h a
