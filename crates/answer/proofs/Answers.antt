@@ -1,4 +1,4 @@
--- Equal numbers are equal answers; and what an answer of number 0 tells of the checks before it.
+-- Done alone has the number 0; and what an answer of number 0 tells of the checks before it.
 use Prim.Native.Nat.{ℕ}
 use mathlib.Core.Path.{_≡_, refl, sym, ap, _∙_}
 use mathlib.Core.Bool.{Bool, true, false}
@@ -10,37 +10,32 @@ use Rattle.answer.specs.declared.Answer.{Answer}
 use Rattle.answer.specs.declared.Answer.the-variants.{Done, BadSetting, BadSymbol, Twice, BadPrice, BadWeight, TooLong, TooMany, NoRecordRoom, NotHeld, BufferFull, Unsound, BadSeries, BadGroup, NoFirstSum, OutOfRange, EndsEarly, BadNumber, LeftOver, NoFileRoom}
 use Rattle.answer.specs.Numbers.{numberOf, isDone, unless, orLater}
 
--- the answers in the order of their numbers
-abbrev table : List Answer
-table = Done ∷ BadSetting ∷ BadSymbol ∷ Twice ∷ BadPrice ∷ BadWeight ∷ TooLong ∷ TooMany ∷ NoRecordRoom ∷ NotHeld ∷ BufferFull ∷ Unsound ∷ BadSeries ∷ BadGroup ∷ NoFirstSum ∷ OutOfRange ∷ EndsEarly ∷ BadNumber ∷ LeftOver ∷ NoFileRoom ∷ []
+-- a number above 0 is not Done's
+not-done : {A : Type 0} → _≡_ {A = Bool} false true → A
+not-done e = absurd (let n : _≡_ {A = ℕ} 0 1 = cc in omega arith)
 
-in-its-place : (a : Answer) → getD table (numberOf a) Done ≡ a
-in-its-place Done = refl
-in-its-place BadSetting = refl
-in-its-place BadSymbol = refl
-in-its-place Twice = refl
-in-its-place BadPrice = refl
-in-its-place BadWeight = refl
-in-its-place TooLong = refl
-in-its-place TooMany = refl
-in-its-place NoRecordRoom = refl
-in-its-place NotHeld = refl
-in-its-place BufferFull = refl
-in-its-place Unsound = refl
-in-its-place BadSeries = refl
-in-its-place BadGroup = refl
-in-its-place NoFirstSum = refl
-in-its-place OutOfRange = refl
-in-its-place EndsEarly = refl
-in-its-place BadNumber = refl
-in-its-place LeftOver = refl
-in-its-place NoFileRoom = refl
-
-pub number-tells : (a b : Answer) → numberOf a ≡ numberOf b → a ≡ b
-number-tells a b e = sym (in-its-place a) ∙ ap (λ n. getD table n Done) e ∙ in-its-place b
-
+-- no other answer has the number 0
 pub done-is : (a : Answer) → isDone a ≡ true → a ≡ Done
-done-is a e = number-tells a Done (eqb-true (numberOf a) 0 e)
+done-is Done e = refl
+done-is BadSetting e = not-done e
+done-is (BadSymbol p) e = not-done e
+done-is (Twice p) e = not-done e
+done-is (BadPrice p) e = not-done e
+done-is BadWeight e = not-done e
+done-is TooLong e = not-done e
+done-is TooMany e = not-done e
+done-is NoRecordRoom e = not-done e
+done-is NotHeld e = not-done e
+done-is BufferFull e = not-done e
+done-is Unsound e = not-done e
+done-is BadSeries e = not-done e
+done-is BadGroup e = not-done e
+done-is NoFirstSum e = not-done e
+done-is OutOfRange e = not-done e
+done-is (EndsEarly p) e = not-done e
+done-is (BadNumber p) e = not-done e
+done-is (LeftOver p) e = not-done e
+done-is NoFileRoom e = not-done e
 
 -- ---- checks
 clash : {A : Type 0} (b : Bool) → b ≡ true → b ≡ false → A

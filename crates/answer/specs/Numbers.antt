@@ -12,11 +12,11 @@ numberOf Done = 0
 -- a setting or opening cash is bad
 numberOf BadSetting = 1
 -- a symbol is bad
-numberOf BadSymbol = 2
+numberOf (BadSymbol e) = 2
 -- a symbol stands twice in one list
-numberOf Twice = 3
+numberOf (Twice e) = 3
 -- a price is below 1
-numberOf BadPrice = 4
+numberOf (BadPrice e) = 4
 -- a weight is not finite
 numberOf BadWeight = 5
 -- a list or return series is over its bound
@@ -40,11 +40,11 @@ numberOf NoFirstSum = 14
 -- a change or a finished sum (not a partial one) leaves i64
 numberOf OutOfRange = 15
 -- file ends early
-numberOf EndsEarly = 16
+numberOf (EndsEarly at) = 16
 -- number not shortest or too large
-numberOf BadNumber = 17
+numberOf (BadNumber at) = 17
 -- bytes left over
-numberOf LeftOver = 18
+numberOf (LeftOver at) = 18
 -- output room short
 numberOf NoFileRoom = 19
 
