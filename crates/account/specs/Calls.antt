@@ -10,6 +10,7 @@ use lib.Ieee.{Float}
 use Rattle.doubles.specs.Doubles.{zero}
 use Rattle.answer.specs.declared.Answer.{Answer}
 use Rattle.answer.specs.declared.Answer.the-variants.{Done, BadSetting, BadSymbol, BufferFull, Unsound}
+use Rattle.answer.specs.Places.{alone}
 use Rattle.cost_model.specs.declared.CostModel.{CostModel}
 use Rattle.cost_model.specs.Costs.{free}
 use Rattle.position.specs.Rows.{fresh, keyOf}
@@ -127,7 +128,7 @@ positionOf s a =
     pick (soundAccount a)
     (pick (goodSymbol s)
     (presentOr (seek keyOf s (heldIn (a .positions))))
-    (absent BadSymbol))
+    (absent (BadSymbol alone)))
     (absent Unsound)
 
 -- the same by place, in symbol order

@@ -7,6 +7,7 @@ ghost use Rattle.account.specs.Calls.{absent, present, positionOf, posit
 ghost use Rattle.account.specs.Inner.Calls.{foundIn};
 use crate::account::Account;
 use answer::Answer;
+use answer::Entry;
 use position::Position;
 use position::Symbol;
 use table::Found;
@@ -69,7 +70,7 @@ impl Account {
             return absent(Answer::Unsound);
         }
         if !symbol.is_good() {
-            return absent(Answer::BadSymbol);
+            return absent(Answer::BadSymbol(Entry::Price(0)));
         }
         let t = self.positions;
         let n = t.count;

@@ -11,6 +11,10 @@ abbrev pub entryPlace : Entry → ℕ
 entryPlace (Target i) = 2 * i
 entryPlace (Price i) = 2 * i + 1
 
+-- "Calls with one symbol tell index 0": of its prices
+abbrev pub alone : Entry
+alone = Price 0
+
 -- "2, 3 and 4 ... tell the list ... and the first offending index", "the byte place for 16, 17 and 18"; the others tell no place
 abbrev pub placeOf : Answer → ℕ
 placeOf Done = 0

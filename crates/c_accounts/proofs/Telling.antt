@@ -10,6 +10,7 @@ use lib.ListN.{length, replicate}
 use borrow.Author.Tests.{eq-eqb, ne-eqb}
 use Rattle.answer.specs.declared.Answer.{Answer}
 use Rattle.answer.specs.declared.Answer.the-variants.{Done, BadSymbol, TooLong, Unsound}
+use Rattle.answer.specs.Places.{alone}
 use Rattle.answer.specs.Numbers.{numberOf}
 use Rattle.position.specs.declared.position.Position.{Position}
 use Rattle.position.specs.Rows.{keyOf}
@@ -68,16 +69,16 @@ present-done : (o : Option Position) → presentOr o .answer ≡ Done
 present-done none = refl
 present-done (some p) = refl
 
-position-by : (t g : Bool) (o : Option Position) → pick t (pick g (presentOr o) (absent BadSymbol)) (absent Unsound) .answer ≡ pick t (pick g Done BadSymbol) Unsound
+position-by : (t g : Bool) (o : Option Position) → pick t (pick g (presentOr o) (absent (BadSymbol alone))) (absent Unsound) .answer ≡ pick t (pick g Done (BadSymbol alone)) Unsound
 position-by true true o = present-done o
 position-by true false o = refl
 position-by false g o = refl
 
-pub position-answer : (s : ℕ) (a : Account) → positionOf s a .answer ≡ unlessUnsound a (pick (goodSymbol s) Done BadSymbol)
+pub position-answer : (s : ℕ) (a : Account) → positionOf s a .answer ≡ unlessUnsound a (pick (goodSymbol s) Done (BadSymbol alone))
 unfolding positionOf
 position-answer s a = position-by (soundAccount a) (goodSymbol s) (seek keyOf s (heldIn (a .positions)))
 
-pub never-unsound : (g : Bool) → eqb (numberOf (pick g Done BadSymbol)) 11 ≡ false
+pub never-unsound : (g : Bool) → eqb (numberOf (pick g Done (BadSymbol alone))) 11 ≡ false
 never-unsound true = refl
 never-unsound false = refl
 

@@ -5,6 +5,7 @@ use lib.Dec.{eqb}
 use lib.ListN.{length}
 use Rattle.answer.specs.declared.Answer.{Answer}
 use Rattle.answer.specs.declared.Answer.the-variants.{Done, BadSymbol, TooLong, Unsound}
+use Rattle.answer.specs.Places.{alone}
 use Rattle.answer.specs.Numbers.{numberOf}
 use Rattle.position.specs.Rows.{keyOf, held, avg, realized, total}
 use Rattle.position.specs.Symbols.{goodSymbol}
@@ -54,7 +55,7 @@ seriesTold b out = queried b (8 * seriesSize) Done (seriesWords (accountIn b .se
 
 -- 2: "a symbol is bad"; "a position the account lacks is 0 with an absent mark"
 abbrev pub positionTold : ℕ → List ℕ → List ℕ → AccountTold
-positionTold s b out = queried b 48 (pick (goodSymbol s) Done BadSymbol) (heldWords (positionOf s (accountIn b))) out
+positionTold s b out = queried b 48 (pick (goodSymbol s) Done (BadSymbol alone)) (heldWords (positionOf s (accountIn b))) out
 
 abbrev pub positionAtTold : ℕ → List ℕ → List ℕ → AccountTold
 positionAtTold i b out = queried b 48 Done (heldWords (positionAt i (accountIn b))) out

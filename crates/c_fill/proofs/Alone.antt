@@ -10,6 +10,7 @@ use lib.ListN.{length, take, replicate}
 use lib.Signed.{leZ}
 use borrow.Author.Tests.{eq-eqb, ne-eqb, leb-true}
 use Rattle.answer.specs.declared.Answer.the-variants.{Done, BadSetting, BadPrice, NoRecordRoom, Unsound}
+use Rattle.answer.specs.Places.{alone}
 use Rattle.answer.specs.Numbers.{numberOf}
 use Rattle.position.specs.declared.position.Position.{Position}
 use Rattle.call_lists.specs.Checks.{unless}
@@ -87,7 +88,7 @@ module _ (f : Filled) (ws : List ℕ) (is : List ℤ) where
       keeps-one f (buffers ws is 0) h ∙ stored-fronts (recordsOf f) ws is (omega arith) (omega arith)
 
 -- ---- the answer
-room-by : (s g p r : Bool) → numberOf (unless s Unsound (unless g BadSetting (unless p BadPrice (unless r NoRecordRoom Done)))) ≡ 0 → r ≡ true
+room-by : (s g p r : Bool) → numberOf (unless s Unsound (unless g BadSetting (unless p (BadPrice alone) (unless r NoRecordRoom Done)))) ≡ 0 → r ≡ true
 room-by true true true true h = refl
 room-by true true true false h = absurd (omega (arith, h))
 room-by true true false r h = absurd (omega (arith, h))

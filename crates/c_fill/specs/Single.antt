@@ -8,6 +8,7 @@ use lib.ListN.{length, getD}
 use lib.Signed.{leZ}
 use Rattle.answer.specs.declared.Answer.{Answer}
 use Rattle.answer.specs.declared.Answer.the-variants.{Done, BadSetting, BadPrice, NoRecordRoom, Unsound}
+use Rattle.answer.specs.Places.{alone}
 use Rattle.answer.specs.Numbers.{numberOf}
 use Rattle.position.specs.declared.position.Position.{Position}
 use Rattle.position.specs.Rows.{row, held, realized, numbersOf}
@@ -93,7 +94,7 @@ unfoldable pub refusalOf : Ask → ℤ → Position → ℕ → ℕ → Answer
 refusalOf a cash p words ints =
     unless (soundAlone cash p) Unsound
     (unless (goodAsk a) BadSetting
-    (unless (leZ (pos 1) (a .price)) BadPrice
+    (unless (leZ (pos 1) (a .price)) (BadPrice alone)
     (unless (roomForOne words ints) NoRecordRoom
     Done)))
 

@@ -10,6 +10,7 @@ ghost use Rattle.fills.specs.Inner.Runs.{recordsOf};
 ghost use Rattle.c_fill.specs.Single.{askOf, askedTerms, positionIn, isNone, soundAlone, goodAsk, refusalOf, counting, slots, fillTold, fillOne};
 ghost use Rattle.c_fill.specs.Inner.Single.{bookOf, enteredIn, seenBy, seenAfter, moneyOf, talliesOf};
 use answer::Answer;
+use answer::Entry;
 use cost_model::CostModel;
 use fills::Book;
 use fills::Filled;
@@ -121,7 +122,7 @@ fn refusal(a: Ask, cash: i64, p: Position, words: usize, ints: usize) -> Answer
         return Answer::BadSetting;
     }
     if a.price < 1 {
-        return Answer::BadPrice;
+        return Answer::BadPrice(Entry::Price(0));
     }
     if words < 4 || ints < 8 {
         return Answer::NoRecordRoom;

@@ -11,6 +11,7 @@ use lib.Ieee.{Float}
 use lib.ListN.{length}
 use borrow.Author.Tests.{eqb-true, ne-eqb}
 use Rattle.answer.specs.declared.Answer.the-variants.{Done, BadPrice, Unsound}
+use Rattle.answer.specs.Places.{alone}
 use Rattle.answer.specs.Numbers.{numberOf}
 use Rattle.position.specs.declared.position.Position.{Position}
 use Rattle.position.specs.declared.position.Filled.{Filled}
@@ -37,7 +38,7 @@ module _ (s : ℕ) (ns : List ℤ) (q price : ℤ) where
       cond unsound
       (record { answer = Unsound; position = found })
       (cond below
-      (record { answer = BadPrice; position = found })
+      (record { answer = BadPrice alone; position = found })
       (record { answer = Done; position = applied found q price }))
 
   kept : (unsound below : Bool) → (numberOf (filledBy unsound below .answer) ≡ 0 → ⊥) → filledBy unsound below .position ≡ found

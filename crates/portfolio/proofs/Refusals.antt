@@ -11,6 +11,7 @@ use lib.ListN.{length}
 use lib.Signed.{leZ}
 use borrow.Author.Tests.{leb-true, le-leb, lt-leb}
 use Rattle.answer.specs.declared.Answer.the-variants.{Done, BadSymbol, BadPrice, TooMany, NoRecordRoom, BufferFull, Unsound}
+use Rattle.answer.specs.Places.{alone}
 use Rattle.answer.proofs.Answers.{done-is, passed, passed-both}
 use Rattle.table.specs.Keyed.{both}
 use Rattle.table.specs.Inner.Keyed.{Rising}
@@ -83,8 +84,8 @@ pub close-done : (a : Account) (s : ℕ) (price : ℤ) (room : ℕ) → isDone (
 unfolding closeAnswer
 close-done a s price room e =
     let p = passed (soundAccount a) Unsound _ refl e in
-    let q = passed (goodSymbol s) BadSymbol _ refl (p .1) in
-    let r = passed (leZ (pos 1) price) BadPrice _ refl (q .1) in
+    let q = passed (goodSymbol s) (BadSymbol alone) _ refl (p .1) in
+    let r = passed (leZ (pos 1) price) (BadPrice alone) _ refl (q .1) in
     let t = passed (hasRoom a 1 room) NoRecordRoom _ refl (r .1) in
     record { sound = p .0; good = q .0; priced = r .0; roomy = t .0 }
 

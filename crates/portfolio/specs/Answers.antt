@@ -9,6 +9,7 @@ use lib.Signed.{leZ}
 use lib.Ieee.{Float}
 use Rattle.answer.specs.declared.Answer.{Answer}
 use Rattle.answer.specs.declared.Answer.the-variants.{Done, BadSymbol, BadPrice, TooMany, NoRecordRoom, NotHeld, BufferFull, Unsound}
+use Rattle.answer.specs.Places.{alone}
 use Rattle.position.specs.declared.position.Position.{Position}
 use Rattle.position.specs.Rows.{keyOf}
 use Rattle.position.specs.Symbols.{goodSymbol}
@@ -46,8 +47,8 @@ rebalanceAnswer a ts ws ps vs room =
 unfoldable pub closeAnswer : Account → ℕ → ℤ → ℕ → Answer
 closeAnswer a s price room =
     unless (soundAccount a) Unsound
-    (unless (goodSymbol s) BadSymbol
-    (unless (leZ (pos 1) price) BadPrice
+    (unless (goodSymbol s) (BadSymbol alone)
+    (unless (leZ (pos 1) price) (BadPrice alone)
     (unless (hasRoom a 1 room) NoRecordRoom
     (unless (not (isZero (holding s (heldIn (a .positions)) .quantity .0))) NotHeld
     Done))))

@@ -14,6 +14,7 @@ use account::Account;
 use account::Ledger;
 use account::sound_account;
 use answer::Answer;
+use answer::Entry;
 use answer::is_done;
 use call_lists::check_lists;
 use call_lists::check_prices;
@@ -153,10 +154,10 @@ pub(crate) fn close_answer<'a>(
         return Answer::Unsound;
     }
     if !Symbol(s).is_good() {
-        return Answer::BadSymbol;
+        return Answer::BadSymbol(Entry::Price(0));
     }
     if price < 1 {
-        return Answer::BadPrice;
+        return Answer::BadPrice(Entry::Price(0));
     }
     if !has_room(h.settings.recording, 1, room) {
         return Answer::NoRecordRoom;

@@ -19,6 +19,7 @@ use Rattle.position.specs.Fills.{soundNumbers, sound, sameSide, entered,
 use Rattle.position.specs.declared.position.Position.{Position}
 use Rattle.position.specs.declared.position.Filled.{Filled}
 use Rattle.answer.specs.declared.Answer.the-variants.{Done, BadPrice, Unsound}
+use Rattle.answer.specs.Places.{alone}
 use Rattle.answer.proofs.Choice.{by-test, both-true}
 
 -- ---- the branches
@@ -295,7 +296,7 @@ pub apply-fill-sound : (p : Position) (q price : ℤ) → sound p ≡ true → s
 unfolding applyFill
 apply-fill-sound p q price s = rw s (go (ltZ price (pos 0)) refl)
   where
-    go : (t : Bool) → ltZ price (pos 0) ≡ t → sound ((cond {A = Filled} t (record { answer = BadPrice; position = p }) (record { answer = Done; position = applied p q price })) .position) ≡ true
+    go : (t : Bool) → ltZ price (pos 0) ≡ t → sound ((cond {A = Filled} t (record { answer = BadPrice alone; position = p }) (record { answer = Done; position = applied p q price })) .position) ≡ true
     go true e = s
     go false e = applied-keeps-sound p q price s (le-is (pos 0) price (omega (arith, lt-no price (pos 0) e)))
 
@@ -303,7 +304,7 @@ pub apply-fill-unsound : (p : Position) (q price : ℤ) → sound p ≡ false �
 unfolding applyFill
 apply-fill-unsound p q price s = rw s
 
-pub apply-fill-bad-price : (p : Position) (q price : ℤ) → sound p ≡ true → ltZ price (pos 0) ≡ true → applyFill p q price ≡ record { answer = BadPrice; position = p }
+pub apply-fill-bad-price : (p : Position) (q price : ℤ) → sound p ≡ true → ltZ price (pos 0) ≡ true → applyFill p q price ≡ record { answer = BadPrice alone; position = p }
 unfolding applyFill
 apply-fill-bad-price p q price s h = rw (s, h)
 

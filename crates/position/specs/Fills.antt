@@ -4,6 +4,7 @@ use Prim.Native.Nat.{ℕ}
 use lib.IntN.{ℤ, pos}
 use lib.Signed.{ltZ, leZ}
 use Rattle.answer.specs.declared.Answer.the-variants.{Done, BadPrice, Unsound}
+use Rattle.answer.specs.Places.{alone}
 use Rattle.sums.specs.Sums.{satAdd, satSub, satAbs, value, priceAt}
 use Rattle.position.specs.Rows.{row, keyOf, held, avg, realized, total}
 use Rattle.position.specs.Shares.{isZero, isPositive}
@@ -86,7 +87,7 @@ applyFill p q price =
     cond (not (sound p))
     (record { answer = Unsound; position = p })
     (cond (ltZ price (pos 0))
-    (record { answer = BadPrice; position = p })
+    (record { answer = BadPrice alone; position = p })
     (record { answer = Done; position = applied p q price }))
 
 -- ---- what a position is worth

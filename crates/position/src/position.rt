@@ -6,6 +6,7 @@ ghost use Rattle.position.specs.Fills.{soundNumbers, sound, sameSide, en
 use crate::shares::Shares;
 use crate::symbol::Symbol;
 use answer::Answer;
+use answer::Entry;
 
 // Quantity (positive = long, negative = short), average entry price and realized profit; money in cents.
 pub struct Position {
@@ -61,7 +62,7 @@ impl Position {
         }
         if price < 0 {
             return Filled {
-                answer: Answer::BadPrice,
+                answer: Answer::BadPrice(Entry::Price(0)),
                 position: self,
             };
         }
