@@ -11,7 +11,7 @@ use lib.Signed.{leZ, ltZ}
 use lib.ListN.{length, take, drop, getD, length-drop, drop-of-length-le}
 use lib.Seq.{drop-cons, take-all}
 use borrow.Author.Tests.{le-ltb, le-leb, eq-eqb, ne-eqb, not-true}
-use Rattle.call_lists.specs.Lists.{among, distinct}
+use Rattle.call_lists.specs.Lists.{among, distinct, firstFailing}
 use Rattle.table.specs.Keyed.{pick, all, ascending}
 use Rattle.table.specs.Inner.Keyed.{Over, Rising}
 use Rattle.table.proofs.Keyed.{ascending-rises, both-true}
@@ -24,19 +24,24 @@ module _ {A B : Type 0} (f : List A → B) (l : List A) (i : ℕ) where
   pub from-end : length l ≤ i → f (drop i l) ≡ f []
   from-end h = ap f (rw drop-of-length-le)
 
--- a loop that tests every member: those before place i hold, so those from there on decide
-abbrev pub Held : {A : Type 0} → (A → Bool) → List A → ℕ → Type 0
-Held t l i = (i ≤ length l) × (all t (drop i l) ≡ all t l)
+-- a loop that tests every member: those before place i pass, so the first that fails is found from there on
+abbrev pub Passed : {A : Type 0} → (A → Bool) → List A → ℕ → Type 0
+Passed t l i = (i ≤ length l) × (firstFailing t l ≡ i + firstFailing t (drop i l))
 
-module _ {A : Type 0} (t : A → Bool) (l : List A) (i : ℕ) (held : Held t l i) where
-  pub fails-at : (d : A) → i < length l → t (getD l i d) ≡ false → false ≡ all t l
-  fails-at d h e = sym (from-place (all t) l i d h ∙ simp e) ∙ held .1
+module _ {A : Type 0} (t : A → Bool) (l : List A) (i : ℕ) (passed : Passed t l i) where
+  pub fails-at : (d : A) → i < length l → t (getD l i d) ≡ false → i ≡ firstFailing t l
+  unfolding firstFailing
+  fails-at d h e = let z : firstFailing t (drop i l) ≡ 0 = from-place (firstFailing t) l i d h ∙ simp e in omega (arith, passed .1)
 
-  pub holds-at : (d : A) → i < length l → t (getD l i d) ≡ true → Held t l (i + 1)
-  holds-at d h e = (omega arith, sym (from-place (all t) l i d h ∙ simp e) ∙ held .1)
+  pub passes-at : (d : A) → i < length l → t (getD l i d) ≡ true → Passed t l (i + 1)
+  unfolding firstFailing
+  passes-at d h e =
+      let z : firstFailing t (drop i l) ≡ suc (firstFailing t (drop (i + 1) l)) = from-place (firstFailing t) l i d h ∙ simp e in
+      (omega arith, omega (arith, passed .1))
 
-  pub all-hold : length l ≤ i → true ≡ all t l
-  all-hold h = sym (from-end (all t) l i h) ∙ held .1
+  pub all-pass : length l ≤ i → i ≡ firstFailing t l
+  unfolding firstFailing
+  all-pass h = let z : firstFailing t (drop i l) ≡ 0 = from-end (firstFailing t) l i h in omega (arith, passed .1)
 
 -- "a price is below 1" as the code tests it
 pub below-one : (p : ℤ) → leZ (pos 1) p ≡ not (ltZ p (pos 1))
@@ -75,19 +80,6 @@ rising-distinct (x ∷ l) r = simp (below-not-among x l (r .0) (r .1)) (rising-d
 -- a list that ascends has no symbol twice
 pub ascending-distinct : (l : List ℕ) → ascending l ≡ true → distinct l ≡ true
 ascending-distinct l e = rising-distinct l (ascending-rises l e)
-
--- the symbol at place i, looked for in the rest
-module _ (l : List ℕ) (i : ℕ) (h : i < length l) {b : Bool} (e : b ≡ among (getD l i 0) (take (length l - (i + 1)) (drop (i + 1) l))) where
-  again : among (getD l i 0) (drop (i + 1) l) ≡ b
-  again = sym (e ∙ ap (among (getD l i 0)) (take-all (length l - (i + 1)) (drop (i + 1) l) (omega (arith, length-drop (i + 1) l))))
-
-  pub twice-at : b ≡ true → distinct (drop i l) ≡ false
-  unfolding distinct
-  twice-at q = from-place distinct l i 0 h ∙ simp (again ∙ q)
-
-  pub twice-on : b ≡ false → distinct (drop i l) ≡ distinct (drop (i + 1) l)
-  unfolding distinct
-  twice-on q = from-place distinct l i 0 h ∙ simp (again ∙ q)
 
 -- ---- what follows for places
 pub among-own : (s : ℕ) (l : List ℕ) → among s (s ∷ l) ≡ true

@@ -5,11 +5,11 @@ mod price;
 mod refusal;
 mod sorting;
 
-pub use list::all_good;
-pub use list::all_priced;
+pub use list::first_bad;
+pub use list::first_repeat;
+pub use list::first_unpriced;
 pub use list::is_among;
 pub use list::is_ascending;
-pub use list::is_distinct;
 pub use lookup::quote;
 pub use price::Quote;
 pub use refusal::check_lists;

@@ -1,38 +1,38 @@
 // Tests on one list of a call.
 ghost use mathlib.Core.Path.{_≡_};
 ghost use Rattle.table.specs.Keyed.{ascending};
-ghost use Rattle.call_lists.specs.Lists.{among, allGood, allPriced, distinct};
+ghost use Rattle.call_lists.specs.Lists.{among, firstBad, firstUnpriced, firstRepeat};
 use position::Symbol;
 use table::ascends;
 
-// Not "a symbol is bad".
-pub fn all_good(symbols: &[u64]) -> bool
-    ensures { λ r. ⌜ r ≡ allGood (now (symbols .entry)) ⌝ }
+// The index of the first symbol that is bad; the length where none is.
+pub fn first_bad(symbols: &[u64]) -> usize
+    ensures { λ r. ⌜ r ≡ firstBad (now (symbols .entry)) ⌝ }
 {
     let mut i = 0;
     while i < symbols.len() {
         let s = symbols[i];
         if !Symbol(s).is_good() {
-            return false;
+            return i;
         }
         i += 1;
     }
-    true
+    i
 }
 
-// Not "a price is below 1".
-pub fn all_priced(prices: &[i64]) -> bool
-    ensures { λ r. ⌜ r ≡ allPriced (now (prices .entry)) ⌝ }
+// The index of the first price that is below 1; the length where none is.
+pub fn first_unpriced(prices: &[i64]) -> usize
+    ensures { λ r. ⌜ r ≡ firstUnpriced (now (prices .entry)) ⌝ }
 {
     let mut i = 0;
     while i < prices.len() {
         let p = prices[i];
         if p < 1 {
-            return false;
+            return i;
         }
         i += 1;
     }
-    true
+    i
 }
 
 // Whether each symbol is above the one before it.
@@ -56,20 +56,19 @@ pub fn is_among(symbol: u64, symbols: &[u64]) -> bool
     false
 }
 
-// Not "a symbol stands twice in one list". A list that ascends, as most do, needs one look at each symbol.
-pub fn is_distinct(symbols: &[u64]) -> bool
-    ensures { λ r. ⌜ r ≡ distinct (now (symbols .entry)) ⌝ }
+// The least index whose symbol stands before it in the list; the length where none does. A list that ascends, as most do, needs one look at each symbol.
+pub fn first_repeat(symbols: &[u64]) -> usize
+    ensures { λ r. ⌜ r ≡ firstRepeat (now (symbols .entry)) ⌝ }
 {
     if is_ascending(symbols) {
-        return true;
+        return symbols.len();
     }
     let mut i = 0;
     while i < symbols.len() {
-        let next = i + 1;
-        if is_among(symbols[i], &symbols[next..]) {
-            return false;
+        if is_among(symbols[i], &symbols[..i]) {
+            return i;
         }
-        i = next;
+        i += 1;
     }
-    true
+    i
 }

@@ -1,4 +1,4 @@
--- The symbols passed are good, so those that are left decide.
+-- The symbols passed are good, so the first bad one is among those that are left.
 use Prim.Native.Nat.{_-_}
 use mathlib.Core.Path.{refl, sym, _∙_}
 use native.Mathlib.Omega.{arith}
@@ -6,19 +6,18 @@ use borrow.Author.Needs.{needs}
 use borrow.Author.Tests.{not-true, not-false}
 use lib.ListN.{length}
 use Rattle.position.specs.Symbols.{goodSymbol}
-use Rattle.call_lists.specs.Lists.{allGood}
-use Rattle.call_lists.proofs.Lists.{Held, fails-at, holds-at, all-hold}
-use Rattle.call_lists.proofs.list.all_good.Statement.{statement}
-use Rattle.call_lists.proofs.list.all_good.Tie as tie
+use Rattle.call_lists.proofs.Lists.{Passed, fails-at, passes-at, all-pass}
+use Rattle.call_lists.proofs.list.first_bad.Statement.{statement}
+use Rattle.call_lists.proofs.list.first_bad.Tie as tie
 
 abbrev Inv-loop : tie.InvT-loop
-Inv-loop symbols i₀ i = Held goodSymbol symbols i
+Inv-loop symbols i₀ i = Passed goodSymbol symbols i
 
 abbrev μ-loop : tie.MeasureT-loop
 μ-loop symbols i₀ i = length symbols - i
 
 loop-holds : tie.Need-loop-holds Inv-loop μ-loop
-loop-holds c = (omega arith, refl)
+loop-holds c = (omega arith, omega arith)
 
 mul-s : tie.Need-mul-s Inv-loop μ-loop
 mul-s c = search needs
@@ -30,7 +29,6 @@ is-good-requires : tie.Need-is-good-requires Inv-loop μ-loop
 is-good-requires c κs = search needs
 
 returns : tie.Need-returns Inv-loop μ-loop
-unfolding allGood
 returns c =
     let n = c .before .before .before in
     fails-at goodSymbol _ _ (n .before .loop .inv) 0 (n .loop-test .taken) (sym (c .before .is-good .ensures) ∙ not-true _ (c .if1 .taken))
@@ -44,14 +42,13 @@ loop-less c = search needs
 loop-again : tie.Need-loop-again Inv-loop μ-loop
 loop-again c =
     let n = c .before .before .before in
-    holds-at goodSymbol _ _ (n .before .loop .inv) 0 (n .loop-test .taken) (sym (c .before .is-good .ensures) ∙ not-false _ (c .if1 .left))
+    passes-at goodSymbol _ _ (n .before .loop .inv) 0 (n .loop-test .taken) (sym (c .before .is-good .ensures) ∙ not-false _ (c .if1 .left))
 
 returns-2 : tie.Need-returns-2 Inv-loop μ-loop
-unfolding allGood
-returns-2 c = all-hold goodSymbol _ _ (c .before .loop .inv) (c .loop-test .left)
+returns-2 c = all-pass goodSymbol _ _ (c .before .loop .inv) (c .loop-test .left)
 
-pub all-good-spec : {M : Type 1} → statement M
-all-good-spec =
+pub first-bad-spec : {M : Type 1} → statement M
+first-bad-spec =
     tie.close
     (tie.spec
     Inv-loop

@@ -1,4 +1,4 @@
--- The prices passed are at least 1, so those that are left decide.
+-- The prices passed are at least 1, so the first below it is among those that are left.
 use Prim.Native.Nat.{_-_}
 use mathlib.Core.Path.{refl, ap, _∙_}
 use mathlib.Core.Bool.{not}
@@ -10,19 +10,18 @@ use lib.Signed.{leZ}
 use mir.Facts.{toZ-ofZ}
 use mir.Val.{SFits}
 use mir.Syntax.{w64}
-use Rattle.call_lists.specs.Lists.{allPriced}
-use Rattle.call_lists.proofs.Lists.{Held, fails-at, holds-at, all-hold, below-one}
-use Rattle.call_lists.proofs.list.all_priced.Statement.{statement}
-use Rattle.call_lists.proofs.list.all_priced.Tie as tie
+use Rattle.call_lists.proofs.Lists.{Passed, fails-at, passes-at, all-pass, below-one}
+use Rattle.call_lists.proofs.list.first_unpriced.Statement.{statement}
+use Rattle.call_lists.proofs.list.first_unpriced.Tie as tie
 
 abbrev Inv-loop : tie.InvT-loop
-Inv-loop prices i₀ i = Held (leZ (pos 1)) prices i
+Inv-loop prices i₀ i = Passed (leZ (pos 1)) prices i
 
 abbrev μ-loop : tie.MeasureT-loop
 μ-loop prices i₀ i = length prices - i
 
 loop-holds : tie.Need-loop-holds Inv-loop μ-loop
-loop-holds c = (omega arith, refl)
+loop-holds c = (omega arith, omega arith)
 
 mul-p : tie.Need-mul-p Inv-loop μ-loop
 mul-p c = search needs
@@ -31,7 +30,6 @@ shared-slice-copy-out-p : tie.Need-shared-slice-copy-out-p Inv-loop μ-loop
 shared-slice-copy-out-p c = search needs
 
 returns : tie.Need-returns Inv-loop μ-loop
-unfolding allPriced
 returns c =
     let n = c .before .before in
     let l = n .before in
@@ -51,14 +49,13 @@ loop-again c =
     let l = n .before in
     let p = getD (l .before .args .prices .now) (l .loop .i) (pos 0) in
     let f : SFits w64 p = search needs in
-    holds-at (leZ (pos 1)) _ _ (l .loop .inv) (pos 0) (n .loop-test .taken) (below-one p ∙ ap not (simp (toZ-ofZ f) at (c .if1 .left)))
+    passes-at (leZ (pos 1)) _ _ (l .loop .inv) (pos 0) (n .loop-test .taken) (below-one p ∙ ap not (simp (toZ-ofZ f) at (c .if1 .left)))
 
 returns-2 : tie.Need-returns-2 Inv-loop μ-loop
-unfolding allPriced
-returns-2 c = all-hold (leZ (pos 1)) _ _ (c .before .loop .inv) (c .loop-test .left)
+returns-2 c = all-pass (leZ (pos 1)) _ _ (c .before .loop .inv) (c .loop-test .left)
 
-pub all-priced-spec : {M : Type 1} → statement M
-all-priced-spec =
+pub first-unpriced-spec : {M : Type 1} → statement M
+first-unpriced-spec =
     tie.close
     (tie.spec
     Inv-loop
