@@ -67,7 +67,7 @@ repeat-tells-after before [] = refl
 repeat-tells-after before (s ∷ l) = go (among s before) (among s l) (apart before l) (distinct l) (apart-more s before l) (repeat-tells-after (s ∷ before) l)
   where
     go : (b m a d : Bool) → apart (s ∷ before) l ≡ both (not m) a → ltb (repeatAfter (s ∷ before) l) (length l) ≡ not (both (apart (s ∷ before) l) d)
-      → ltb (pick b 0 (suc (repeatAfter (s ∷ before) l))) (suc (length l)) ≡ not (both (both (not b) a) (both (not m) d))
+        → ltb (pick b 0 (suc (repeatAfter (s ∷ before) l))) (suc (length l)) ≡ not (both (both (not b) a) (both (not m) d))
     go true m a d e h = first-of-more (length l)
     go false true true d e h = one-more (repeatAfter (s ∷ before) l) (length l) ∙ h ∙ rw e
     go false true false d e h = one-more (repeatAfter (s ∷ before) l) (length l) ∙ h ∙ rw e
