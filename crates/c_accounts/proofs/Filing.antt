@@ -11,7 +11,7 @@ use mir.Val.{toZ, ofZ, SFits}
 use mir.ValLaws.{toZ-ofZ}
 use borrow.Author.Tests.{eq-eqb, ne-eqb}
 use Rattle.answer.specs.declared.Answer.the-variants.{Done, BadSetting, Unsound}
-use Rattle.answer.specs.Numbers.{numberOf}
+use Rattle.answer.specs.Places.{wordOf}
 use Rattle.table.specs.Keyed.{pick, both}
 use Rattle.table.proofs.Keyed.{both-true}
 use Rattle.word_bytes.specs.Words.{wordsOf}
@@ -57,15 +57,15 @@ pub set-number-done : (f : ℤ → Settings → Settings) {z : ℤ} (b : List �
 set-number-done f {z} b {a} k e h w = set-done (f z) b e (h ∙ ap (λ (x : ℤ). changed (f x (a .settings)) a) (toZ-ofZ w64 z k)) refl w
 
 -- ---- the writing back
-module _ (given : Bool) (n : ℕ) (c : Changed) (b : List ℕ) (e : n ≡ numberOf (c .answer)) where
+module _ (given : Bool) (n : ℕ) (c : Changed) (b : List ℕ) (e : n ≡ wordOf (c .answer)) where
   pub file-not-done : (n ≡ 0 → ⊥) → accountTold n b ≡ setterTold given c b
   unfolding setterTold
   file-not-done z = simp (← e, ne-eqb n 0 z)
 
   pub file-bad : n ≡ 0 → given ≡ false → answering BadSetting b ≡ setterTold given c b
   unfolding setterTold
-  file-bad z g = let q : numberOf (c .answer) ≡ 0 = sym e ∙ z in simp (q, g)
+  file-bad z g = let q : wordOf (c .answer) ≡ 0 = sym e ∙ z in simp (q, g)
 
   pub file-done : n ≡ 0 → given ≡ true → (l : List ℕ) → l ≡ writtenAccount (c .account) b → accountTold n l ≡ setterTold given c b
   unfolding setterTold
-  file-done z g l w = let q : numberOf (c .answer) ≡ 0 = sym e ∙ z in simp (q, z, g, w)
+  file-done z g l w = let q : wordOf (c .answer) ≡ 0 = sym e ∙ z in simp (q, z, g, w)

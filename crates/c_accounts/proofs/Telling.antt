@@ -11,7 +11,7 @@ use borrow.Author.Tests.{eq-eqb, ne-eqb}
 use Rattle.answer.specs.declared.Answer.{Answer}
 use Rattle.answer.specs.declared.Answer.the-variants.{Done, BadSymbol, TooLong, Unsound}
 use Rattle.answer.specs.Places.{alone}
-use Rattle.answer.specs.Numbers.{numberOf}
+use Rattle.answer.specs.Places.{wordOf}
 use Rattle.position.specs.declared.position.Position.{Position}
 use Rattle.position.specs.Rows.{keyOf}
 use Rattle.position.specs.Symbols.{goodSymbol}
@@ -48,19 +48,19 @@ module _ (n : ℕ) (words out : List ℕ) where
   tell-done l e f z w = simp (ne-eqb n 11 e, eq-eqb (length out) (8 * length words) f, eq-eqb n 0 z, w)
 
 -- ---- what is told, by the account
-told-by : (t : Bool) (w : Answer) (n : ℕ) (words out : List ℕ) → n ≡ numberOf (pick t w Unsound) → eqb (numberOf w) 11 ≡ false →
-    tellIn n words out ≡ pick t (pick (eqb (length out) (8 * length words)) (answering w (pick (eqb (numberOf w) 0) (bytesOf words) out)) (answering TooLong out)) (answering Unsound out)
+told-by : (t : Bool) (w : Answer) (n : ℕ) (words out : List ℕ) → n ≡ wordOf (pick t w Unsound) → eqb (wordOf w) 11 ≡ false →
+    tellIn n words out ≡ pick t (pick (eqb (length out) (8 * length words)) (answering w (pick (eqb (wordOf w) 0) (bytesOf words) out)) (answering TooLong out)) (answering Unsound out)
 unfolding tellIn
 told-by true w n words out e f = simp (e, f)
 told-by false w n words out e f = simp e
 
 -- the number of an answer over what the account is
-pub number-in : (b : List ℕ) (w : Answer) (a : Account) (n : ℕ) → a ≡ accountIn b → n ≡ numberOf (unlessUnsound a w) → n ≡ numberOf (pick (soundIn b) w Unsound)
-number-in b w a n h e = e ∙ ap (λ (x : Account). numberOf (unlessUnsound x w)) h ∙ ap (λ (t : Bool). numberOf (pick t w Unsound)) (sym (sound-in b))
+pub number-in : (b : List ℕ) (w : Answer) (a : Account) (n : ℕ) → a ≡ accountIn b → n ≡ wordOf (unlessUnsound a w) → n ≡ wordOf (pick (soundIn b) w Unsound)
+number-in b w a n h e = e ∙ ap (λ (x : Account). wordOf (unlessUnsound x w)) h ∙ ap (λ (t : Bool). wordOf (pick t w Unsound)) (sym (sound-in b))
 
 -- the words that the account gives
-pub told-queried : (gives : Account → List ℕ) (w : Answer) → eqb (numberOf w) 11 ≡ false → (b out : List ℕ) {a : Account} {n : ℕ} {ws : List ℕ}
-    → a ≡ accountIn b → n ≡ numberOf (unlessUnsound a w) → ws ≡ gives a → let words = gives (accountIn b) in tellIn n ws out ≡ queried b (8 * length words) w words out
+pub told-queried : (gives : Account → List ℕ) (w : Answer) → eqb (wordOf w) 11 ≡ false → (b out : List ℕ) {a : Account} {n : ℕ} {ws : List ℕ}
+    → a ≡ accountIn b → n ≡ wordOf (unlessUnsound a w) → ws ≡ gives a → let words = gives (accountIn b) in tellIn n ws out ≡ queried b (8 * length words) w words out
 unfolding queried
 told-queried gives w f b out {a} {n} {ws} h e k = ap (λ (l : List ℕ). tellIn n l out) (k ∙ ap gives h) ∙ told-by (soundIn b) w n (gives (accountIn b)) out (number-in b w a n h e) f
 
@@ -78,7 +78,7 @@ pub position-answer : (s : ℕ) (a : Account) → positionOf s a .answer ≡ unl
 unfolding positionOf
 position-answer s a = position-by (soundAccount a) (goodSymbol s) (seek keyOf s (heldIn (a .positions)))
 
-pub never-unsound : (g : Bool) → eqb (numberOf (pick g Done (BadSymbol alone))) 11 ≡ false
+pub never-unsound : (g : Bool) → eqb (wordOf (pick g Done (BadSymbol alone))) 11 ≡ false
 never-unsound true = refl
 never-unsound false = refl
 
@@ -92,10 +92,10 @@ unfolding positionAt
 place-answer i a = place-by (soundAccount a) (ltb i (a .positions .count)) _
 
 -- the words of the position that the account gives
-pub told-held : (gives : Account → Held) (w : Answer) → eqb (numberOf w) 11 ≡ false → ((a : Account) → gives a .answer ≡ unlessUnsound a w) → (b out : List ℕ) {a : Account} {h : Held} {n : ℕ} {ws : List ℕ}
-    → a ≡ accountIn b → h ≡ gives a → n ≡ numberOf (h .answer) → ws ≡ heldWords h → tellIn n ws out ≡ queried b 48 w (heldWords (gives (accountIn b))) out
+pub told-held : (gives : Account → Held) (w : Answer) → eqb (wordOf w) 11 ≡ false → ((a : Account) → gives a .answer ≡ unlessUnsound a w) → (b out : List ℕ) {a : Account} {h : Held} {n : ℕ} {ws : List ℕ}
+    → a ≡ accountIn b → h ≡ gives a → n ≡ wordOf (h .answer) → ws ≡ heldWords h → tellIn n ws out ≡ queried b 48 w (heldWords (gives (accountIn b))) out
 told-held gives w f each b out {a} e g n k =
-    told-queried (λ (x : Account). heldWords (gives x)) w f b out e (n ∙ ap (λ (x : Held). numberOf (x .answer)) g ∙ ap numberOf (each a)) (k ∙ ap heldWords g)
+    told-queried (λ (x : Account). heldWords (gives x)) w f b out e (n ∙ ap (λ (x : Held). wordOf (x .answer)) g ∙ ap wordOf (each a)) (k ∙ ap heldWords g)
 
 -- "a position the account lacks is 0 with an absent mark"
 pub absent-is-zeros : (w : Answer) → bytesOf (heldWords (absent w)) ≡ replicate 48 0
@@ -103,21 +103,21 @@ unfolding bytesOf turned
 absent-is-zeros w = refl
 
 -- ---- settings
-sound-of : (t : Bool) (n : ℕ) → n ≡ numberOf (pick t Done Unsound) → n ≡ 0 → t ≡ true
+sound-of : (t : Bool) (n : ℕ) → n ≡ wordOf (pick t Done Unsound) → n ≡ 0 → t ≡ true
 sound-of true n e z = refl
 sound-of false n e z = absurd (omega arith)
 
-unsound-of : (t : Bool) (n : ℕ) → n ≡ numberOf (pick t Done Unsound) → (n ≡ 0 → ⊥) → t ≡ false
+unsound-of : (t : Bool) (n : ℕ) → n ≡ wordOf (pick t Done Unsound) → (n ≡ 0 → ⊥) → t ≡ false
 unsound-of true n e z = absurd (z e)
 unsound-of false n e z = refl
 
-module _ (b out : List ℕ) (a : Account) (n : ℕ) (h : a ≡ accountIn b) (e : n ≡ numberOf (unlessUnsound a Done)) where
+module _ (b out : List ℕ) (a : Account) (n : ℕ) (h : a ≡ accountIn b) (e : n ≡ wordOf (unlessUnsound a Done)) where
   pub settings-unsound : (n ≡ 0 → ⊥) → accountTold n out ≡ settingsTold b out
   unfolding queried
   settings-unsound z =
       let k = number-in b Done a n h e in
       let t = unsound-of (soundIn b) n k z in
-      let m : n ≡ 11 = k ∙ ap (λ (x : Bool). numberOf (pick x Done Unsound)) t in
+      let m : n ≡ 11 = k ∙ ap (λ (x : Bool). wordOf (pick x Done Unsound)) t in
       simp (t, m)
 
   pub settings-short : n ≡ 0 → (length out ≡ settingsLength → ⊥) → answering TooLong out ≡ settingsTold b out

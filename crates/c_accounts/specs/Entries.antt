@@ -2,7 +2,7 @@
 use Prim.Native.Nat.{ℕ}
 use mathlib.Core.List.{List}
 use Rattle.answer.specs.declared.Answer.{Answer}
-use Rattle.answer.specs.Numbers.{numberOf}
+use Rattle.answer.specs.Places.{wordOf}
 use Rattle.word_bytes.specs.Words.{bytesOf}
 use Rattle.account.specs.declared.account.Account.{Account}
 use Rattle.account.specs.declared.settings.Settings.{Settings}
@@ -26,4 +26,4 @@ abbrev pub accountTold : ℕ → List ℕ → AccountTold
 accountTold n l = record { number = n; lent = l }
 
 abbrev pub answering : Answer → List ℕ → AccountTold
-answering w l = accountTold (numberOf w) l
+answering w l = accountTold (wordOf w) l

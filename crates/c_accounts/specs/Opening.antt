@@ -7,7 +7,7 @@ use lib.IntN.{ℤ}
 use lib.ListN.{length, set}
 use Rattle.answer.specs.declared.Answer.{Answer}
 use Rattle.answer.specs.declared.Answer.the-variants.{Done, BadSetting, BufferFull, Unsound}
-use Rattle.answer.specs.Numbers.{numberOf}
+use Rattle.answer.specs.Places.{wordOf}
 use Rattle.table.specs.Keyed.{pick, both}
 use Rattle.account.specs.Account.{soundScalars}
 use Rattle.account.specs.Calls.{openAccount}
@@ -25,7 +25,7 @@ abbrev pub openTold : ℕ → List ℕ → List ℤ → OpenTold
 openTold n b es = record { number = n; account = b; equities = es }
 
 abbrev pub answeringOpen : Answer → List ℕ → List ℤ → OpenTold
-answeringOpen w b es = openTold (numberOf w) b es
+answeringOpen w b es = openTold (wordOf w) b es
 
 -- bytes of another length hold no settings, and so do those with a bad mark or flag or a NaN
 unfoldable pub soundOpening : ℤ → List ℕ → Bool

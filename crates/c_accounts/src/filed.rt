@@ -1,6 +1,6 @@
 // What is answered of an account in lent bytes, and the account back into them.
 ghost use mathlib.Core.Path.{_≡_};
-ghost use Rattle.answer.specs.Numbers.{numberOf};
+ghost use Rattle.answer.specs.Places.{wordOf};
 ghost use Rattle.account.specs.Inner.Answers.{unlessUnsound};
 ghost use Rattle.c_accounts.specs.Entries.{accountTold};
 ghost use Rattle.c_accounts.specs.Inner.Setters.{setterTold};
@@ -11,12 +11,12 @@ use answer::Answer;
 
 // The number of an answer, which 11 goes before.
 pub(crate) fn unless_unsound(a: Account, answer: Answer) -> u64
-    ensures { λ r. ⌜ r ≡ numberOf (unlessUnsound a answer) ⌝ }
+    ensures { λ r. ⌜ r ≡ wordOf (unlessUnsound a answer) ⌝ }
 {
     if a.is_sound() {
-        return answer::number(answer);
+        return answer::word(answer);
     }
-    answer::number(Answer::Unsound)
+    answer::word(Answer::Unsound)
 }
 
 // The account after a call that was done, unless what it was given is no mark or flag; else the bytes stay.
@@ -24,12 +24,12 @@ pub(crate) fn file(given: bool, c: Changed, bytes: &mut [u8]) -> u64
     ensures { λ r. ⌜ accountTold r (now (bytes .exit)) ≡ setterTold given c (now (bytes .entry)) ⌝ }
 {
     let answer = c.answer;
-    let number = answer::number(answer);
+    let number = answer::word(answer);
     if number != 0 {
         return number;
     }
     if !given {
-        return answer::number(Answer::BadSetting);
+        return answer::word(Answer::BadSetting);
     }
     let a = c.account;
     write_account(a, bytes);

@@ -20,18 +20,18 @@ pub extern "C" fn tc_open(
     ensures { λ r. ⌜ openTold r (now (account .exit)) (now (equities .exit)) ≡ openIn cash (now (settings .entry)) (now (account .entry)) (now (equities .entry)) ⌝ }
 {
     if account.len() != ACCOUNT_BYTES {
-        return answer::number(Answer::Unsound);
+        return answer::word(Answer::Unsound);
     }
     let r = read_settings(settings);
     let s = r.settings;
     if !sound_scalars(cash, s) {
-        return answer::number(Answer::BadSetting);
+        return answer::word(Answer::BadSetting);
     }
     if equities.len() == 0 {
-        return answer::number(Answer::BufferFull);
+        return answer::word(Answer::BufferFull);
     }
     equities[0] = cash;
     let a = Account::opened(cash, s);
     write_account(a, account);
-    answer::number(Answer::Done)
+    answer::word(Answer::Done)
 }

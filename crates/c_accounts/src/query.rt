@@ -42,7 +42,7 @@ fn tell(number: u64, words: &[u64], out: &mut [u8]) -> u64
         return number;
     }
     if out.len() != 8 * words.len() {
-        return answer::number(Answer::TooLong);
+        return answer::word(Answer::TooLong);
     }
     if number != 0 {
         return number;
@@ -95,7 +95,7 @@ pub extern "C" fn tc_settings(account: &[u8], out: &mut [u8]) -> u64
         return number;
     }
     if out.len() != SETTINGS_BYTES {
-        return answer::number(Answer::TooLong);
+        return answer::word(Answer::TooLong);
     }
     write_settings(a.settings, out);
     number
@@ -131,7 +131,7 @@ pub extern "C" fn tc_position(account: &[u8], symbol: u64, out: &mut [u8]) -> u6
     let a = account_in(account);
     let h = a.position(Symbol(symbol));
     let answer = h.answer;
-    let number = answer::number(answer);
+    let number = answer::word(answer);
     let words = held_words(h);
     tell(number, &words[..], out)
 }
@@ -144,7 +144,7 @@ pub extern "C" fn tc_position_at(account: &[u8], index: u64, out: &mut [u8]) -> 
     let a = account_in(account);
     let h = a.position_at(index as usize);
     let answer = h.answer;
-    let number = answer::number(answer);
+    let number = answer::word(answer);
     let words = held_words(h);
     tell(number, &words[..], out)
 }

@@ -11,7 +11,7 @@ use lib.Signed.{leZ}
 use borrow.Author.Tests.{eq-eqb, ne-eqb, leb-true}
 use Rattle.answer.specs.declared.Answer.the-variants.{Done, BadSetting, BadPrice, NoRecordRoom, Unsound}
 use Rattle.answer.specs.Places.{alone}
-use Rattle.answer.specs.Numbers.{numberOf}
+use Rattle.answer.specs.Places.{wordOf}
 use Rattle.position.specs.declared.position.Position.{Position}
 use Rattle.call_lists.specs.Checks.{unless}
 use Rattle.table.specs.declared.found.Found.{Found}
@@ -88,14 +88,14 @@ module _ (f : Filled) (ws : List ℕ) (is : List ℤ) where
       keeps-one f (buffers ws is 0) h ∙ stored-fronts (recordsOf f) ws is (omega arith) (omega arith)
 
 -- ---- the answer
-room-by : (s g p r : Bool) → numberOf (unless s Unsound (unless g BadSetting (unless p (BadPrice alone) (unless r NoRecordRoom Done)))) ≡ 0 → r ≡ true
+room-by : (s g p r : Bool) → wordOf (unless s Unsound (unless g BadSetting (unless p (BadPrice alone) (unless r NoRecordRoom Done)))) ≡ 0 → r ≡ true
 room-by true true true true h = refl
 room-by true true true false h = absurd (omega (arith, h))
 room-by true true false r h = absurd (omega (arith, h))
 room-by true false p r h = absurd (omega (arith, h))
 room-by false g p r h = absurd (omega (arith, h))
 
-pub done-has-room : (a : Ask) (cash : ℤ) (p : Position) (ws is : ℕ) → numberOf (refusalOf a cash p ws is) ≡ 0 → (4 ≤ ws) × (8 ≤ is)
+pub done-has-room : (a : Ask) (cash : ℤ) (p : Position) (ws is : ℕ) → wordOf (refusalOf a cash p ws is) ≡ 0 → (4 ≤ ws) × (8 ≤ is)
 unfolding refusalOf
 done-has-room a cash p ws is h =
     let r = both-true (leb 4 ws) (leb 8 is) (room-by (soundAlone cash p) (goodAsk a) (leZ (pos 1) (a .price)) (roomForOne ws is) h) in
@@ -112,8 +112,8 @@ module _ (a : Ask) (l : Slots) where
     short-tallies h = simp (eq-eqb (length (l .money)) 6 hm, ne-eqb (length (l .tallies)) 2 h)
 
     module _ (ht : length (l .tallies) ≡ 2) (n : ℕ)
-        (hn : n ≡ numberOf (refusalOf a (bookOf (l .money) (l .tallies) .cash) (positionIn (a .symbol) (l .money)) (length (l .words)) (length (l .ints)))) where
-      answer-is : n ≡ numberOf (answerTo a l)
+        (hn : n ≡ wordOf (refusalOf a (bookOf (l .money) (l .tallies) .cash) (positionIn (a .symbol) (l .money)) (length (l .words)) (length (l .ints)))) where
+      answer-is : n ≡ wordOf (answerTo a l)
       unfolding answerTo
       answer-is = hn ∙ simp (eq-eqb (length (l .money)) 6 hm, eq-eqb (length (l .tallies)) 2 ht)
 
@@ -121,11 +121,11 @@ module _ (a : Ask) (l : Slots) where
       unfolding fillOne
       refused-as-found h =
           ap (λ x. fillTold x l) answer-is
-          ∙ sym (ap (λ x. pick x (doneIn (a .symbol) (fill (askedTerms a) (askedOrder a) (stateIn a l)) l) (fillTold (numberOf (answerTo a l)) l)) (ap (λ x. eqb x 0) (sym answer-is) ∙ ne-eqb n 0 h))
+          ∙ sym (ap (λ x. pick x (doneIn (a .symbol) (fill (askedTerms a) (askedOrder a) (stateIn a l)) l) (fillTold (wordOf (answerTo a l)) l)) (ap (λ x. eqb x 0) (sym answer-is) ∙ ne-eqb n 0 h))
 
       pub done-as-filled : n ≡ 0 → doneIn (a .symbol) (fill (askedTerms a) (askedOrder a) (stateIn a l)) l ≡ fillOne a l
       unfolding fillOne
-      done-as-filled h = let z : numberOf (answerTo a l) ≡ 0 = sym answer-is ∙ h in simp z
+      done-as-filled h = let z : wordOf (answerTo a l) ≡ 0 = sym answer-is ∙ h in simp z
 
 -- ---- what is put into the places
 abbrev pub placed : Sight → Slots → Slots

@@ -275,7 +275,7 @@ fn fill_asked(
     let b = book_of(money, tallies);
     let p = position_in(a.symbol, money);
     let answer = refusal(a, b.cash, p, words.len(), ints.len());
-    let number = answer::number(answer);
+    let number = answer::word(answer);
     if number != 0 {
         return number;
     }

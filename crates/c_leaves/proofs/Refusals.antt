@@ -12,7 +12,7 @@ use lib.ListN.{length}
 use borrow.Author.Tests.{eqb-true, ne-eqb}
 use Rattle.answer.specs.declared.Answer.the-variants.{Done, BadPrice, Unsound}
 use Rattle.answer.specs.Places.{alone}
-use Rattle.answer.specs.Numbers.{numberOf}
+use Rattle.answer.specs.Places.{wordOf}
 use Rattle.position.specs.declared.position.Position.{Position}
 use Rattle.position.specs.declared.position.Filled.{Filled}
 use Rattle.position.specs.Rows.{numbersOf}
@@ -41,12 +41,12 @@ module _ (s : ℕ) (ns : List ℤ) (q price : ℤ) where
       (record { answer = BadPrice alone; position = found })
       (record { answer = Done; position = applied found q price }))
 
-  kept : (unsound below : Bool) → (numberOf (filledBy unsound below .answer) ≡ 0 → ⊥) → filledBy unsound below .position ≡ found
+  kept : (unsound below : Bool) → (wordOf (filledBy unsound below .answer) ≡ 0 → ⊥) → filledBy unsound below .position ≡ found
   kept true below h = refl
   kept false true h = refl
   kept false false h = absurd (h refl)
 
-  left : (four : Bool) → eqb (length ns) 4 ≡ four → (cond four (numberOf (applyFill found q price .answer)) 11 ≡ 0 → ⊥)
+  left : (four : Bool) → eqb (length ns) 4 ≡ four → (cond four (wordOf (applyFill found q price .answer)) 11 ≡ 0 → ⊥)
       → cond four (numbersOf (applyFill found q price .position)) ns ≡ ns
   unfolding applyFill
   left true e h = ap numbersOf (kept (not (sound found)) (ltZ price (pos 0)) h) ∙ numbers-back s ns (eqb-true _ _ e)

@@ -8,6 +8,7 @@ use lib.Ieee.{Float}
 use lib.ListN.{length, getD}
 use Rattle.answer.specs.declared.Answer.the-variants.{TooLong, Unsound}
 use Rattle.answer.specs.Numbers.{numberOf}
+use Rattle.answer.specs.Places.{wordOf}
 use Rattle.position.specs.declared.position.Position.{Position}
 use Rattle.position.specs.Rows.{row, numbersOf}
 use Rattle.position.specs.Fills.{applyFill}
@@ -20,7 +21,7 @@ positionFrom s ns = row s (getD ns 0 (pos 0)) (getD ns 1 (pos 0)) (getD ns 2 (po
 
 -- "Account bytes of the wrong length answer 11": so do a position's numbers of another count than four.
 unfoldable pub answerToFill : ℕ → List ℤ → ℤ → ℤ → ℕ
-answerToFill s ns q price = cond (eqb (length ns) 4) (numberOf (applyFill (positionFrom s ns) q price .answer)) (numberOf Unsound)
+answerToFill s ns q price = cond (eqb (length ns) 4) (wordOf (applyFill (positionFrom s ns) q price .answer)) (wordOf Unsound)
 
 unfoldable pub afterFill : ℕ → List ℤ → ℤ → ℤ → List ℤ
 afterFill s ns q price = cond (eqb (length ns) 4) (numbersOf (applyFill (positionFrom s ns) q price .position)) ns

@@ -96,12 +96,12 @@ pub extern "C" fn tc_apply_fill(symbol: u64, numbers: &mut [i64], quantity: i64,
     ensures { λ r. ⌜ (r ≡ answerToFill symbol (now (numbers .entry)) quantity price) × (now (numbers .exit) ≡ afterFill symbol (now (numbers .entry)) quantity price) ⌝ }
 {
     if numbers.len() != 4 {
-        return answer::number(answer::Answer::Unsound);
+        return answer::word(answer::Answer::Unsound);
     }
     let position = position_of(symbol, numbers[0], numbers[1], numbers[2], numbers[3]);
     let filled = position.apply_fill(Shares::from_raw(quantity), price);
     let after = filled.position;
     put(numbers, after);
     let given = filled.answer;
-    answer::number(given)
+    answer::word(given)
 }

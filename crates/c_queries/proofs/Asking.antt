@@ -10,7 +10,7 @@ use lib.Seq.{length-take-le}
 use borrow.Author.Tests.{not-true, not-false}
 use Rattle.answer.specs.declared.Answer.{Answer}
 use Rattle.answer.specs.declared.Answer.the-variants.{Done, TooLong, Unsound}
-use Rattle.answer.specs.Numbers.{numberOf}
+use Rattle.answer.specs.Places.{wordOf}
 use Rattle.table.specs.Keyed.{pick, both}
 use Rattle.table.proofs.Keyed.{both-true}
 use Rattle.call_lists.specs.Checks.{unless}
@@ -101,11 +101,11 @@ pub record Query (X Y : Type 0) : Type 0 where
   pub gives : Account → List ℕ → List ℤ → X
   pub tells : X → Y
   pub leaves : ℕ → Y
-  pub unsound : (a : Account) (ss : List ℕ) (vs : List ℤ) → soundAccount a ≡ false → tells (gives a ss vs) ≡ leaves (numberOf Unsound)
+  pub unsound : (a : Account) (ss : List ℕ) (vs : List ℤ) → soundAccount a ≡ false → tells (gives a ss vs) ≡ leaves (wordOf Unsound)
 
 module _ {X Y : Type 0} (q : Query X Y) (r : Read) {t : Bool} (d : t ≡ isDone (r .answer)) where
   abbrev refuse : Answer → Y
-  refuse w = q .leaves (numberOf w)
+  refuse w = q .leaves (wordOf w)
 
   abbrev call : Y
   call = q .tells (q .gives (accountIn (r .bytes)) (symbolsIn (r .list)) (pricesIn (r .list)))
@@ -117,7 +117,7 @@ module _ {X Y : Type 0} (q : Query X Y) (r : Read) {t : Bool} (d : t ≡ isDone 
       ∙ ap (λ (k : Answer). pick (isDone k) call (refuse k)) (answer-by r)
       ∙ rw (sound-in (r .bytes)) (by-tests refuse call (soundAccount (accountIn (r .bytes))) (tests r) (q .unsound (accountIn (r .bytes)) (symbolsIn (r .list)) (pricesIn (r .list))))
 
-  pub refused-query : not t ≡ true → {n : ℕ} → n ≡ numberOf (r .answer) → q .leaves n ≡ askedAtPrices refuse (r .bytes) (r .list) (r .fits) call
+  pub refused-query : not t ≡ true → {n : ℕ} → n ≡ wordOf (r .answer) → q .leaves n ≡ askedAtPrices refuse (r .bytes) (r .list) (r .fits) call
   refused-query n e = ap (q .leaves) e ∙ sym (ap (λ (k : Bool). pick k call (refuse (r .answer))) (not-true t n)) ∙ all-tests
 
   pub made-query : not t ≡ false → {x : X} → x ≡ q .gives (r .account) (take (r .prices .count) (r .prices .symbol)) (take (r .prices .count) (r .prices .price)) → q .tells x ≡ askedAtPrices refuse (r .bytes) (r .list) (r .fits) call

@@ -2,7 +2,7 @@
 use Prim.Native.Nat.{ℕ}
 use mathlib.Core.List.{List}
 use Rattle.answer.specs.declared.Answer.{Answer}
-use Rattle.answer.specs.Numbers.{numberOf}
+use Rattle.answer.specs.Places.{wordOf}
 
 pub record QueryTold : Type 0 where
   pub answer : ℕ
@@ -13,7 +13,7 @@ tellQuery n out = record { answer = n; out = out }
 
 -- a refusal leaves "every lent place as found"
 abbrev pub refusing : List ℕ → Answer → QueryTold
-refusing out answer = tellQuery (numberOf answer) out
+refusing out answer = tellQuery (wordOf answer) out
 
 -- ---- the same where two runs are lent
 pub record ToldBoth : Type 0 where
@@ -25,4 +25,4 @@ abbrev pub tellBoth : ℕ → List ℕ → List ℕ → ToldBoth
 tellBoth n figures weights = record { answer = n; figures = figures; weights = weights }
 
 abbrev pub refusingBoth : List ℕ → List ℕ → Answer → ToldBoth
-refusingBoth figures weights answer = tellBoth (numberOf answer) figures weights
+refusingBoth figures weights answer = tellBoth (wordOf answer) figures weights

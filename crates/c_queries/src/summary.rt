@@ -47,7 +47,7 @@ fn put_snapshot(s: Snapshot, figures: &mut [u8], weights: &mut [u8]) -> u64
 {
     let answer = s.answer;
     if !is_done(answer) {
-        return answer::number(answer);
+        return answer::word(answer);
     }
     write_figures(
         s.cash,
@@ -80,7 +80,7 @@ pub extern "C" fn tc_snapshot(
     let fits = is_room(figures.len(), weights.len());
     let answer = early(a, p.whole, fits);
     if !is_done(answer) {
-        return answer::number(answer);
+        return answer::word(answer);
     }
     let s = snapshot_at_prices(p, a);
     put_snapshot(s, figures, weights)

@@ -33,7 +33,7 @@ fn put_unpriced(u: Unpriced, out: &mut [u8]) -> u64
 {
     let answer = u.answer;
     if !is_done(answer) {
-        return answer::number(answer);
+        return answer::word(answer);
     }
     put_word(out, 0, flag_word(u.present));
     put_symbol(out, 1, u.symbol);
@@ -50,7 +50,7 @@ pub extern "C" fn tc_unpriced_holding(account: &[u8], prices: &[u8], out: &mut [
     let fits = out.len() == 16;
     let answer = early(a, p.whole, fits);
     if !is_done(answer) {
-        return answer::number(answer);
+        return answer::word(answer);
     }
     let u = unpriced_at_prices(p, a);
     put_unpriced(u, out)

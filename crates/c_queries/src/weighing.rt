@@ -31,7 +31,7 @@ fn put_weights(w: Weights, out: &mut [u8]) -> u64
 {
     let answer = w.answer;
     if !is_done(answer) {
-        return answer::number(answer);
+        return answer::word(answer);
     }
     let n = w.count;
     let symbol = w.symbol;
@@ -50,7 +50,7 @@ pub extern "C" fn tc_current_weights(account: &[u8], prices: &[u8], out: &mut [u
     let fits = out.len() == 1024;
     let answer = early(a, p.whole, fits);
     if !is_done(answer) {
-        return answer::number(answer);
+        return answer::word(answer);
     }
     let w = weights_at_prices(p, a);
     put_weights(w, out)

@@ -32,7 +32,7 @@ fn put_equity(c: Cents, out: &mut [u8]) -> u64
 {
     let answer = c.answer;
     if !is_done(answer) {
-        return answer::number(answer);
+        return answer::word(answer);
     }
     put_word(out, 0, unsigned(c.cents));
     0
@@ -48,7 +48,7 @@ pub extern "C" fn tc_total_equity(account: &[u8], prices: &[u8], out: &mut [u8])
     let fits = out.len() == 8;
     let answer = early(a, p.whole, fits);
     if !is_done(answer) {
-        return answer::number(answer);
+        return answer::word(answer);
     }
     let c = equity_at_prices(p, a);
     put_equity(c, out)

@@ -3,7 +3,8 @@
 use Prim.Native.Nat.{ℕ}
 use mathlib.Core.List.{List, [], _∷_}
 use Rattle.answer.specs.declared.Answer.{Answer}
-use Rattle.answer.specs.Numbers.{numberOf, isDone}
+use Rattle.answer.specs.Numbers.{isDone}
+use Rattle.answer.specs.Places.{wordOf}
 use Rattle.table.specs.Keyed.{pick}
 use Rattle.word_bytes.specs.Numbers.{unsignedOf}
 use Rattle.account.specs.declared.change.Changed.{Changed}
@@ -22,7 +23,7 @@ leave n l = record { answer = n; after = l }
 
 -- a refusal leaves "every lent place as found"
 abbrev pub refusing : List ℕ → Answer → Left
-refusing l answer = leave (numberOf answer) l
+refusing l answer = leave (wordOf answer) l
 
 unfoldable pub left : Changed → List ℕ → Left
 left c l = pick (isDone (c .answer)) (leave 0 (writtenAccount (c .account) l)) (refusing l (c .answer))
@@ -37,7 +38,7 @@ abbrev pub leaveBoth : ℕ → List ℕ → List ℕ → LeftBoth
 leaveBoth n fs ws = record { answer = n; figures = fs; weights = ws }
 
 abbrev pub refusingBoth : List ℕ → List ℕ → Answer → LeftBoth
-refusingBoth fs ws answer = leaveBoth (numberOf answer) fs ws
+refusingBoth fs ws answer = leaveBoth (wordOf answer) fs ws
 
 -- cash, equity, open positions and realized profit
 abbrev pub snapshotFigures : Snapshot → List ℕ

@@ -1,7 +1,7 @@
 // What is told of calls that were made over and over.
 ghost use mathlib.Core.Path.{_≡_};
 ghost use Rattle.answer.specs.declared.Answer.the-variants.{TooLong};
-ghost use Rattle.answer.specs.Numbers.{numberOf};
+ghost use Rattle.answer.specs.Places.{wordOf};
 ghost use Rattle.account.specs.Inner.Answers.{unlessUnsound};
 ghost use Rattle.c_timed.specs.Made.{leave, left};
 use account::Account;
@@ -11,7 +11,7 @@ use answer::is_done;
 
 // 6 for a list that is not whole or a place of another length, unless the account is not sound.
 pub(crate) fn too_long(a: Account) -> u64
-    ensures { λ r. ⌜ r ≡ numberOf (unlessUnsound a TooLong) ⌝ }
+    ensures { λ r. ⌜ r ≡ wordOf (unlessUnsound a TooLong) ⌝ }
 {
     if a.is_sound() { 6 } else { 11 }
 }
@@ -22,7 +22,7 @@ pub(crate) fn leave(c: Changed, after: &mut [u8]) -> u64
 {
     let answer = c.answer;
     if !is_done(answer) {
-        return answer::number(answer);
+        return answer::word(answer);
     }
     let a = c.account;
     write_account(a, after);

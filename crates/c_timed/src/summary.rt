@@ -32,7 +32,7 @@ fn leave_both(s: Snapshot, figures: &mut [u8], weights: &mut [u8]) -> u64
 {
     let answer = s.answer;
     if !is_done(answer) {
-        return answer::number(answer);
+        return answer::word(answer);
     }
     write_figures(
         s.cash,

@@ -9,7 +9,7 @@ use lib.ListN.{length}
 use borrow.Author.Tests.{not-true, not-false}
 use Rattle.answer.specs.declared.Answer.{Answer}
 use Rattle.answer.specs.declared.Answer.the-variants.{Unsound}
-use Rattle.answer.specs.Numbers.{numberOf}
+use Rattle.answer.specs.Places.{wordOf}
 use Rattle.table.specs.Keyed.{pick}
 use Rattle.table.specs.Rows.{Cols}
 use Rattle.word_bytes.specs.Words.{wordsOf}
@@ -64,7 +64,7 @@ pub record CallOnBytes (X Y : Type 0) (b : List ℕ) : Type 0 where
   pub refuses : Answer → X
   pub tells : X → Y
   pub leaves : ℕ → Y
-  pub refused : (w : Answer) → isDone w ≡ false → tells (refuses w) ≡ leaves (numberOf w)
+  pub refused : (w : Answer) → isDone w ≡ false → tells (refuses w) ≡ leaves (wordOf w)
   pub unsound : soundAccount (accountIn b) ≡ false → gives (accountIn b) ≡ refuses Unsound
 
 module _ {X Y : Type 0} {b : List ℕ} (k : CallOnBytes X Y b) (kind : ℕ) (whole : Bool) where
@@ -74,15 +74,15 @@ module _ {X Y : Type 0} {b : List ℕ} (k : CallOnBytes X Y b) (kind : ℕ) (who
   by-answer : (w : Answer) → w ≡ early (readAccount b) kind whole → call-in ≡ pick (isDone w) (k .gives (accountIn b)) (k .refuses w)
   by-answer w e = asked-early (k .refuses) (k .gives (accountIn b)) b kind whole (k .unsound) ∙ ap (λ x. pick (isDone x) (k .gives (accountIn b)) (k .refuses x)) (sym e)
 
-  refused-in : (w : Answer) → w ≡ early (readAccount b) kind whole → isDone w ≡ false → k .leaves (numberOf w) ≡ k .tells call-in
+  refused-in : (w : Answer) → w ≡ early (readAccount b) kind whole → isDone w ≡ false → k .leaves (wordOf w) ≡ k .tells call-in
   refused-in w e d = sym (ap (k .tells) (by-answer w e ∙ ap (λ t. pick t (k .gives (accountIn b)) (k .refuses w)) d) ∙ k .refused w d)
 
   -- of bytes that hold no account
-  pub no-account : {g : Bool} → g ≡ readAccount b .good → not g ≡ true → {n : ℕ} → n ≡ numberOf Unsound → k .leaves n ≡ k .tells call-in
+  pub no-account : {g : Bool} → g ≡ readAccount b .good → not g ≡ true → {n : ℕ} → n ≡ wordOf Unsound → k .leaves n ≡ k .tells call-in
   no-account {g} e t h = ap (k .leaves) h ∙ refused-in Unsound (sym (early-bad b kind whole (sym e ∙ not-true g t))) refl
 
 module _ {X Y : Type 0} (r : ReadyCall) (k : CallOnBytes X Y (r .bytes)) {t : Bool} (d : t ≡ isDone (r .answer)) where
-  pub refused-call : not t ≡ true → {n : ℕ} → n ≡ numberOf (r .answer) → k .leaves n ≡ k .tells (call-in k (r .kind) (r .whole))
+  pub refused-call : not t ≡ true → {n : ℕ} → n ≡ wordOf (r .answer) → k .leaves n ≡ k .tells (call-in k (r .kind) (r .whole))
   refused-call n e = ap (k .leaves) e ∙ refused-in k (r .kind) (r .whole) (r .answer) (r .answer-is) (sym d ∙ not-true t n)
 
   pub made-in : not t ≡ false → k .tells (k .gives (accountIn (r .bytes))) ≡ k .tells (call-in k (r .kind) (r .whole))
@@ -93,11 +93,11 @@ module _ {X Y : Type 0} (r : ReadyCall) (k : CallOnBytes X Y (r .bytes)) {t : Bo
   made-call n = ap (λ (a : Account). k .tells (k .gives a)) (r .holds .same) ∙ made-in n
 
 -- ---- the calls
-pub told-refused : (b rs : List ℕ) (w : Answer) → isDone w ≡ false → tradeTold (refusedIn b w) b rs ≡ tellTrade (numberOf w) b rs
+pub told-refused : (b rs : List ℕ) (w : Answer) → isDone w ≡ false → tradeTold (refusedIn b w) b rs ≡ tellTrade (wordOf w) b rs
 unfolding tradeTold
 told-refused b rs w e = simp e
 
-pub noted-refused : (b : List ℕ) (es : List ℤ) (rs : List Float) (w : Answer) → isDone w ≡ false → returnTold (unrecorded b es rs w) b ≡ tellReturn (numberOf w) b es rs
+pub noted-refused : (b : List ℕ) (es : List ℤ) (rs : List Float) (w : Answer) → isDone w ≡ false → returnTold (unrecorded b es rs w) b ≡ tellReturn (wordOf w) b es rs
 unfolding returnTold
 noted-refused b es rs w e = simp e
 

@@ -5,7 +5,7 @@ use mathlib.Core.Bool.{true}
 use mathlib.Core.List.{List}
 use lib.IntN.{ℤ}
 use lib.Ieee.{Float}
-use Rattle.answer.specs.Numbers.{numberOf}
+use Rattle.answer.specs.Places.{wordOf}
 use Rattle.table.specs.Keyed.{pick}
 use Rattle.table.specs.Rows.{Cols}
 use Rattle.word_bytes.specs.Words.{wordsOf}
@@ -26,8 +26,8 @@ read-holds b {h} {d} e g p q = record { good = g; same = parts-read b h d e g p 
 
 -- the series alone is written, and the bytes are those of the account with it
 pub series-kept : (b : List ℕ) (h : Ledger) (c : Cols) → HoldsAccount b h c → (r : portfolio.Noted) (es : List ℤ) (rs : List Float)
-    → tellReturn (numberOf (r .answer)) (pick (isDone (r .answer)) (writtenSeries (r .series) b) b) es rs ≡ returnTold (notedBy r (accountWith h c) es rs) b
+    → tellReturn (wordOf (r .answer)) (pick (isDone (r .answer)) (writtenSeries (r .series) b) b) es rs ≡ returnTold (notedBy r (accountWith h c) es rs) b
 unfolding returnTold writtenSeries
 series-kept b h c k r es rs =
     let e : accountOf (wordsOf b) ≡ accountWith h c = sym (account-is b (k .good)) ∙ sym (k .same) in
-    simp (k .good) (ap (λ (a : Account). tellReturn (numberOf (r .answer)) (pick (isDone (r .answer)) (writtenAccount (withSeries (r .series) a) b) b) es rs) e)
+    simp (k .good) (ap (λ (a : Account). tellReturn (wordOf (r .answer)) (pick (isDone (r .answer)) (writtenAccount (withSeries (r .series) a) b) b) es rs) e)

@@ -5,7 +5,7 @@ use mathlib.Core.Bool.{true, false}
 use mathlib.Core.List.{List, _++_}
 use lib.ListN.{length, drop}
 use borrow.Author.Tests.{eq-eqb}
-use Rattle.answer.specs.Numbers.{numberOf}
+use Rattle.answer.specs.Places.{wordOf}
 use Rattle.table.proofs.Keyed.{both-true}
 use Rattle.word_bytes.specs.Words.{bytesOf}
 use Rattle.account.specs.declared.account.Account.{Account}
@@ -21,7 +21,7 @@ use Rattle.c_trades.specs.Told.{tellTrade, tradeTold}
 
 -- ---- a call that trades
 module _ (o : Outcome) (b rs : List ℕ) where
-  pub refused-as-found : isDone (o .answer) ≡ false → tradeTold o b rs ≡ tellTrade (numberOf (o .answer)) b rs
+  pub refused-as-found : isDone (o .answer) ≡ false → tradeTold o b rs ≡ tellTrade (wordOf (o .answer)) b rs
   unfolding tradeTold
   refused-as-found e = simp e
 

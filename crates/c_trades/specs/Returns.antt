@@ -4,7 +4,7 @@ use mathlib.Core.List.{List}
 use lib.IntN.{ℤ}
 use lib.Ieee.{Float}
 use Rattle.answer.specs.declared.Answer.{Answer}
-use Rattle.answer.specs.Numbers.{numberOf}
+use Rattle.answer.specs.Places.{wordOf}
 use Rattle.table.specs.Keyed.{pick}
 use Rattle.account_bytes.specs.Account.{writtenAccount}
 use Rattle.list_bytes.specs.Entries.{wholeList}
@@ -24,7 +24,7 @@ tellReturn n b es rs = record { answer = n; account = b; equities = es; returns 
 
 -- the account's bytes after a call that was done; a refusal leaves "every lent place as found", as the series are already
 unfoldable pub returnTold : Recorded → List ℕ → ReturnTold
-returnTold o b = tellReturn (numberOf (o .answer)) (pick (isDone (o .answer)) (writtenAccount (o .account) b) b) (o .equities) (o .returns)
+returnTold o b = tellReturn (wordOf (o .answer)) (pick (isDone (o .answer)) (writtenAccount (o .account) b) b) (o .equities) (o .returns)
 
 abbrev pub unrecorded : List ℕ → List ℤ → List Float → Answer → Recorded
 unrecorded b es rs answer = record { answer = answer; account = accountIn b; equities = es; returns = rs }

@@ -2,7 +2,7 @@
 use Prim.Native.Nat.{ℕ, _*_}
 use mathlib.Core.List.{List, _++_}
 use lib.ListN.{length, drop}
-use Rattle.answer.specs.Numbers.{numberOf}
+use Rattle.answer.specs.Places.{wordOf}
 use Rattle.table.specs.Keyed.{pick}
 use Rattle.account_bytes.specs.Account.{writtenAccount}
 use Rattle.list_bytes.specs.Records.{allBytes}
@@ -22,4 +22,4 @@ unfoldable pub tradeTold : Outcome → List ℕ → List ℕ → TradeTold
 tradeTold o b rs =
     pick (isDone (o .answer))
     (tellTrade (256 * length (o .records)) (writtenAccount (o .account) b) (allBytes (o .records) ++ drop (96 * length (o .records)) rs))
-    (tellTrade (numberOf (o .answer)) b rs)
+    (tellTrade (wordOf (o .answer)) b rs)

@@ -128,7 +128,7 @@ pub extern "C" fn tc_close_position_at(
         ≡ tradeTold (closeIn (now (account .entry)) symbol price period kind (now (records .entry))) (now (account .entry)) (now (records .entry)) ⌝ }
 {
     if !is_account(account) {
-        return answer::number(Answer::Unsound);
+        return answer::word(Answer::Unsound);
     }
     let mut column = [0u64; 64];
     let mut quantity = [0i64; 64];
@@ -156,7 +156,7 @@ pub extern "C" fn tc_close_position_at(
         whole,
     );
     if !is_done(answer) {
-        return answer::number(answer);
+        return answer::word(answer);
     }
     close_in_room(
         h,

@@ -38,7 +38,7 @@ pub(crate) fn finish<'a>(
 {
     let answer = t.answer;
     if !is_done(answer) {
-        return answer::number(answer);
+        return answer::word(answer);
     }
     let n = t.records;
     let h = t.ledger;

@@ -148,7 +148,7 @@ pub extern "C" fn tc_rebalance_simple(
         ≡ tradeTold (rebalanceIn (now (account .entry)) (now (targets .entry)) (now (prices .entry)) period kind (now (records .entry))) (now (account .entry)) (now (records .entry)) ⌝ }
 {
     if !is_account(account) {
-        return answer::number(Answer::Unsound);
+        return answer::word(Answer::Unsound);
     }
     let mut symbol = [0u64; 64];
     let mut quantity = [0i64; 64];
@@ -177,7 +177,7 @@ pub extern "C" fn tc_rebalance_simple(
         whole,
     );
     if !is_done(answer) {
-        return answer::number(answer);
+        return answer::word(answer);
     }
     rebalance_in_room(
         h,

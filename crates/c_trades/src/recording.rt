@@ -1,7 +1,7 @@
 // The return of a period, recorded in the account and in two series that the caller lends as numbers.
 ghost use mathlib.Core.Path.{_≡_};
 ghost use mathlib.Core.Bool.{true};
-ghost use Rattle.answer.specs.Numbers.{numberOf};
+ghost use Rattle.answer.specs.Places.{wordOf};
 ghost use Rattle.table.specs.Keyed.{pick};
 ghost use Rattle.table.specs.Rows.{cols};
 ghost use Rattle.account_bytes.specs.Account.{writtenSeries};
@@ -27,15 +27,15 @@ use portfolio::return_on;
 
 // The series is written after a call that was done; after another the account's bytes stay.
 fn keep(c: Noted, account: &mut [u8]) -> u64
-    ensures { λ r. ⌜ (r ≡ numberOf (c .answer)) × (now (account .exit) ≡ pick (isDone (c .answer)) (writtenSeries (c .series) (now (account .entry))) (now (account .entry))) ⌝ }
+    ensures { λ r. ⌜ (r ≡ wordOf (c .answer)) × (now (account .exit) ≡ pick (isDone (c .answer)) (writtenSeries (c .series) (now (account .entry))) (now (account .entry))) ⌝ }
 {
     let answer = c.answer;
     if !is_done(answer) {
-        return answer::number(answer);
+        return answer::word(answer);
     }
     let s = c.series;
     write_series(s, account);
-    answer::number(answer)
+    answer::word(answer)
 }
 
 // A return on the account that the bytes hold, by a whole price list, and what it leaves filed in these bytes.
@@ -85,7 +85,7 @@ pub extern "C" fn tc_record_return(
         ≡ returnTold (returnIn (now (account .entry)) (now (prices .entry)) (now (equities .entry)) (now (returns .entry))) (now (account .entry)) ⌝ }
 {
     if !is_account(account) {
-        return answer::number(Answer::Unsound);
+        return answer::word(Answer::Unsound);
     }
     let mut symbol = [0u64; 64];
     let mut quantity = [0i64; 64];
@@ -113,7 +113,7 @@ pub extern "C" fn tc_record_return(
         listed,
     );
     if !is_done(answer) {
-        return answer::number(answer);
+        return answer::word(answer);
     }
     file_return(
         h,

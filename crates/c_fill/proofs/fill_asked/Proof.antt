@@ -6,7 +6,7 @@ use mir.Val.{SFits}
 use mir.Facts.{toZ-ofZ}
 use borrow.Author.Needs.{needs}
 use lib.ListN.{length}
-use Rattle.answer.specs.Numbers.{numberOf}
+use Rattle.answer.specs.Places.{wordOf}
 use Rattle.fills.specs.Inner.Runs.{recordsOf}
 use Rattle.c_fill.specs.declared.Ask.{Ask}
 use Rattle.c_fill.specs.Single.{Slots, slots, positionIn, refusalOf, fillTold, counting}
@@ -25,7 +25,7 @@ given s = let x = s .args in slots (x .money .now) (x .tallies .now) (x .words .
 abbrev began : tie.Else2 → tie.Start
 began c = c .before .before .before .before
 
-abbrev lengths : tie.After-number → tie.Else2
+abbrev lengths : tie.After-word → tie.Else2
 lengths c = c .before .before .before .before .before .before .before .before
 
 book-is : (c : tie.After-book-of) → let s = began (c .before .before .before) in c .book-of .result ≡ bookOf (s .args .money .now) (s .args .tallies .now)
@@ -37,18 +37,18 @@ position-is c = c .position-in .ensures
 cash-fits : (c : tie.After-struct-told) → SFits w64 (c .before .before .before .book-of .result .cash)
 cash-fits c = search needs
 
-number-is : (c : tie.After-number) → let s = began (lengths c) in let l = given s in
-    c .number .result ≡ numberOf (refusalOf (ask s) (bookOf (l .money) (l .tallies) .cash) (positionIn (ask s .symbol) (l .money)) (length (l .words)) (length (l .ints)))
+number-is : (c : tie.After-word) → let s = began (lengths c) in let l = given s in
+    c .word .result ≡ wordOf (refusalOf (ask s) (bookOf (l .money) (l .tallies) .cash) (positionIn (ask s .symbol) (l .money)) (length (l .words)) (length (l .ints)))
 number-is c =
     let k = c .before in
     let t = k .before in
     let p = t .before in
     let b = p .before .before in
     let e = simp (toZ-ofZ (cash-fits t)) at (k .refusal .ensures) in
-    c .number .ensures ∙ ap numberOf (simp (book-is b, position-is p) at e)
+    c .word .ensures ∙ ap wordOf (simp (book-is b, position-is p) at e)
 
 -- ---- what is put back
-abbrev answered : tie.After-fill-alone → tie.After-number
+abbrev answered : tie.After-fill-alone → tie.After-word
 answered c = c .before .before
 
 abbrev passed : tie.After-fill-alone → tie.Else2
@@ -75,8 +75,8 @@ position-in-requires c κs = search needs
 refusal-requires : tie.Need-refusal-requires
 refusal-requires c κs = search needs
 
-number-requires : tie.Need-number-requires
-number-requires c κs = search needs
+word-requires : tie.Need-word-requires
+word-requires c κs = search needs
 
 same-length : tie.Need-same-length
 same-length c = search needs
@@ -89,7 +89,7 @@ returns-3 c =
     let k = c .before in
     let e = lengths k in
     let s = began e in
-    refused-as-found (ask s) (given s) (e .before .if1 .left) (e .if2 .left) (k .number .result) (number-is k) (c .if3 .taken)
+    refused-as-found (ask s) (given s) (e .before .if1 .left) (e .if2 .left) (k .word .result) (number-is k) (c .if3 .taken)
 
 fill-alone-requires : tie.Need-fill-alone-requires
 fill-alone-requires c κs = search needs
@@ -132,7 +132,7 @@ returns-4 c =
     ap (λ (n : ℕ). fillTold n (slots (m .put-money .last .0) (t .put-tallies .last .0) (k .keep .last .0) (k .keep .last .1 .0))) (c .counting .ensures)
     ∙ ap (fillTold (counting (recordsOf (q .fill-alone .result .filled)))) (same-slots (m .put-money .ensures) (t .put-tallies .ensures) (k .keep .ensures .0) (k .keep .ensures .1))
     ∙ ap (λ (v : Sight). toldOf v (given s)) (seen-is q)
-    ∙ done-as-filled (ask s) (given s) (e .before .if1 .left) (e .if2 .left) (answered q .number .result) (number-is (answered q)) (q .before .if3 .left)
+    ∙ done-as-filled (ask s) (given s) (e .before .if1 .left) (e .if2 .left) (answered q .word .result) (number-is (answered q)) (q .before .if3 .left)
 
 pub fill-asked-spec : {M : Type 1} → statement M
 fill-asked-spec =
@@ -143,7 +143,7 @@ fill-asked-spec =
     book-of-requires
     position-in-requires
     refusal-requires
-    number-requires
+    word-requires
     same-length
     same-length-2
     returns-3

@@ -2,7 +2,7 @@
 use Prim.Native.Nat.{ℕ, _*_}
 use mathlib.Core.List.{List}
 use lib.IntN.{ℤ}
-use Rattle.answer.specs.Numbers.{numberOf}
+use Rattle.answer.specs.Places.{wordOf}
 use Rattle.table.specs.Keyed.{pick}
 use Rattle.account_bytes.specs.Account.{writtenAccount}
 use Rattle.list_bytes.specs.Inner.Records.{writtenRecords}
@@ -14,4 +14,4 @@ unfoldable pub finished : Traded → List ℕ → List ℤ → List ℕ → List
 finished t ws is b rs =
     pick (isDone (t .answer))
     (tellTrade (256 * t .records) (writtenAccount (t .account) b) (writtenRecords ws is (t .records) rs))
-    (tellTrade (numberOf (t .answer)) b rs)
+    (tellTrade (wordOf (t .answer)) b rs)

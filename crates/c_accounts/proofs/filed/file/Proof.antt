@@ -8,24 +8,24 @@ use Rattle.c_accounts.proofs.Filing.{file-not-done, file-bad, file-done
 use Rattle.c_accounts.proofs.filed.file.Statement.{statement}
 use Rattle.c_accounts.proofs.filed.file.Tie as tie
 
-number-requires : tie.Need-number-requires
-number-requires c κs = search needs
+word-requires : tie.Need-word-requires
+word-requires c κs = search needs
 
 returns : tie.Need-returns
 returns c =
     let n = c .before in
     let s = n .before .before .args in
-    file-not-done (s .given) (n .number .result) (s .c) (s .bytes .now) (n .number .ensures) (c .if1 .taken)
+    file-not-done (s .given) (n .word .result) (s .c) (s .bytes .now) (n .word .ensures) (c .if1 .taken)
 
-number-requires-2 : tie.Need-number-requires-2
-number-requires-2 c κs = search needs
+word-requires-2 : tie.Need-word-requires-2
+word-requires-2 c κs = search needs
 
 returns-2 : tie.Need-returns-2
 returns-2 c =
     let z = c .before .before in
     let n = z .before in
     let s = n .before .before .args in
-    ap (λ (k : ℕ). accountTold k (s .bytes .now)) (c .number2 .ensures) ∙ file-bad (s .given) (n .number .result) (s .c) (s .bytes .now) (n .number .ensures) (z .if1 .left) (not-true _ (c .before .if2 .taken))
+    ap (λ (k : ℕ). accountTold k (s .bytes .now)) (c .word2 .ensures) ∙ file-bad (s .given) (n .word .result) (s .c) (s .bytes .now) (n .word .ensures) (z .if1 .left) (not-true _ (c .before .if2 .taken))
 
 write-account-requires : tie.Need-write-account-requires
 write-account-requires c κs = search needs
@@ -40,15 +40,15 @@ returns-3 c =
     let z = g .before in
     let n = z .before in
     let s = n .before .before .args in
-    file-done (s .given) (n .number .result) (s .c) (s .bytes .now) (n .number .ensures) (z .if1 .left) (not-false _ (g .if2 .left)) (w .write-account .last .1 .0) (w .write-account .ensures)
+    file-done (s .given) (n .word .result) (s .c) (s .bytes .now) (n .word .ensures) (z .if1 .left) (not-false _ (g .if2 .left)) (w .write-account .last .1 .0) (w .write-account .ensures)
 
 pub file-spec : {M : Type 1} → statement M
 file-spec =
     tie.close
     (tie.spec
-    number-requires
+    word-requires
     returns
-    number-requires-2
+    word-requires-2
     returns-2
     write-account-requires
     same-length

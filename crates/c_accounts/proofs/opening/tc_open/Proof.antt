@@ -27,14 +27,14 @@ account-is c =
     let u = c .before .before .before in
     simp (toZ-ofZ (began u .before .before .before .fits .cash), u .before .before .read-settings .ensures) at (c .opened .ensures)
 
-number-requires : tie.Need-number-requires
-number-requires c κs = search needs
+word-requires : tie.Need-word-requires
+word-requires c κs = search needs
 
 returns : tie.Need-returns
 returns c =
     let t = c .before in
     let s = t .before .before .before .args in
-    ap (λ (n : ℕ). openTold n (s .account .now) (s .equities .now)) (c .number .ensures)
+    ap (λ (n : ℕ). openTold n (s .account .now) (s .equities .now)) (c .word .ensures)
     ∙ open-short (s .cash) (s .settings .now) (s .account .now) (s .equities .now) (t .if1 .taken)
 
 read-settings-requires : tie.Need-read-settings-requires
@@ -43,8 +43,8 @@ read-settings-requires c κs = search needs
 sound-scalars-requires : tie.Need-sound-scalars-requires
 sound-scalars-requires c κs = search needs
 
-number-requires-2 : tie.Need-number-requires-2
-number-requires-2 c κs = search needs
+word-requires-2 : tie.Need-word-requires-2
+word-requires-2 c κs = search needs
 
 returns-2 : tie.Need-returns-2
 returns-2 c =
@@ -52,11 +52,11 @@ returns-2 c =
     let u = t .before in
     let e = began u in
     let s = e .before .before .before .args in
-    ap (λ (n : ℕ). openTold n (s .account .now) (s .equities .now)) (c .number2 .ensures)
+    ap (λ (n : ℕ). openTold n (s .account .now) (s .equities .now)) (c .word2 .ensures)
     ∙ open-bad (s .cash) (s .settings .now) (s .account .now) (s .equities .now) (e .if1 .left) (sym (same-test u) ∙ not-true _ (t .if2 .taken))
 
-number-requires-3 : tie.Need-number-requires-3
-number-requires-3 c κs = search needs
+word-requires-3 : tie.Need-word-requires-3
+word-requires-3 c κs = search needs
 
 returns-3 : tie.Need-returns-3
 returns-3 c =
@@ -65,7 +65,7 @@ returns-3 c =
     let u = f .before in
     let e = began u in
     let s = e .before .before .before .args in
-    ap (λ (n : ℕ). openTold n (s .account .now) (s .equities .now)) (c .number3 .ensures)
+    ap (λ (n : ℕ). openTold n (s .account .now) (s .equities .now)) (c .word3 .ensures)
     ∙ open-full (s .cash) (s .settings .now) (s .account .now) (s .equities .now) (e .if1 .left) (sym (same-test u) ∙ not-false _ (f .if2 .left)) (omega (arith, t .if3 .taken))
 
 slice-set-from-cash : tie.Need-slice-set-from-cash
@@ -77,8 +77,8 @@ opened-requires c κs = search needs
 write-account-requires : tie.Need-write-account-requires
 write-account-requires c κs = search needs
 
-number-requires-4 : tie.Need-number-requires-4
-number-requires-4 c κs = search needs
+word-requires-4 : tie.Need-word-requires-4
+word-requires-4 c κs = search needs
 
 same-length : tie.Need-same-length
 same-length c = search needs
@@ -97,25 +97,25 @@ returns-4 c =
     let s = e .before .before .before .args in
     let l = w .write-account .last .1 .0 in
     let a = account-is o in
-    simp (toZ-ofZ (e .before .before .before .fits .cash)) (ap (λ (n : ℕ). openTold n l (set (s .equities .now) 0 (s .cash))) (c .number4 .ensures)
+    simp (toZ-ofZ (e .before .before .before .fits .cash)) (ap (λ (n : ℕ). openTold n l (set (s .equities .now) 0 (s .cash))) (c .word4 .ensures)
     ∙ open-done (s .cash) (s .settings .now) (s .account .now) (s .equities .now) l (e .if1 .left) (sym (same-test u) ∙ not-false _ (f .if2 .left)) (omega (arith, t .if3 .left)) (w .write-account .ensures ∙ ap (λ (x : Account). writtenAccount x (s .account .now)) a))
 
 pub tc-open-spec : {M : Type 1} → statement M
 tc-open-spec =
     tie.close
     (tie.spec
-    number-requires
+    word-requires
     returns
     read-settings-requires
     sound-scalars-requires
-    number-requires-2
+    word-requires-2
     returns-2
-    number-requires-3
+    word-requires-3
     returns-3
     slice-set-from-cash
     opened-requires
     write-account-requires
-    number-requires-4
+    word-requires-4
     same-length
     same-length-2
     returns-4)

@@ -13,8 +13,8 @@ account-in-requires c κs = search needs
 position-requires : tie.Need-position-requires
 position-requires c κs = search needs
 
-number-requires : tie.Need-number-requires
-number-requires c κs = search needs
+word-requires : tie.Need-word-requires
+word-requires c κs = search needs
 
 held-words-requires : tie.Need-held-words-requires
 held-words-requires c κs = search needs
@@ -37,7 +37,7 @@ returns c =
     let a = p .before in
     let s = a .before .before .before .args in
     t .tell .ensures
-    ∙ told-held (positionOf (s .symbol)) _ (never-unsound (goodSymbol (s .symbol))) (position-answer (s .symbol)) (s .account .now) (s .out .now) (a .account-in .ensures) (p .position .ensures) (k .number .ensures) (u .held-words .ensures)
+    ∙ told-held (positionOf (s .symbol)) _ (never-unsound (goodSymbol (s .symbol))) (position-answer (s .symbol)) (s .account .now) (s .out .now) (a .account-in .ensures) (p .position .ensures) (k .word .ensures) (u .held-words .ensures)
 
 pub tc-position-spec : {M : Type 1} → statement M
 tc-position-spec =
@@ -45,7 +45,7 @@ tc-position-spec =
     (tie.spec
     account-in-requires
     position-requires
-    number-requires
+    word-requires
     held-words-requires
     slice-aggregate-tell
     tell-requires

@@ -13,8 +13,8 @@ account-in-requires c κs = search needs
 position-at-requires : tie.Need-position-at-requires
 position-at-requires c κs = search needs
 
-number-requires : tie.Need-number-requires
-number-requires c κs = search needs
+word-requires : tie.Need-word-requires
+word-requires c κs = search needs
 
 held-words-requires : tie.Need-held-words-requires
 held-words-requires c κs = search needs
@@ -36,7 +36,7 @@ returns c =
     let p = k .before in
     let a = p .before in
     let s = a .before .before .before .args in
-    t .tell .ensures ∙ told-held (positionAt (s .index)) Done refl (place-answer (s .index)) (s .account .now) (s .out .now) (a .account-in .ensures) (p .position-at .ensures) (k .number .ensures) (u .held-words .ensures)
+    t .tell .ensures ∙ told-held (positionAt (s .index)) Done refl (place-answer (s .index)) (s .account .now) (s .out .now) (a .account-in .ensures) (p .position-at .ensures) (k .word .ensures) (u .held-words .ensures)
 
 pub tc-position-at-spec : {M : Type 1} → statement M
 tc-position-at-spec =
@@ -44,7 +44,7 @@ tc-position-at-spec =
     (tie.spec
     account-in-requires
     position-at-requires
-    number-requires
+    word-requires
     held-words-requires
     slice-aggregate-tell
     tell-requires

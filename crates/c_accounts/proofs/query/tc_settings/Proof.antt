@@ -20,8 +20,8 @@ returns c =
     let s = a .before .before .before .args in
     settings-unsound (s .account .now) (s .out .now) (a .account-in .result) (u .unless-unsound .result) (a .account-in .ensures) (u .unless-unsound .ensures) (c .if1 .taken)
 
-number-requires : tie.Need-number-requires
-number-requires c κs = search needs
+word-requires : tie.Need-word-requires
+word-requires c κs = search needs
 
 returns-2 : tie.Need-returns-2
 returns-2 c =
@@ -30,7 +30,7 @@ returns-2 c =
     let u = o .before in
     let a = u .before in
     let s = a .before .before .before .args in
-    ap (λ (n : ℕ). accountTold n (s .out .now)) (c .number .ensures) ∙ settings-short (s .account .now) (s .out .now) (a .account-in .result) (u .unless-unsound .result) (a .account-in .ensures) (u .unless-unsound .ensures) (o .if1 .left) (f .if2 .taken)
+    ap (λ (n : ℕ). accountTold n (s .out .now)) (c .word .ensures) ∙ settings-short (s .account .now) (s .out .now) (a .account-in .result) (u .unless-unsound .result) (a .account-in .ensures) (u .unless-unsound .ensures) (o .if1 .left) (f .if2 .taken)
 
 write-settings-requires : tie.Need-write-settings-requires
 write-settings-requires c κs = search needs
@@ -55,7 +55,7 @@ tc-settings-spec =
     account-in-requires
     unless-unsound-requires
     returns
-    number-requires
+    word-requires
     returns-2
     write-settings-requires
     same-length

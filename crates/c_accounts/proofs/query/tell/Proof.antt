@@ -17,15 +17,15 @@ returns c = let s = c .before .before .before .args in tell-unsound (s .number) 
 mul-if2 : tie.Need-mul-if2
 mul-if2 c = search needs
 
-number-requires : tie.Need-number-requires
-number-requires c κs = search needs
+word-requires : tie.Need-word-requires
+word-requires c κs = search needs
 
 returns-2 : tie.Need-returns-2
 returns-2 c =
     let t = c .before in
     let e = t .before in
     let s = e .before .before .before .args in
-    ap (λ (n : ℕ). accountTold n (s .out .now)) (c .number .ensures) ∙ tell-short (s .number) (s .words .now) (s .out .now) (e .if1 .left) (t .if2 .taken)
+    ap (λ (n : ℕ). accountTold n (s .out .now)) (c .word .ensures) ∙ tell-short (s .number) (s .words .now) (s .out .now) (e .if1 .left) (t .if2 .taken)
 
 returns-3 : tie.Need-returns-3
 returns-3 c =
@@ -58,7 +58,7 @@ tell-spec =
     (tie.spec
     returns
     mul-if2
-    number-requires
+    word-requires
     returns-2
     returns-3
     put-words-requires

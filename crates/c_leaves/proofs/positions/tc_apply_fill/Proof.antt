@@ -5,7 +5,7 @@ use lib.ListN.{length, getD}
 use mir.Syntax.{w64}
 use mir.Val.{SFits}
 use mir.Facts.{toZ-ofZ}
-use Rattle.answer.specs.Numbers.{numberOf}
+use Rattle.answer.specs.Places.{wordOf}
 use Rattle.position.specs.declared.position.Filled.{Filled}
 use Rattle.position.specs.Rows.{numbersOf}
 use Rattle.position.specs.Fills.{applyFill}
@@ -15,14 +15,14 @@ use borrow.Author.Needs.{needs}
 use Rattle.c_leaves.proofs.positions.tc_apply_fill.Statement.{statement}
 use Rattle.c_leaves.proofs.positions.tc_apply_fill.Tie as tie
 
-number-requires : tie.Need-number-requires
-number-requires c κs = search needs
+word-requires : tie.Need-word-requires
+word-requires c κs = search needs
 
 returns : tie.Need-returns
 unfolding answerToFill afterFill
 returns c =
     let no = ne-eqb (length (c .before .before .args .numbers .now)) 4 (c .before .if1 .taken) in
-    (c .number .ensures ∙ simp no, simp no)
+    (c .word .ensures ∙ simp no, simp no)
 
 slice-copy-out-position-of : tie.Need-slice-copy-out-position-of
 slice-copy-out-position-of c = search needs
@@ -48,8 +48,8 @@ apply-fill-requires c κs = search needs
 put-requires : tie.Need-put-requires
 put-requires c κs = search needs
 
-number-requires-2 : tie.Need-number-requires-2
-number-requires-2 c κs = search needs
+word-requires-2 : tie.Need-word-requires-2
+word-requires-2 c κs = search needs
 
 same-length : tie.Need-same-length
 same-length c = search needs
@@ -68,13 +68,13 @@ returns-2 c =
     let realized : SFits w64 (getD ns 2 (pos 0)) = record { sfits = p .before .before .position-of-arg3 .given } in
     let total : SFits w64 (getD ns 3 (pos 0)) = record { sfits = p .before .position-of-arg4 .given } in
     let f : r .apply-fill .result ≡ applyFill (positionFrom (s .args .symbol) ns) (s .args .quantity) (s .args .price) = simp (p .position-of .ensures, r .before .from-raw .ensures, toZ-ofZ held, toZ-ofZ average, toZ-ofZ realized, toZ-ofZ total, toZ-ofZ (s .fits .quantity), toZ-ofZ (s .fits .price)) at (r .apply-fill .ensures) in
-    (c .number2 .ensures ∙ ap (λ (x : Filled). numberOf (x .answer)) f ∙ simp yes, c .before .before .put .ensures ∙ ap (λ (x : Filled). numbersOf (x .position)) f ∙ simp yes)
+    (c .word2 .ensures ∙ ap (λ (x : Filled). wordOf (x .answer)) f ∙ simp yes, c .before .before .put .ensures ∙ ap (λ (x : Filled). numbersOf (x .position)) f ∙ simp yes)
 
 pub tc-apply-fill-spec : {M : Type 1} → statement M
 tc-apply-fill-spec =
     tie.close
     (tie.spec
-    number-requires
+    word-requires
     returns
     slice-copy-out-position-of
     slice-copy-out-position-of-2
@@ -84,6 +84,6 @@ tc-apply-fill-spec =
     from-raw-requires
     apply-fill-requires
     put-requires
-    number-requires-2
+    word-requires-2
     same-length
     returns-2)

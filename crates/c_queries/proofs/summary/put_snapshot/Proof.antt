@@ -19,12 +19,12 @@ figures-fit s = (search needs, search needs, search needs)
 is-done-requires : tie.Need-is-done-requires
 is-done-requires c κs = search needs
 
-number-requires : tie.Need-number-requires
-number-requires c κs = search needs
+word-requires : tie.Need-word-requires
+word-requires c κs = search needs
 
 returns : tie.Need-returns
 unfolding snapshotTold
-returns c = simp (sym (c .before .before .is-done .ensures) ∙ not-true _ (c .before .if1 .taken), c .number .ensures)
+returns c = simp (sym (c .before .before .is-done .ensures) ∙ not-true _ (c .before .if1 .taken), c .word .ensures)
 
 write-figures-requires : tie.Need-write-figures-requires
 write-figures-requires c κs = search needs
@@ -62,7 +62,7 @@ put-snapshot-spec =
     tie.close
     (tie.spec
     is-done-requires
-    number-requires
+    word-requires
     returns
     write-figures-requires
     put-word-requires

@@ -40,12 +40,12 @@ early-requires c κs = search needs
 is-done-requires : tie.Need-is-done-requires
 is-done-requires c κs = search needs
 
-number-requires : tie.Need-number-requires
-number-requires c κs = search needs
+word-requires : tie.Need-word-requires
+word-requires c κs = search needs
 
 returns : tie.Need-returns
 unfolding snapshotIn
-returns c = let d = c .before .before in refused-query (snapshot-query _ _) (in-hand (d .before)) (d .is-done .ensures) (c .before .if1 .taken) (c .number .ensures)
+returns c = let d = c .before .before in refused-query (snapshot-query _ _) (in-hand (d .before)) (d .is-done .ensures) (c .before .if1 .taken) (c .word .ensures)
 
 snapshot-at-prices-requires : tie.Need-snapshot-at-prices-requires
 snapshot-at-prices-requires c κs = few-prices (in-hand (c .before .before))
@@ -80,7 +80,7 @@ tc-snapshot-spec =
     is-room-requires
     early-requires
     is-done-requires
-    number-requires
+    word-requires
     returns
     snapshot-at-prices-requires
     put-snapshot-requires

@@ -14,12 +14,12 @@ use Rattle.c_queries.proofs.unpriced.put_unpriced.Tie as tie
 is-done-requires : tie.Need-is-done-requires
 is-done-requires c κs = search needs
 
-number-requires : tie.Need-number-requires
-number-requires c κs = search needs
+word-requires : tie.Need-word-requires
+word-requires c κs = search needs
 
 returns : tie.Need-returns
 unfolding unpricedTold
-returns c = simp (sym (c .before .before .is-done .ensures) ∙ not-true _ (c .before .if1 .taken), c .number .ensures)
+returns c = simp (sym (c .before .before .is-done .ensures) ∙ not-true _ (c .before .if1 .taken), c .word .ensures)
 
 flag-word-requires : tie.Need-flag-word-requires
 flag-word-requires c κs = search needs
@@ -53,7 +53,7 @@ put-unpriced-spec =
     tie.close
     (tie.spec
     is-done-requires
-    number-requires
+    word-requires
     returns
     flag-word-requires
     put-word-requires

@@ -28,12 +28,12 @@ early-requires c κs = search needs
 is-done-requires : tie.Need-is-done-requires
 is-done-requires c κs = search needs
 
-number-requires : tie.Need-number-requires
-number-requires c κs = search needs
+word-requires : tie.Need-word-requires
+word-requires c κs = search needs
 
 returns : tie.Need-returns
 unfolding unpricedIn
-returns c = let d = c .before .before in refused-query (unpriced-query _) (in-hand (d .before)) (d .is-done .ensures) (c .before .if1 .taken) (c .number .ensures)
+returns c = let d = c .before .before in refused-query (unpriced-query _) (in-hand (d .before)) (d .is-done .ensures) (c .before .if1 .taken) (c .word .ensures)
 
 unpriced-at-prices-requires : tie.Need-unpriced-at-prices-requires
 unpriced-at-prices-requires c κs = few-prices (in-hand (c .before .before))
@@ -60,7 +60,7 @@ tc-unpriced-holding-spec =
     read-prices-requires
     early-requires
     is-done-requires
-    number-requires
+    word-requires
     returns
     unpriced-at-prices-requires
     put-unpriced-requires

@@ -9,12 +9,12 @@ use Rattle.c_queries.proofs.weighing.put_weights.Tie as tie
 is-done-requires : tie.Need-is-done-requires
 is-done-requires c κs = search needs
 
-number-requires : tie.Need-number-requires
-number-requires c κs = search needs
+word-requires : tie.Need-word-requires
+word-requires c κs = search needs
 
 returns : tie.Need-returns
 unfolding weightsTold
-returns c = simp (sym (c .before .before .is-done .ensures) ∙ not-true _ (c .before .if1 .taken), c .number .ensures)
+returns c = simp (sym (c .before .before .is-done .ensures) ∙ not-true _ (c .before .if1 .taken), c .word .ensures)
 
 write-weights-requires : tie.Need-write-weights-requires
 write-weights-requires c κs = search needs
@@ -38,7 +38,7 @@ put-weights-spec =
     tie.close
     (tie.spec
     is-done-requires
-    number-requires
+    word-requires
     returns
     write-weights-requires
     mul-result

@@ -27,12 +27,12 @@ early-requires c κs = search needs
 is-done-requires : tie.Need-is-done-requires
 is-done-requires c κs = search needs
 
-number-requires : tie.Need-number-requires
-number-requires c κs = search needs
+word-requires : tie.Need-word-requires
+word-requires c κs = search needs
 
 returns : tie.Need-returns
 unfolding currentWeightsIn
-returns c = let d = c .before .before in refused-query (weights-query _) (in-hand (d .before)) (d .is-done .ensures) (c .before .if1 .taken) (c .number .ensures)
+returns c = let d = c .before .before in refused-query (weights-query _) (in-hand (d .before)) (d .is-done .ensures) (c .before .if1 .taken) (c .word .ensures)
 
 weights-at-prices-requires : tie.Need-weights-at-prices-requires
 weights-at-prices-requires c κs = few-prices (in-hand (c .before .before))
@@ -62,7 +62,7 @@ tc-current-weights-spec =
     read-prices-requires
     early-requires
     is-done-requires
-    number-requires
+    word-requires
     returns
     weights-at-prices-requires
     put-weights-requires

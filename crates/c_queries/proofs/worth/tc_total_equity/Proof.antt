@@ -28,12 +28,12 @@ early-requires c κs = search needs
 is-done-requires : tie.Need-is-done-requires
 is-done-requires c κs = search needs
 
-number-requires : tie.Need-number-requires
-number-requires c κs = search needs
+word-requires : tie.Need-word-requires
+word-requires c κs = search needs
 
 returns : tie.Need-returns
 unfolding equityIn
-returns c = let d = c .before .before in refused-query (equity-query _) (in-hand (d .before)) (d .is-done .ensures) (c .before .if1 .taken) (c .number .ensures)
+returns c = let d = c .before .before in refused-query (equity-query _) (in-hand (d .before)) (d .is-done .ensures) (c .before .if1 .taken) (c .word .ensures)
 
 equity-at-prices-requires : tie.Need-equity-at-prices-requires
 equity-at-prices-requires c κs = few-prices (in-hand (c .before .before))
@@ -60,7 +60,7 @@ tc-total-equity-spec =
     read-prices-requires
     early-requires
     is-done-requires
-    number-requires
+    word-requires
     returns
     equity-at-prices-requires
     put-equity-requires

@@ -9,12 +9,12 @@ use Rattle.c_timed.proofs.made.leave.Tie as tie
 is-done-requires : tie.Need-is-done-requires
 is-done-requires c κs = search needs
 
-number-requires : tie.Need-number-requires
-number-requires c κs = search needs
+word-requires : tie.Need-word-requires
+word-requires c κs = search needs
 
 returns : tie.Need-returns
 unfolding left
-returns c = simp (sym (c .before .before .is-done .ensures) ∙ not-true _ (c .before .if1 .taken), c .number .ensures)
+returns c = simp (sym (c .before .before .is-done .ensures) ∙ not-true _ (c .before .if1 .taken), c .word .ensures)
 
 write-account-requires : tie.Need-write-account-requires
 write-account-requires c κs = search needs
@@ -31,4 +31,4 @@ returns-2 c =
     simp (d, w .write-account .ensures)
 
 pub leave-spec : {M : Type 1} → statement M
-leave-spec = tie.close (tie.spec is-done-requires number-requires returns write-account-requires same-length returns-2)
+leave-spec = tie.close (tie.spec is-done-requires word-requires returns write-account-requires same-length returns-2)

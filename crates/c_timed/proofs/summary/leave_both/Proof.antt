@@ -15,12 +15,12 @@ figures-fit s = (search needs, search needs, search needs)
 is-done-requires : tie.Need-is-done-requires
 is-done-requires c κs = search needs
 
-number-requires : tie.Need-number-requires
-number-requires c κs = search needs
+word-requires : tie.Need-word-requires
+word-requires c κs = search needs
 
 returns : tie.Need-returns
 unfolding leftBoth
-returns c = simp (sym (c .before .before .is-done .ensures) ∙ not-true _ (c .before .if1 .taken), c .number .ensures)
+returns c = simp (sym (c .before .before .is-done .ensures) ∙ not-true _ (c .before .if1 .taken), c .word .ensures)
 
 write-figures-requires : tie.Need-write-figures-requires
 write-figures-requires c κs = search needs
@@ -45,4 +45,4 @@ returns-2 c =
     simp (d, f .write-figures .ensures, toZ-ofZ (figures-fit s .0), toZ-ofZ (figures-fit s .1), toZ-ofZ (figures-fit s .2), w .write-weights .ensures)
 
 pub leave-both-spec : {M : Type 1} → statement M
-leave-both-spec = tie.close (tie.spec is-done-requires number-requires returns write-figures-requires write-weights-requires same-length same-length-2 returns-2)
+leave-both-spec = tie.close (tie.spec is-done-requires word-requires returns write-figures-requires write-weights-requires same-length same-length-2 returns-2)

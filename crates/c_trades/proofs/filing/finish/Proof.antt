@@ -9,12 +9,12 @@ use Rattle.c_trades.proofs.filing.finish.Tie as tie
 is-done-requires : tie.Need-is-done-requires
 is-done-requires c κs = search needs
 
-number-requires : tie.Need-number-requires
-number-requires c κs = search needs
+word-requires : tie.Need-word-requires
+word-requires c κs = search needs
 
 returns : tie.Need-returns
 unfolding finished
-returns c = simp (sym (c .before .before .is-done .ensures) ∙ not-true _ (c .before .if1 .taken), c .number .ensures)
+returns c = simp (sym (c .before .before .is-done .ensures) ∙ not-true _ (c .before .if1 .taken), c .word .ensures)
 
 write-ledger-requires : tie.Need-write-ledger-requires
 write-ledger-requires c κs = search needs
@@ -41,4 +41,4 @@ returns-2 c =
     simp (d, a .write-ledger .ensures, w .write-records .ensures)
 
 pub finish-spec : {M : Type 1} → statement M
-finish-spec = tie.close (tie.spec is-done-requires number-requires returns write-ledger-requires write-records-requires mul-result same-length same-length-2 returns-2)
+finish-spec = tie.close (tie.spec is-done-requires word-requires returns write-ledger-requires write-records-requires mul-result same-length same-length-2 returns-2)

@@ -47,15 +47,15 @@ in-hand c =
 is-account-requires : tie.Need-is-account-requires
 is-account-requires c κs = search needs
 
-number-requires : tie.Need-number-requires
-number-requires c κs = search needs
+word-requires : tie.Need-word-requires
+word-requires c κs = search needs
 
 same-length : tie.Need-same-length
 same-length c = search needs
 
 returns : tie.Need-returns
 unfolding rebalanceIn
-returns c = let i = c .before .before in no-account (call (begun i)) _ (whole (begun i)) (i .is-account .ensures) (c .before .if1 .taken) (c .number .ensures)
+returns c = let i = c .before .before in no-account (call (begun i)) _ (whole (begun i)) (i .is-account .ensures) (c .before .if1 .taken) (c .word .ensures)
 
 read-columns-requires : tie.Need-read-columns-requires
 read-columns-requires c κs = search needs
@@ -84,15 +84,15 @@ early-requires c κs = search needs
 is-done-requires : tie.Need-is-done-requires
 is-done-requires c κs = search needs
 
-number-requires-2 : tie.Need-number-requires-2
-number-requires-2 c κs = search needs
+word-requires-2 : tie.Need-word-requires-2
+word-requires-2 c κs = search needs
 
 same-length-2 : tie.Need-same-length-2
 same-length-2 c = search needs
 
 returns-2 : tie.Need-returns-2
 unfolding rebalanceIn
-returns-2 c = let d = c .before .before in refused-call (in-hand (d .before)) (call (begun (found (tested (d .before)) .before))) (d .is-done .ensures) (c .before .if2 .taken) (c .number2 .ensures)
+returns-2 c = let d = c .before .before in refused-call (in-hand (d .before)) (call (begun (found (tested (d .before)) .before))) (d .is-done .ensures) (c .before .if2 .taken) (c .word2 .ensures)
 
 rebalance-in-room-requires : tie.Need-rebalance-in-room-requires
 rebalance-in-room-requires c κs =
@@ -119,7 +119,7 @@ tc-rebalance-simple-spec =
     tie.close
     (tie.spec
     is-account-requires
-    number-requires
+    word-requires
     same-length
     returns
     read-columns-requires
@@ -131,7 +131,7 @@ tc-rebalance-simple-spec =
     both-requires-2
     early-requires
     is-done-requires
-    number-requires-2
+    word-requires-2
     same-length-2
     returns-2
     rebalance-in-room-requires

@@ -8,19 +8,19 @@ use Rattle.c_trades.proofs.recording.keep.Tie as tie
 is-done-requires : tie.Need-is-done-requires
 is-done-requires c κs = search needs
 
-number-requires : tie.Need-number-requires
-number-requires c κs = search needs
+word-requires : tie.Need-word-requires
+word-requires c κs = search needs
 
 returns : tie.Need-returns
 returns c =
     let d = sym (c .before .before .is-done .ensures) ∙ not-true _ (c .before .if1 .taken) in
-    (c .number .ensures, simp d)
+    (c .word .ensures, simp d)
 
 write-series-requires : tie.Need-write-series-requires
 write-series-requires c κs = search needs
 
-number-requires-2 : tie.Need-number-requires-2
-number-requires-2 c κs = search needs
+word-requires-2 : tie.Need-word-requires-2
+word-requires-2 c κs = search needs
 
 same-length : tie.Need-same-length
 same-length c = search needs
@@ -30,7 +30,7 @@ returns-2 c =
     let w = c .before .before .before in
     let q = w .before .before .before in
     let d = sym (q .before .is-done .ensures) ∙ not-false _ (q .if1 .left) in
-    (c .number2 .ensures, simp (d, w .write-series .ensures))
+    (c .word2 .ensures, simp (d, w .write-series .ensures))
 
 pub keep-spec : {M : Type 1} → statement M
-keep-spec = tie.close (tie.spec is-done-requires number-requires returns write-series-requires number-requires-2 same-length returns-2)
+keep-spec = tie.close (tie.spec is-done-requires word-requires returns write-series-requires word-requires-2 same-length returns-2)

@@ -27,15 +27,15 @@ in-hand c =
 is-account-requires : tie.Need-is-account-requires
 is-account-requires c κs = search needs
 
-number-requires : tie.Need-number-requires
-number-requires c κs = search needs
+word-requires : tie.Need-word-requires
+word-requires c κs = search needs
 
 same-length : tie.Need-same-length
 same-length c = search needs
 
 returns : tie.Need-returns
 unfolding returnIn
-returns c = let i = c .before .before in no-account (call (begun i)) 0 _ (i .is-account .ensures) (c .before .if1 .taken) (c .number .ensures)
+returns c = let i = c .before .before in no-account (call (begun i)) 0 _ (i .is-account .ensures) (c .before .if1 .taken) (c .word .ensures)
 
 read-columns-requires : tie.Need-read-columns-requires
 read-columns-requires c κs = search needs
@@ -52,15 +52,15 @@ early-requires c κs = search needs
 is-done-requires : tie.Need-is-done-requires
 is-done-requires c κs = search needs
 
-number-requires-2 : tie.Need-number-requires-2
-number-requires-2 c κs = search needs
+word-requires-2 : tie.Need-word-requires-2
+word-requires-2 c κs = search needs
 
 same-length-2 : tie.Need-same-length-2
 same-length-2 c = search needs
 
 returns-2 : tie.Need-returns-2
 unfolding returnIn
-returns-2 c = let d = c .before .before in refused-call (in-hand (d .before)) (call (begun (found (d .before) .before))) (d .is-done .ensures) (c .before .if2 .taken) (c .number2 .ensures)
+returns-2 c = let d = c .before .before in refused-call (in-hand (d .before)) (call (begun (found (d .before) .before))) (d .is-done .ensures) (c .before .if2 .taken) (c .word2 .ensures)
 
 file-return-requires : tie.Need-file-return-requires
 file-return-requires c κs =
@@ -90,7 +90,7 @@ tc-record-return-spec =
     tie.close
     (tie.spec
     is-account-requires
-    number-requires
+    word-requires
     same-length
     returns
     read-columns-requires
@@ -98,7 +98,7 @@ tc-record-return-spec =
     is-whole-requires
     early-requires
     is-done-requires
-    number-requires-2
+    word-requires-2
     same-length-2
     returns-2
     file-return-requires
