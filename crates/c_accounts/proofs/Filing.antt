@@ -11,7 +11,9 @@ use mir.Val.{toZ, ofZ, SFits}
 use mir.ValLaws.{toZ-ofZ}
 use borrow.Author.Tests.{eq-eqb, ne-eqb}
 use Rattle.answer.specs.declared.Answer.the-variants.{Done, BadSetting, Unsound}
+use Rattle.answer.specs.Numbers.{isDone}
 use Rattle.answer.specs.Places.{wordOf}
+use Rattle.answer.proofs.Places.{word-done}
 use Rattle.table.specs.Keyed.{pick, both}
 use Rattle.table.proofs.Keyed.{both-true}
 use Rattle.word_bytes.specs.Words.{wordsOf}
@@ -58,14 +60,17 @@ set-number-done f {z} b {a} k e h w = set-done (f z) b e (h ∙ ap (λ (x : ℤ)
 
 -- ---- the writing back
 module _ (given : Bool) (n : ℕ) (c : Changed) (b : List ℕ) (e : n ≡ wordOf (c .answer)) where
+  done-by : isDone (c .answer) ≡ eqb n 0
+  done-by = sym (word-done (c .answer)) ∙ ap (λ (x : ℕ). eqb x 0) (sym e)
+
   pub file-not-done : (n ≡ 0 → ⊥) → accountTold n b ≡ setterTold given c b
   unfolding setterTold
-  file-not-done z = simp (← e, ne-eqb n 0 z)
+  file-not-done z = simp (done-by, ne-eqb n 0 z, ← e)
 
   pub file-bad : n ≡ 0 → given ≡ false → answering BadSetting b ≡ setterTold given c b
   unfolding setterTold
-  file-bad z g = let q : wordOf (c .answer) ≡ 0 = sym e ∙ z in simp (q, g)
+  file-bad z g = simp (done-by, eq-eqb n 0 z, g)
 
   pub file-done : n ≡ 0 → given ≡ true → (l : List ℕ) → l ≡ writtenAccount (c .account) b → accountTold n l ≡ setterTold given c b
   unfolding setterTold
-  file-done z g l w = let q : wordOf (c .answer) ≡ 0 = sym e ∙ z in simp (q, z, g, w)
+  file-done z g l w = simp (done-by, z, g, w)

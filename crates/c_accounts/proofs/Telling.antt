@@ -10,8 +10,9 @@ use lib.ListN.{length, replicate}
 use borrow.Author.Tests.{eq-eqb, ne-eqb}
 use Rattle.answer.specs.declared.Answer.{Answer}
 use Rattle.answer.specs.declared.Answer.the-variants.{Done, BadSymbol, TooLong, Unsound}
-use Rattle.answer.specs.Places.{alone}
-use Rattle.answer.specs.Places.{wordOf}
+use Rattle.answer.specs.Numbers.{isDone}
+use Rattle.answer.specs.Places.{alone, wordOf}
+use Rattle.answer.proofs.Places.{word-done}
 use Rattle.position.specs.declared.position.Position.{Position}
 use Rattle.position.specs.Rows.{keyOf}
 use Rattle.position.specs.Symbols.{goodSymbol}
@@ -49,9 +50,9 @@ module _ (n : ℕ) (words out : List ℕ) where
 
 -- ---- what is told, by the account
 told-by : (t : Bool) (w : Answer) (n : ℕ) (words out : List ℕ) → n ≡ wordOf (pick t w Unsound) → eqb (wordOf w) 11 ≡ false →
-    tellIn n words out ≡ pick t (pick (eqb (length out) (8 * length words)) (answering w (pick (eqb (wordOf w) 0) (bytesOf words) out)) (answering TooLong out)) (answering Unsound out)
+    tellIn n words out ≡ pick t (pick (eqb (length out) (8 * length words)) (answering w (pick (isDone w) (bytesOf words) out)) (answering TooLong out)) (answering Unsound out)
 unfolding tellIn
-told-by true w n words out e f = simp (e, f)
+told-by true w n words out e f = simp (e, f, word-done w)
 told-by false w n words out e f = simp e
 
 -- the number of an answer over what the account is

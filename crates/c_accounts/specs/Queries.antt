@@ -5,8 +5,8 @@ use lib.Dec.{eqb}
 use lib.ListN.{length}
 use Rattle.answer.specs.declared.Answer.{Answer}
 use Rattle.answer.specs.declared.Answer.the-variants.{Done, BadSymbol, TooLong, Unsound}
+use Rattle.answer.specs.Numbers.{isDone}
 use Rattle.answer.specs.Places.{alone}
-use Rattle.answer.specs.Places.{wordOf}
 use Rattle.position.specs.Rows.{keyOf, held, avg, realized, total}
 use Rattle.position.specs.Symbols.{goodSymbol}
 use Rattle.table.specs.Keyed.{pick}
@@ -24,7 +24,7 @@ unfoldable pub queried : List ℕ → ℕ → Answer → List ℕ → List ℕ �
 queried b size w words out =
     pick (soundIn b)
     (pick (eqb (length out) size)
-    (answering w (pick (eqb (wordOf w) 0) (bytesOf words) out))
+    (answering w (pick (isDone w) (bytesOf words) out))
     (answering TooLong out))
     (answering Unsound out)
 

@@ -10,8 +10,9 @@ use lib.ListN.{length, take, replicate}
 use lib.Signed.{leZ}
 use borrow.Author.Tests.{eq-eqb, ne-eqb, leb-true}
 use Rattle.answer.specs.declared.Answer.the-variants.{Done, BadSetting, BadPrice, NoRecordRoom, Unsound}
-use Rattle.answer.specs.Places.{alone}
-use Rattle.answer.specs.Places.{wordOf}
+use Rattle.answer.specs.Numbers.{isDone}
+use Rattle.answer.specs.Places.{alone, wordOf}
+use Rattle.answer.proofs.Places.{word-done}
 use Rattle.position.specs.declared.position.Position.{Position}
 use Rattle.call_lists.specs.Checks.{unless}
 use Rattle.table.specs.declared.found.Found.{Found}
@@ -117,15 +118,18 @@ module _ (a : Ask) (l : Slots) where
       unfolding answerTo
       answer-is = hn ∙ simp (eq-eqb (length (l .money)) 6 hm, eq-eqb (length (l .tallies)) 2 ht)
 
+      done-by : isDone (answerTo a l) ≡ eqb n 0
+      done-by = sym (word-done (answerTo a l)) ∙ ap (λ (x : ℕ). eqb x 0) (sym answer-is)
+
       pub refused-as-found : (n ≡ 0 → ⊥) → fillTold n l ≡ fillOne a l
       unfolding fillOne
       refused-as-found h =
           ap (λ x. fillTold x l) answer-is
-          ∙ sym (ap (λ x. pick x (doneIn (a .symbol) (fill (askedTerms a) (askedOrder a) (stateIn a l)) l) (fillTold (wordOf (answerTo a l)) l)) (ap (λ x. eqb x 0) (sym answer-is) ∙ ne-eqb n 0 h))
+          ∙ sym (ap (λ x. pick x (doneIn (a .symbol) (fill (askedTerms a) (askedOrder a) (stateIn a l)) l) (fillTold (wordOf (answerTo a l)) l)) (done-by ∙ ne-eqb n 0 h))
 
       pub done-as-filled : n ≡ 0 → doneIn (a .symbol) (fill (askedTerms a) (askedOrder a) (stateIn a l)) l ≡ fillOne a l
       unfolding fillOne
-      done-as-filled h = let z : wordOf (answerTo a l) ≡ 0 = sym answer-is ∙ h in simp z
+      done-as-filled h = simp (done-by, eq-eqb n 0 h)
 
 -- ---- what is put into the places
 abbrev pub placed : Sight → Slots → Slots

@@ -4,6 +4,7 @@ use mathlib.Core.Bool.{Bool, true, false}
 use mathlib.Core.Path.{_≡_, refl}
 use native.Mathlib.Omega.{arith}
 use lib.Dec.{eqb}
+use Rattle.answer.specs.Numbers.{isDone}
 use Rattle.answer.specs.Places.{wordOf}
 use Rattle.table.specs.Keyed.{pick}
 use Rattle.fills.specs.Orders.{State}
@@ -21,4 +22,4 @@ by-test false x a l h = refl
 -- The answer's number is what the low eight bits hold.
 pub refused-leaves-as-found : (a : Ask) (l : Slots) → (fillOne a l .answer % 256 ≡ 0 → ⊥) → fillOne a l .places ≡ l
 unfolding fillOne
-refused-leaves-as-found a l h = by-test (eqb (wordOf (answerTo a l)) 0) (fill (askedTerms a) (askedOrder a) (stateIn a l)) a l h
+refused-leaves-as-found a l h = by-test (isDone (answerTo a l)) (fill (askedTerms a) (askedOrder a) (stateIn a l)) a l h

@@ -8,8 +8,8 @@ use lib.ListN.{length, getD}
 use lib.Signed.{leZ}
 use Rattle.answer.specs.declared.Answer.{Answer}
 use Rattle.answer.specs.declared.Answer.the-variants.{Done, BadSetting, BadPrice, NoRecordRoom, Unsound}
-use Rattle.answer.specs.Places.{alone}
-use Rattle.answer.specs.Places.{wordOf}
+use Rattle.answer.specs.Numbers.{isDone}
+use Rattle.answer.specs.Places.{alone, wordOf}
 use Rattle.position.specs.declared.position.Position.{Position}
 use Rattle.position.specs.Rows.{row, held, realized, numbersOf}
 use Rattle.position.specs.Shares.{isZero}
@@ -121,6 +121,6 @@ doneIn s x l = fillTold (counting (x .records)) (slotsOf s x l)
 
 unfoldable pub fillOne : Ask → Slots → FillTold
 fillOne a l =
-    pick (eqb (wordOf (answerTo a l)) 0)
+    pick (isDone (answerTo a l))
     (doneIn (a .symbol) (fill (askedTerms a) (askedOrder a) (stateIn a l)) l)
     (fillTold (wordOf (answerTo a l)) l)

@@ -11,8 +11,7 @@ use lib.Ieee.{Float}
 use lib.ListN.{length}
 use borrow.Author.Tests.{eqb-true, ne-eqb}
 use Rattle.answer.specs.declared.Answer.the-variants.{Done, BadPrice, Unsound}
-use Rattle.answer.specs.Places.{alone}
-use Rattle.answer.specs.Places.{wordOf}
+use Rattle.answer.specs.Places.{alone, wordOf}
 use Rattle.position.specs.declared.position.Position.{Position}
 use Rattle.position.specs.declared.position.Filled.{Filled}
 use Rattle.position.specs.Rows.{numbersOf}

@@ -2,8 +2,8 @@
 use Prim.Native.Nat.{ℕ}
 use mathlib.Core.Bool.{Bool}
 use mathlib.Core.List.{List}
-use lib.Dec.{eqb}
 use Rattle.answer.specs.declared.Answer.the-variants.{BadSetting}
+use Rattle.answer.specs.Numbers.{isDone}
 use Rattle.answer.specs.Places.{wordOf}
 use Rattle.table.specs.Keyed.{pick}
 use Rattle.account.specs.declared.change.Changed.{Changed}
@@ -12,6 +12,6 @@ use Rattle.c_accounts.specs.Entries.{AccountTold, accountTold, answering
 
 unfoldable pub setterTold : Bool → Changed → List ℕ → AccountTold
 setterTold given c b =
-    pick (eqb (wordOf (c .answer)) 0)
+    pick (isDone (c .answer))
     (pick given (accountTold 0 (writtenAccount (c .account) b)) (answering BadSetting b))
     (accountTold (wordOf (c .answer)) b)
