@@ -1,0 +1,112 @@
+-- What each call that is given lists answers says what it should of them, and each with one symbol tells index 0 of its prices.
+use Prim.Native.Nat.{ℕ, _+_, _*_, _≤_, _<_}
+use mathlib.Core.Path.{_≡_, refl, sym, ap, _∙_}
+use mathlib.Core.Bool.{Bool, true, false, not}
+use mathlib.Core.List.{List, []}
+use mathlib.Core.Option.{Option, none, some}
+use native.Mathlib.Omega.{arith}
+use lib.IntN.{ℤ, pos}
+use lib.Ieee.{Float}
+use lib.Signed.{leZ, ltZ}
+use lib.Dec.{eqb, leb}
+use lib.ListN.{length}
+use borrow.Author.Tests.{leb-true, eqb-true}
+use Rattle.doubles.specs.Doubles.{allFinite}
+use Rattle.position.specs.Symbols.{goodSymbol}
+use Rattle.position.specs.Rows.{keyOf}
+use Rattle.table.specs.Keyed.{both, seek}
+use Rattle.answer.specs.declared.Answer.{Answer}
+use Rattle.answer.specs.Numbers.{numberOf, isDone, unless, orLater}
+use Rattle.answer.specs.Places.{placeOf, wordOf}
+use Rattle.answer.proofs.Choice.{by-test, both-true}
+use Rattle.position.specs.declared.position.Position.{Position}
+use Rattle.account.specs.declared.account.Account.{Account}
+use Rattle.account.specs.declared.holding.Held.{Held}
+use Rattle.account.specs.Account.{soundAccount, heldIn}
+use Rattle.account.specs.Calls.{positionOf, presentOr, absent}
+use Rattle.call_lists.specs.Lists.{allGood, distinct, allPriced}
+use Rattle.call_lists.specs.Checks.{shortEnough, listsAnswer}
+use Rattle.portfolio.specs.Answers.{rebalanceAnswer, closeAnswer, queryAnswer, returnAnswer}
+use Rattle.place_laws.specs.Statement.{Says, SaysAlone}
+use Rattle.place_laws.proofs.Lists.{lists-say, is-below, first-bad, first-unpriced}
+use Rattle.place_laws.proofs.Firsts.{first-repeat}
+
+-- ---- calls with lists
+-- a refusal is told as it is, and else what comes later
+said-first : (Q : Answer → Type 0) (first later : Answer) → Q first → Q later → Q (orLater first later)
+said-first Q first later p q = by-test Q (isDone first) later first (λ e. q) (λ e. p)
+
+module _ (a : Account) (ts : List ℕ) (ws : List Float) (ps : List ℕ) (vs : List ℤ) where
+  pub rebalance-says : (room : ℕ) → Says ts ps vs (rebalanceAnswer a ts ws ps vs room)
+  unfolding rebalanceAnswer
+  rebalance-says room =
+      by-test Q (soundAccount a) _ _
+      (λ s. said-first Q (listsAnswer ts ws ps vs) _ (lists-say ts ws ps vs) (by-test Q _ _ _ (λ r. by-test Q _ _ _ (λ f. tt) (λ f. tt)) (λ r. tt)))
+      (λ s. tt)
+    where
+      Q : Answer → Type 0
+      Q = Says ts ps vs
+
+module _ (a : Account) (ps : List ℕ) (vs : List ℤ) where
+  pub query-says : Says [] ps vs (queryAnswer a ps vs)
+  unfolding queryAnswer
+  query-says = by-test (Says [] ps vs) (soundAccount a) _ _ (λ s. lists-say [] [] ps vs) (λ s. tt)
+
+  pub return-says : (equities returns : ℕ) → Says [] ps vs (returnAnswer a ps vs equities returns)
+  unfolding returnAnswer
+  return-says equities returns =
+      by-test (Says [] ps vs) (soundAccount a) _ _
+      (λ s. said-first (Says [] ps vs) (listsAnswer [] [] ps vs) _ (lists-say [] [] ps vs) (by-test (Says [] ps vs) _ _ _ (λ f. tt) (λ f. tt)))
+      (λ s. tt)
+
+-- ---- calls with one symbol
+pub close-says : (a : Account) (s : ℕ) (price : ℤ) (room : ℕ) → SaysAlone s price (closeAnswer a s price room)
+unfolding closeAnswer
+close-says a s price room =
+    by-test Q (soundAccount a) _ _
+    (λ e. by-test Q (goodSymbol s) _ _
+      (λ g. by-test Q (leZ (pos 1) price) _ _ (λ p. by-test Q _ _ _ (λ r. by-test Q _ _ _ (λ h. tt) (λ h. tt)) (λ r. tt)) (λ p. (refl, is-below price p)))
+      (λ g. (refl, g)))
+    (λ e. tt)
+  where
+    Q : Answer → Type 0
+    Q = SaysAlone s price
+
+pub position-says : (s : ℕ) (price : ℤ) (a : Account) → SaysAlone s price (positionOf s a .answer)
+unfolding positionOf
+position-says s price a =
+    by-test Q (soundAccount a) _ _
+    (λ e. by-test Q (goodSymbol s) _ _ (λ g. found (seek keyOf s (heldIn (a .positions)))) (λ g. (refl, g)))
+    (λ e. tt)
+  where
+    Q : Held → Type 0
+    Q h = SaysAlone s price (h .answer)
+    found : (o : Option Position) → Q (presentOr o)
+    found none = tt
+    found (some p) = tt
+
+-- ---- C's word cuts nothing of a place in lists
+module _ (ts : List ℕ) (ws : List Float) (ps : List ℕ) (vs : List ℤ) where
+  pub place-small : placeOf (listsAnswer ts ws ps vs) < 256
+  unfolding listsAnswer shortEnough
+  place-small =
+      by-test Small (shortEnough ts ws ps vs) _ _
+      (λ s. let b = both-true _ _ s in
+        let t : length ts ≤ 64 = leb-true _ _ (both-true _ _ (b .0) .0) in
+        let p : length ps ≤ 128 = leb-true _ _ (both-true _ _ (b .1) .0) in
+        let q : length ps ≡ length vs = eqb-true _ _ (both-true _ _ (b .1) .1) in
+        by-test Small (allGood ts) _ _
+        (λ g. by-test Small (allGood ps) _ _
+          (λ h. by-test Small (distinct ts) _ _
+            (λ d. by-test Small (distinct ps) _ _
+              (λ e. by-test Small (allFinite ws) _ _
+                (λ f. by-test Small (allPriced vs) _ _ (λ v. omega arith) (λ v. omega (arith, first-unpriced vs v .within)))
+                (λ f. omega arith))
+              (λ e. omega (arith, first-repeat ps e .within)))
+            (λ d. omega (arith, first-repeat ts d .within)))
+          (λ h. omega (arith, first-bad ps h .within)))
+        (λ g. omega (arith, first-bad ts g .within)))
+      (λ s. omega arith)
+    where
+      Small : Answer → Type 0
+      Small w = placeOf w < 256

@@ -1,0 +1,2 @@
+-- What the place of a refusal says.
+pub mod Statement

@@ -1,0 +1,1 @@
+// What the place of a refusal says of the lists that were given: definitions and laws only.
