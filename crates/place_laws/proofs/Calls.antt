@@ -15,9 +15,11 @@ use Rattle.doubles.specs.Doubles.{allFinite}
 use Rattle.position.specs.Symbols.{goodSymbol}
 use Rattle.position.specs.Rows.{keyOf}
 use Rattle.table.specs.Keyed.{both, seek}
+use Rattle.table.specs.Rows.{holding, isZero}
 use Rattle.answer.specs.declared.Answer.{Answer}
-use Rattle.answer.specs.Numbers.{numberOf, isDone, unless, orLater}
-use Rattle.answer.specs.Places.{placeOf, wordOf}
+use Rattle.answer.specs.declared.Answer.the-variants.{Done, TooMany, NoRecordRoom, NotHeld, BufferFull}
+use Rattle.answer.specs.Numbers.{isDone, unless, orLater}
+use Rattle.answer.specs.Places.{placeOf}
 use Rattle.answer.proofs.Choice.{by-test, both-true}
 use Rattle.position.specs.declared.position.Position.{Position}
 use Rattle.account.specs.declared.account.Account.{Account}
@@ -26,7 +28,7 @@ use Rattle.account.specs.Account.{soundAccount, heldIn}
 use Rattle.account.specs.Calls.{positionOf, presentOr, absent}
 use Rattle.call_lists.specs.Lists.{allGood, distinct, allPriced}
 use Rattle.call_lists.specs.Checks.{shortEnough, listsAnswer}
-use Rattle.portfolio.specs.Answers.{rebalanceAnswer, closeAnswer, queryAnswer, returnAnswer}
+use Rattle.portfolio.specs.Answers.{hasRoom, notHeld, rebalanceAnswer, closeAnswer, queryAnswer, returnAnswer}
 use Rattle.place_laws.specs.Statement.{Says, SaysAlone}
 use Rattle.place_laws.proofs.Lists.{lists-say, is-below, first-bad, first-unpriced}
 use Rattle.place_laws.proofs.Firsts.{first-repeat}
@@ -41,11 +43,17 @@ module _ (a : Account) (ts : List ℕ) (ws : List Float) (ps : List ℕ) (vs : L
   unfolding rebalanceAnswer
   rebalance-says room =
       by-test Q (soundAccount a) _ _
-      (λ s. said-first Q (listsAnswer ts ws ps vs) _ (lists-say ts ws ps vs) (by-test Q _ _ _ (λ r. by-test Q _ _ _ (λ f. tt) (λ f. tt)) (λ r. tt)))
+      (λ s. said-first Q (listsAnswer ts ws ps vs) later (lists-say ts ws ps vs) (by-test Q (hasRoom a 64 room) fewer NoRecordRoom (λ r. by-test Q few Done TooMany (λ f. tt) (λ f. tt)) (λ r. tt)))
       (λ s. tt)
     where
       Q : Answer → Type 0
       Q = Says ts ps vs
+      few : Bool
+      few = leb (length (heldIn (a .positions)) + notHeld ts (heldIn (a .positions))) 64
+      fewer : Answer
+      fewer = unless few TooMany Done
+      later : Answer
+      later = unless (hasRoom a 64 room) NoRecordRoom fewer
 
 module _ (a : Account) (ps : List ℕ) (vs : List ℤ) where
   pub query-says : Says [] ps vs (queryAnswer a ps vs)
@@ -56,8 +64,11 @@ module _ (a : Account) (ps : List ℕ) (vs : List ℤ) where
   unfolding returnAnswer
   return-says equities returns =
       by-test (Says [] ps vs) (soundAccount a) _ _
-      (λ s. said-first (Says [] ps vs) (listsAnswer [] [] ps vs) _ (lists-say [] [] ps vs) (by-test (Says [] ps vs) _ _ _ (λ f. tt) (λ f. tt)))
+      (λ s. said-first (Says [] ps vs) (listsAnswer [] [] ps vs) _ (lists-say [] [] ps vs) (by-test (Says [] ps vs) places Done BufferFull (λ f. tt) (λ f. tt)))
       (λ s. tt)
+    where
+      places : Bool
+      places = both (leb (a .series .«equity_count» + 1) equities) (leb (a .series .«return_count» + 1) returns)
 
 -- ---- calls with one symbol
 pub close-says : (a : Account) (s : ℕ) (price : ℤ) (room : ℕ) → SaysAlone s price (closeAnswer a s price room)
@@ -65,12 +76,16 @@ unfolding closeAnswer
 close-says a s price room =
     by-test Q (soundAccount a) _ _
     (λ e. by-test Q (goodSymbol s) _ _
-      (λ g. by-test Q (leZ (pos 1) price) _ _ (λ p. by-test Q _ _ _ (λ r. by-test Q _ _ _ (λ h. tt) (λ h. tt)) (λ r. tt)) (λ p. (refl, is-below price p)))
+      (λ g. by-test Q (leZ (pos 1) price) _ _ (λ p. by-test Q (hasRoom a 1 room) asked NoRecordRoom (λ r. by-test Q standing Done NotHeld (λ h. tt) (λ h. tt)) (λ r. tt)) (λ p. (refl, is-below price p)))
       (λ g. (refl, g)))
     (λ e. tt)
   where
     Q : Answer → Type 0
     Q = SaysAlone s price
+    standing : Bool
+    standing = not (isZero (holding s (heldIn (a .positions)) .quantity .0))
+    asked : Answer
+    asked = unless standing NotHeld Done
 
 pub position-says : (s : ℕ) (price : ℤ) (a : Account) → SaysAlone s price (positionOf s a .answer)
 unfolding positionOf
