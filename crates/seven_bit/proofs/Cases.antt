@@ -78,16 +78,16 @@ placed : numberAt (7 ∷ 172 ∷ 2 ∷ 9 ∷ []) 1 ≡ record { answer = Done; v
 unfolding told read onto
 placed = refl
 
-placed-early : numberAt (7 ∷ 172 ∷ []) 1 ≡ record { answer = EndsEarly; value = 0; next = 2 }
+placed-early : numberAt (7 ∷ 172 ∷ []) 1 ≡ record { answer = EndsEarly 2; value = 0; next = 2 }
 unfolding told read onto
 placed-early = refl
 
 -- from past the end on, the place told is the end
-placed-past : numberAt (7 ∷ []) 5 ≡ record { answer = EndsEarly; value = 0; next = 1 }
+placed-past : numberAt (7 ∷ []) 5 ≡ record { answer = EndsEarly 1; value = 0; next = 1 }
 unfolding told read
 placed-past = refl
 
-placed-bad : numberAt (7 ∷ 129 ∷ 0 ∷ []) 1 ≡ record { answer = BadNumber; value = 0; next = 1 }
+placed-bad : numberAt (7 ∷ 129 ∷ 0 ∷ []) 1 ≡ record { answer = BadNumber 1; value = 0; next = 1 }
 unfolding told read onto
 placed-bad = refl
 

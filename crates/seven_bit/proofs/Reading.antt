@@ -66,7 +66,7 @@ onto-raised b (got v n) = let e : 1 + n ≡ suc n = omega arith in simp e
 
 -- ---- a number of one group
 module _ (l : List ℕ) (place : ℕ) where
-  pub none-left : length l ≤ place → record { answer = EndsEarly; value = 0; next = length l } ≡ numberAt l place
+  pub none-left : length l ≤ place → record { answer = EndsEarly (length l); value = 0; next = length l } ≡ numberAt l place
   unfolding told read
   none-left f = sym (ap (λ (m : List ℕ). told place (length l) (number m)) (drop-none l place f))
 
@@ -79,7 +79,7 @@ module _ (l : List ℕ) (place at sum scale left : ℕ) where
   abbrev pub leftTold : Number
   leftTold = told place (length l) (raised sum scale (at - place) (read 1 left (drop at l)))
 
-  pub ended : length l ≤ at → record { answer = EndsEarly; value = 0; next = length l } ≡ leftTold
+  pub ended : length l ≤ at → record { answer = EndsEarly (length l); value = 0; next = length l } ≡ leftTold
   unfolding told raised read
   ended f = sym (ap (λ (m : List ℕ). told place (length l) (raised sum scale (at - place) (read 1 left m))) (drop-none l at f))
 
@@ -87,7 +87,7 @@ module _ (l : List ℕ) (place at sum scale left : ℕ) where
     from-read : (o : Out) → read 1 left (b ∷ drop (suc at) l) ≡ o → told place (length l) (raised sum scale (at - place) o) ≡ leftTold
     from-read o g = sym (ap (λ (o : Out). told place (length l) (raised sum scale (at - place) o)) (ap (read 1 left) (front l at b e f) ∙ g))
 
-    refused : read 1 left (b ∷ drop (suc at) l) ≡ bad → record { answer = BadNumber; value = 0; next = place } ≡ leftTold
+    refused : read 1 left (b ∷ drop (suc at) l) ≡ bad → record { answer = BadNumber place; value = 0; next = place } ≡ leftTold
     unfolding told raised
     refused g = from-read bad g
 
@@ -97,7 +97,7 @@ module _ (l : List ℕ) (place at sum scale left : ℕ) where
         let n : at + 1 ≡ place + (at - place + 1) = omega arith in
         simp n (from-read (got c 1) g)
 
-    pub nought-refused : b ≡ 0 → record { answer = BadNumber; value = 0; next = place } ≡ leftTold
+    pub nought-refused : b ≡ 0 → record { answer = BadNumber place; value = 0; next = place } ≡ leftTold
     nought-refused z = refused (read-nought left b (drop (suc at) l) z)
 
     pub last-read : place ≤ at → 0 < left → b < 128 → (b ≡ 0 → ⊥) → record { answer = Done; value = sum + b * scale; next = at + 1 } ≡ leftTold
@@ -114,7 +114,7 @@ module _ (l : List ℕ) (place at sum : ℕ) (f : at < length l) where
   pub tenth-read : place ≤ at → getD l at 0 ≡ 1 → record { answer = Done; value = sum + 9223372036854775808; next = at + 1 } ≡ leftTold l place at sum 9223372036854775808 0
   tenth-read p e = ending l place at sum 9223372036854775808 0 (getD l at 0) refl f p 1 (tenth-one (getD l at 0) (drop (suc at) l) e)
 
-  pub tenth-refused : (getD l at 0 ≡ 1 → ⊥) → record { answer = BadNumber; value = 0; next = place } ≡ leftTold l place at sum 9223372036854775808 0
+  pub tenth-refused : (getD l at 0 ≡ 1 → ⊥) → record { answer = BadNumber place; value = 0; next = place } ≡ leftTold l place at sum 9223372036854775808 0
   tenth-refused e = refused l place at sum 9223372036854775808 0 (getD l at 0) refl f (tenth-other (getD l at 0) (drop (suc at) l) e)
 
 -- ---- the loop
@@ -159,7 +159,7 @@ module _ {l : List ℕ} {place at sum scale left : ℕ} (h : Reading l place at 
   pub group-fits : (b n : ℕ) → b ≤ n → b * scale ≤ n * scale
   group-fits b n p = mul-le-mul-right scale p
 
-  pub ended-number : length l ≤ at → record { answer = EndsEarly; value = 0; next = length l } ≡ numberAt l place
+  pub ended-number : length l ≤ at → record { answer = EndsEarly (length l); value = 0; next = length l } ≡ numberAt l place
   ended-number f = ended l place at sum scale left f ∙ h .same
 
   -- what is left after nine groups is the tenth
@@ -167,7 +167,7 @@ module _ {l : List ℕ} {place at sum scale left : ℕ} (h : Reading l place at 
   nine-read p = rw p at (rw (top-here p) at (h .same))
 
   module _ (b : ℕ) (e : b ≡ getD l at 0) (f : at < length l) where
-    pub nought-number : b ≡ 0 → record { answer = BadNumber; value = 0; next = place } ≡ numberAt l place
+    pub nought-number : b ≡ 0 → record { answer = BadNumber place; value = 0; next = place } ≡ numberAt l place
     nought-number z = nought-refused l place at sum scale left b e f z ∙ h .same
 
     pub last-number : 0 < left → b < 128 → (b ≡ 0 → ⊥) → record { answer = Done; value = sum + b * scale; next = at + 1 } ≡ numberAt l place

@@ -9,10 +9,11 @@ use Rattle.answer.specs.declared.Answer.the-variants.{Done, EndsEarly, BadNumbe
 use Rattle.seven_bit.specs.Groups.{Out, ends, bad, got, number, groups}
 use Rattle.seven_bit.specs.declared.Number.{Number}
 
--- "16 file ends early", at the end of the bytes; "17 number not shortest or too large", at the number's first byte; else the number, and the place after it.
+-- "16 file ends early, 17 number not shortest or too large"; document 02, request 9: "the byte place for 16, 17 ...: the end of the file, the number's first byte".
+-- Else the number, and the place after it.
 unfoldable pub told : ℕ → ℕ → Out → Number
-told place end ends = record { answer = EndsEarly; value = 0; next = end }
-told place end bad = record { answer = BadNumber; value = 0; next = place }
+told place end ends = record { answer = EndsEarly end; value = 0; next = end }
+told place end bad = record { answer = BadNumber place; value = 0; next = place }
 told place end (got v n) = record { answer = Done; value = v; next = place + n }
 
 abbrev pub numberAt : List ℕ → ℕ → Number

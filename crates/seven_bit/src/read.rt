@@ -22,15 +22,16 @@ fn tenth(bytes: &[u8], place: usize, at: usize, sum: u64) -> Number
     ensures { λ r. ⌜ r ≡ told place (length (now (bytes .entry))) (raised sum 9223372036854775808 (at - place) (read 1 0 (drop at (now (bytes .entry))))) ⌝ }
 {
     if bytes.len() <= at {
+        let end = bytes.len();
         return Number {
-            answer: Answer::EndsEarly,
+            answer: Answer::EndsEarly(end),
             value: 0,
-            next: bytes.len(),
+            next: end,
         };
     }
     if bytes[at] != 1 {
         return Number {
-            answer: Answer::BadNumber,
+            answer: Answer::BadNumber(place),
             value: 0,
             next: place,
         };
@@ -53,16 +54,17 @@ fn longer(bytes: &[u8], place: usize, low: u64) -> Number
     let mut left: usize = 8;
     while 0 < left {
         if bytes.len() <= at {
+            let end = bytes.len();
             return Number {
-                answer: Answer::EndsEarly,
+                answer: Answer::EndsEarly(end),
                 value: 0,
-                next: bytes.len(),
+                next: end,
             };
         }
         let b = byte(bytes, at);
         if b == 0 {
             return Number {
-                answer: Answer::BadNumber,
+                answer: Answer::BadNumber(place),
                 value: 0,
                 next: place,
             };
@@ -87,10 +89,11 @@ pub fn number_at(bytes: &[u8], place: usize) -> Number
     ensures { λ r. ⌜ r ≡ numberAt (now (bytes .entry)) place ⌝ }
 {
     if bytes.len() <= place {
+        let end = bytes.len();
         return Number {
-            answer: Answer::EndsEarly,
+            answer: Answer::EndsEarly(end),
             value: 0,
-            next: bytes.len(),
+            next: end,
         };
     }
     let b = byte(bytes, place);

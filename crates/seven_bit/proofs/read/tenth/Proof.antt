@@ -20,8 +20,8 @@ returns-2 c =
 add-t13 : tie.Need-add-t13
 add-t13 c = search needs
 
-add-t5 : tie.Need-add-t5
-add-t5 c = search needs
+add-t6 : tie.Need-add-t6
+add-t6 c = search needs
 
 returns-3 : tie.Need-returns-3
 returns-3 c =
@@ -29,4 +29,4 @@ returns-3 c =
     R.tenth-read (s .args .bytes .now) (s .args .place) (s .args .at) (s .args .sum) (search needs) (search needs) (search needs)
 
 pub tenth-spec : {M : Type 1} → statement M
-tenth-spec = tie.close (tie.spec returns shared-slice-read-if2 returns-2 add-t13 add-t5 returns-3)
+tenth-spec = tie.close (tie.spec returns shared-slice-read-if2 returns-2 add-t13 add-t6 returns-3)
