@@ -88,9 +88,9 @@ module _ (l : List ℕ) (p : Parsed) (e : p ≡ parsed l) where
           positions-whole : isDone (positionsIn l .answer) ≡ true
           positions-whole = sym (ap isDone positions-answer) ∙ placed
 
-          pub left-over : (p .positions .next ≡ length l → ⊥) → notLoaded LeftOver ≡ loaded l
+          pub left-over : (p .positions .next ≡ length l → ⊥) → notLoaded (LeftOver (p .positions .next)) ≡ loaded l
           unfolding loadAnswer
-          left-over n = refused-as l LeftOver refl (simp (form-whole, form-known, head-whole, positions-whole, ne-eqb (positionsIn l .next) (length l) (λ z. n (positions-next ∙ z))))
+          left-over n = refused-as l (LeftOver (p .positions .next)) refl (simp (form-whole, form-known, head-whole, positions-whole, ne-eqb (positionsIn l .next) (length l) (λ z. n (positions-next ∙ z))) (sym (ap LeftOver positions-next)))
 
           module _ (ended : p .positions .next ≡ length l) where
             at-end : eqb (positionsIn l .next) (length l) ≡ true

@@ -78,7 +78,7 @@ module _ (l : List ℕ) (n at : ℕ) where
   unfolding textRead
   text-in v h e = simp (le-leb (at + n) (length l) h) (ap (λ (x : ℕ). record { answer = Done; value = x; next = at + n }) e)
 
-  pub text-past : length l < at + n → noNumber EndsEarly (length l) ≡ textRead l n at
+  pub text-past : length l < at + n → noNumber (EndsEarly (length l)) (length l) ≡ textRead l n at
   unfolding textRead
   text-past h = simp (lt-leb (at + n) (length l) h)
 

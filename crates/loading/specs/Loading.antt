@@ -21,13 +21,14 @@ unfoldable pub fileAccount : List ℕ → Account
 fileAccount l = accountOf (headIn l .values) (positionsIn l .table)
 
 -- "16 file ends early, 17 number not shortest or too large, 18 bytes left over, 11 for an unknown form, .., as the bytes are met; then 11 for an unsound account"
+-- Document 02, 9: "the byte place for 16, 17 and 18: the end of the file, the number's first byte, and the first byte left over"
 unfoldable pub loadAnswer : List ℕ → Answer
 loadAnswer l =
     orLater (numberAt l 0 .answer)
     (unless (eqb (numberAt l 0 .value) newest) Unsound
     (orLater (headIn l .answer)
     (orLater (positionsIn l .answer)
-    (unless (eqb (positionsIn l .next) (length l)) LeftOver
+    (unless (eqb (positionsIn l .next) (length l)) (LeftOver (positionsIn l .next))
     (unless (soundAccount (fileAccount l)) Unsound Done)))))
 
 abbrev pub notLoaded : Answer → Changed

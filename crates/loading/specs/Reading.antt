@@ -66,9 +66,9 @@ headOf r = record { answer = r .answer; next = r .next; count = getD (r .values)
 unfoldable pub headRead : List ℕ → ℕ → ℕ → Head
 headRead l form place = headOf (fieldsRead l form headFields 0 place)
 
--- ---- "a symbol is its length and bytes"
+-- ---- "a symbol is its length and bytes": where they are not all there, 16 tells "the end of the file"
 unfoldable pub textRead : List ℕ → ℕ → ℕ → Number
-textRead l n at = pick (leb (at + n) (length l)) (record { answer = Done; value = spelt (take n (drop at l)); next = at + n }) (noNumber EndsEarly (length l))
+textRead l n at = pick (leb (at + n) (length l)) (record { answer = Done; value = spelt (take n (drop at l)); next = at + n }) (noNumber (EndsEarly (length l)) (length l))
 
 -- "11 for .. a symbol length outside 1 to 8, as the bytes are met"
 unfoldable pub symbolRead : List ℕ → ℕ → Number

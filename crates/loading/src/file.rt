@@ -41,8 +41,10 @@ pub fn load(bytes: &[u8]) -> Changed
     if !is_done(answer) {
         return not_loaded(answer);
     }
-    if positions.next != bytes.len() {
-        return not_loaded(Answer::LeftOver);
+    let place = positions.next;
+    let end = bytes.len();
+    if place != end {
+        return not_loaded(Answer::LeftOver(place));
     }
     let values = head.values;
     let table = positions.table;

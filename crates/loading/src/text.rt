@@ -51,11 +51,12 @@ fn text_at(bytes: &[u8], n: usize, at: usize) -> Number
     requires { ⌜ 1 ≤ n ⌝ }
     ensures { λ r. ⌜ r ≡ textRead (now (bytes .entry)) n at ⌝ }
 {
-    if bytes.len() < n {
-        return no_number(Answer::EndsEarly, bytes.len());
+    let end = bytes.len();
+    if end < n {
+        return no_number(Answer::EndsEarly(end), end);
     }
-    if bytes.len() - n < at {
-        return no_number(Answer::EndsEarly, bytes.len());
+    if end - n < at {
+        return no_number(Answer::EndsEarly(end), end);
     }
     Number {
         answer: Answer::Done,

@@ -79,7 +79,7 @@ not-loaded-requires-5 c κs = search needs
 
 returns-5 : tie.Need-returns-5
 returns-5 c =
-    let e4 = c .before .before .before in
+    let e4 = c .before .before in
     let d3 = e4 .before in
     let e3 = d3 .before .before in
     let d2 = e3 .before in
@@ -104,7 +104,7 @@ returns-6 c =
     let k = c .before .before in
     let a = k .before in
     let e5 = a .before .before .before in
-    let e4 = e5 .before .before in
+    let e4 = e5 .before in
     let d3 = e4 .before in
     let e3 = d3 .before .before in
     let d2 = e3 .before in
@@ -121,7 +121,7 @@ returns-7 c =
     let k = c .before in
     let a = k .before in
     let e5 = a .before .before .before in
-    let e4 = e5 .before .before in
+    let e4 = e5 .before in
     let d3 = e4 .before in
     let e3 = d3 .before .before in
     let d2 = e3 .before in

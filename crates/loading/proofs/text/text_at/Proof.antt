@@ -11,9 +11,6 @@ no-number-requires c κs = search needs
 returns : tie.Need-returns
 returns c = c .no-number .ensures ∙ X.text-past _ _ _ (search needs)
 
-sub-if2 : tie.Need-sub-if2
-sub-if2 c = search needs
-
 no-number-requires-2 : tie.Need-no-number-requires-2
 no-number-requires-2 c κs = search needs
 
@@ -23,8 +20,8 @@ returns-2 c = c .no-number2 .ensures ∙ X.text-past _ _ _ (search needs)
 spelt-at-requires : tie.Need-spelt-at-requires
 spelt-at-requires c κs = search needs
 
-add-t4 : tie.Need-add-t4
-add-t4 c = search needs
+add-t7 : tie.Need-add-t7
+add-t7 c = search needs
 
 returns-3 : tie.Need-returns-3
 returns-3 c = X.text-in _ _ _ _ (search needs) (c .spelt-at .ensures)
@@ -35,9 +32,8 @@ text-at-spec =
     (tie.spec
     no-number-requires
     returns
-    sub-if2
     no-number-requires-2
     returns-2
     spelt-at-requires
-    add-t4
+    add-t7
     returns-3)
