@@ -9,6 +9,7 @@ use lib.ListN.{length}
 use borrow.Author.Tests.{eq-eqb, ne-eqb}
 use Rattle.answer.specs.Choice.{pick}
 use Rattle.answer.specs.Numbers.{numberOf, isDone, unless}
+use Rattle.answer.specs.Places.{wordOf}
 use Rattle.answer.specs.declared.Answer.{Answer}
 use Rattle.answer.specs.declared.Answer.the-variants.{Done, Unsound, NoFileRoom}
 use Rattle.account.specs.declared.account.Account.{Account}
@@ -67,10 +68,10 @@ module _ (f b : List ℕ) (long : length b ≡ accountLength) (c : Changed) (e :
   unfolding loadIn
   load-filed t h = simp (eq-eqb (length b) accountLength long) (h ∙ ap (λ (x : Changed). filedIn x b) e)
 
-  pub load-refused : (n : ℕ) → isDone (c .answer) ≡ false → n ≡ numberOf (c .answer) → told n b ≡ loadIn f b
+  pub load-refused : (n : ℕ) → isDone (c .answer) ≡ false → n ≡ wordOf (c .answer) → told n b ≡ loadIn f b
   unfolding filedIn
   load-refused n d h = load-filed (told n b) (simp d (ap (λ (k : ℕ). told k b) h))
 
-  pub load-done : (n : ℕ) (b′ : List ℕ) → isDone (c .answer) ≡ true → n ≡ numberOf (c .answer) → b′ ≡ writtenAccount (c .account) b → told n b′ ≡ loadIn f b
+  pub load-done : (n : ℕ) (b′ : List ℕ) → isDone (c .answer) ≡ true → n ≡ wordOf (c .answer) → b′ ≡ writtenAccount (c .account) b → told n b′ ≡ loadIn f b
   unfolding filedIn
   load-done n b′ d h g = load-filed (told n b′) (simp d (λ i. told (h i) (g i)))

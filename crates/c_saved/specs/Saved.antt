@@ -5,6 +5,7 @@ use lib.Dec.{eqb}
 use lib.ListN.{length}
 use Rattle.answer.specs.Choice.{pick}
 use Rattle.answer.specs.Numbers.{numberOf, isDone}
+use Rattle.answer.specs.Places.{wordOf}
 use Rattle.answer.specs.declared.Answer.{Answer}
 use Rattle.answer.specs.declared.Answer.the-variants.{Unsound}
 use Rattle.account.specs.declared.account.Account.{Account}
@@ -30,9 +31,9 @@ savedNumber s = pick (isDone (s .answer)) (256 * s .length) (numberOf (s .answer
 unfoldable pub saveIn : List ℕ → List ℕ → Told
 saveIn account file = told (savedNumber (savedTold (accountIn account) (length file))) (savedInto (accountIn account) file)
 
--- the account that was loaded, into bytes of its length; a refusal leaves them as found
+-- the account that was loaded, into bytes of its length; a refusal leaves them as found, and "the saved reader tells the byte place" above the number
 unfoldable pub filedIn : Changed → List ℕ → Told
-filedIn c account = told (numberOf (c .answer)) (pick (isDone (c .answer)) (writtenAccount (c .account) account) account)
+filedIn c account = told (wordOf (c .answer)) (pick (isDone (c .answer)) (writtenAccount (c .account) account) account)
 
 -- "Account bytes of the wrong length answer 11"
 unfoldable pub loadIn : List ℕ → List ℕ → Told

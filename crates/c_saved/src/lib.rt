@@ -23,7 +23,7 @@ pub extern "C" fn tc_save(account: &[u8], file: &mut [u8]) -> u64
     256 * (s.length as u64)
 }
 
-// A refusal leaves the account's bytes as found.
+// A refusal leaves the account's bytes as found. The byte that it tells stands above the answer's byte.
 #[no_mangle]
 pub extern "C" fn tc_load(file: &[u8], account: &mut [u8]) -> u64
     ensures { λ r. ⌜ told r (now (account .exit)) ≡ loadIn (now (file .entry)) (now (account .entry)) ⌝ }
@@ -34,9 +34,9 @@ pub extern "C" fn tc_load(file: &[u8], account: &mut [u8]) -> u64
     let c = load(file);
     let answer = c.answer;
     if !is_done(answer) {
-        return answer::number(answer);
+        return answer::word(answer);
     }
     let a = c.account;
     write_account(a, account);
-    answer::number(answer)
+    answer::word(answer)
 }

@@ -18,20 +18,20 @@ load-requires c κs = search needs
 is-done-requires : tie.Need-is-done-requires
 is-done-requires c κs = search needs
 
-number-requires-2 : tie.Need-number-requires-2
-number-requires-2 c κs = search needs
+word-requires : tie.Need-word-requires
+word-requires c κs = search needs
 
 returns-2 : tie.Need-returns-2
 returns-2 c =
     let d = c .before .before in
     let l = d .before in
-    F.load-refused _ _ (l .before .if1 .left) _ (l .load .ensures) _ (sym (d .is-done .ensures) ∙ not-true _ (c .before .if2 .taken)) (c .number2 .ensures)
+    F.load-refused _ _ (l .before .if1 .left) _ (l .load .ensures) _ (sym (d .is-done .ensures) ∙ not-true _ (c .before .if2 .taken)) (c .word .ensures)
 
 write-account-requires : tie.Need-write-account-requires
 write-account-requires c κs = search needs
 
-number-requires-3 : tie.Need-number-requires-3
-number-requires-3 c κs = search needs
+word-requires-2 : tie.Need-word-requires-2
+word-requires-2 c κs = search needs
 
 same-length : tie.Need-same-length
 same-length c = search needs
@@ -42,7 +42,7 @@ returns-3 c =
     let e = w .before .before .before in
     let d = e .before in
     let l = d .before in
-    F.load-done _ _ (l .before .if1 .left) _ (l .load .ensures) _ _ (sym (d .is-done .ensures) ∙ not-false _ (e .if2 .left)) (c .number3 .ensures) (w .write-account .ensures)
+    F.load-done _ _ (l .before .if1 .left) _ (l .load .ensures) _ _ (sym (d .is-done .ensures) ∙ not-false _ (e .if2 .left)) (c .word2 .ensures) (w .write-account .ensures)
 
 pub tc-load-spec : {M : Type 1} → statement M
 tc-load-spec =
@@ -52,9 +52,9 @@ tc-load-spec =
     returns
     load-requires
     is-done-requires
-    number-requires-2
+    word-requires
     returns-2
     write-account-requires
-    number-requires-3
+    word-requires-2
     same-length
     returns-3)
