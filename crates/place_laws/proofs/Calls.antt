@@ -106,10 +106,11 @@ module _ (ts : List ℕ) (ws : List Float) (ps : List ℕ) (vs : List ℤ) where
   unfolding listsAnswer shortEnough
   place-small =
       by-test Small (shortEnough ts ws ps vs) _ _
-      (λ s. let b = both-true _ _ s in
-        let t : length ts ≤ 64 = leb-true _ _ (both-true _ _ (b .0) .0) in
-        let p : length ps ≤ 128 = leb-true _ _ (both-true _ _ (b .1) .0) in
-        let q : length ps ≡ length vs = eqb-true _ _ (both-true _ _ (b .1) .1) in
+      (λ s. let b = both-true (both (leb (length ts) 64) (eqb (length ts) (length ws))) (both (leb (length ps) 128) (eqb (length ps) (length vs))) s in
+        let t : length ts ≤ 64 = leb-true (length ts) 64 (both-true (leb (length ts) 64) (eqb (length ts) (length ws)) (b .0) .0) in
+        let c = both-true (leb (length ps) 128) (eqb (length ps) (length vs)) (b .1) in
+        let p : length ps ≤ 128 = leb-true (length ps) 128 (c .0) in
+        let q : length ps ≡ length vs = eqb-true (length ps) (length vs) (c .1) in
         by-test Small (allGood ts) _ _
         (λ g. by-test Small (allGood ps) _ _
           (λ h. by-test Small (distinct ts) _ _
