@@ -48,10 +48,13 @@ module _ (a : Account) (ts : List ℕ) (ws : List Float) (ps : List ℕ) (vs : L
     where
       Q : Answer → Type 0
       Q = Says ts ps vs
+
       few : Bool
       few = leb (length (heldIn (a .positions)) + notHeld ts (heldIn (a .positions))) 64
+
       fewer : Answer
       fewer = unless few TooMany Done
+
       later : Answer
       later = unless (hasRoom a 64 room) NoRecordRoom fewer
 
@@ -76,14 +79,16 @@ unfolding closeAnswer
 close-says a s price room =
     by-test Q (soundAccount a) _ _
     (λ e. by-test Q (goodSymbol s) _ _
-      (λ g. by-test Q (leZ (pos 1) price) _ _ (λ p. by-test Q (hasRoom a 1 room) asked NoRecordRoom (λ r. by-test Q standing Done NotHeld (λ h. tt) (λ h. tt)) (λ r. tt)) (λ p. (refl, is-below price p)))
-      (λ g. (refl, g)))
+    (λ g. by-test Q (leZ (pos 1) price) _ _ (λ p. by-test Q (hasRoom a 1 room) asked NoRecordRoom (λ r. by-test Q standing Done NotHeld (λ h. tt) (λ h. tt)) (λ r. tt)) (λ p. (refl, is-below price p)))
+    (λ g. (refl, g)))
     (λ e. tt)
   where
     Q : Answer → Type 0
     Q = SaysAlone s price
+
     standing : Bool
     standing = not (isZero (holding s (heldIn (a .positions)) .quantity .0))
+
     asked : Answer
     asked = unless standing NotHeld Done
 
@@ -96,6 +101,7 @@ position-says s price a =
   where
     Q : Held → Type 0
     Q h = SaysAlone s price (h .answer)
+
     found : (o : Option Position) → Q (presentOr o)
     found none = tt
     found (some p) = tt
@@ -107,21 +113,21 @@ module _ (ts : List ℕ) (ws : List Float) (ps : List ℕ) (vs : List ℤ) where
   place-small =
       by-test Small (shortEnough ts ws ps vs) _ _
       (λ s. let b = both-true (both (leb (length ts) 64) (eqb (length ts) (length ws))) (both (leb (length ps) 128) (eqb (length ps) (length vs))) s in
-        let t : length ts ≤ 64 = leb-true (length ts) 64 (both-true (leb (length ts) 64) (eqb (length ts) (length ws)) (b .0) .0) in
-        let c = both-true (leb (length ps) 128) (eqb (length ps) (length vs)) (b .1) in
-        let p : length ps ≤ 128 = leb-true (length ps) 128 (c .0) in
-        let q : length ps ≡ length vs = eqb-true (length ps) (length vs) (c .1) in
-        by-test Small (allGood ts) _ _
-        (λ g. by-test Small (allGood ps) _ _
-          (λ h. by-test Small (distinct ts) _ _
-            (λ d. by-test Small (distinct ps) _ _
-              (λ e. by-test Small (allFinite ws) _ _
-                (λ f. by-test Small (allPriced vs) _ _ (λ v. omega arith) (λ v. omega (arith, first-unpriced vs v .within)))
-                (λ f. omega arith))
-              (λ e. omega (arith, first-repeat ps e .within)))
-            (λ d. omega (arith, first-repeat ts d .within)))
-          (λ h. omega (arith, first-bad ps h .within)))
-        (λ g. omega (arith, first-bad ts g .within)))
+      let t : length ts ≤ 64 = leb-true (length ts) 64 (both-true (leb (length ts) 64) (eqb (length ts) (length ws)) (b .0) .0) in
+      let c = both-true (leb (length ps) 128) (eqb (length ps) (length vs)) (b .1) in
+      let p : length ps ≤ 128 = leb-true (length ps) 128 (c .0) in
+      let q : length ps ≡ length vs = eqb-true (length ps) (length vs) (c .1) in
+      by-test Small (allGood ts) _ _
+      (λ g. by-test Small (allGood ps) _ _
+      (λ h. by-test Small (distinct ts) _ _
+      (λ d. by-test Small (distinct ps) _ _
+      (λ e. by-test Small (allFinite ws) _ _
+      (λ f. by-test Small (allPriced vs) _ _ (λ v. omega arith) (λ v. omega (arith, first-unpriced vs v .within)))
+      (λ f. omega arith))
+      (λ e. omega (arith, first-repeat ps e .within)))
+      (λ d. omega (arith, first-repeat ts d .within)))
+      (λ h. omega (arith, first-bad ps h .within)))
+      (λ g. omega (arith, first-bad ts g .within)))
       (λ s. omega arith)
     where
       Small : Answer → Type 0

@@ -31,7 +31,7 @@ module _ {A : Type 0} (t : A → Bool) (d : A) where
   fails-there (x ∷ l) h = go (t x) refl h (fails-there l)
     where
       go : (b : Bool) → t x ≡ b → pick b (suc (firstFailing t l)) 0 < suc (length l) → (firstFailing t l < length l → t (getD l (firstFailing t l) d) ≡ false)
-        → t (getD (x ∷ l) (pick b (suc (firstFailing t l)) 0) d) ≡ false
+          → t (getD (x ∷ l) (pick b (suc (firstFailing t l)) 0) d) ≡ false
       go true e h ih = ih (omega arith)
       go false e h ih = e
 
@@ -81,15 +81,17 @@ repeats-there before (s ∷ l) h = go (among s before) refl h (repeats-there (s 
   where
     i : ℕ
     i = repeatAfter (s ∷ before) l
+
     later : EarlierToo l i → EarlierToo (s ∷ l) (suc i)
     later e = record { at = suc (e .at); before = omega (arith, e .before); same = e .same }
+
     go : (b : Bool) → among s before ≡ b → pick b 0 (suc i) < suc (length l) → (i < length l → (among (getD l i 0) (s ∷ before) ≡ true) ⊎ EarlierToo l i)
-      → (among (getD (s ∷ l) (pick b 0 (suc i)) 0) before ≡ true) ⊎ EarlierToo (s ∷ l) (pick b 0 (suc i))
+        → (among (getD (s ∷ l) (pick b 0 (suc i)) 0) before ≡ true) ⊎ EarlierToo (s ∷ l) (pick b 0 (suc i))
     go true e h ih = inl e
     go false e h ih = ⊎-elim
-      (λ a. ⊎-elim (λ (q : s ≡ getD l i 0). inr (record { at = 0; before = omega arith; same = q })) (λ a. inl a) (among-either (getD l i 0) s before a))
-      (λ e. inr (later e))
-      (ih (omega arith))
+        (λ a. ⊎-elim (λ (q : s ≡ getD l i 0). inr (record { at = 0; before = omega arith; same = q })) (λ a. inl a) (among-either (getD l i 0) s before a))
+        (λ e. inr (later e))
+        (ih (omega arith))
 
 new-before : (before l : List ℕ) (j : ℕ) → j < repeatAfter before l → (among (getD l j 0) before ≡ false) × (EarlierToo l j → ⊥)
 unfolding repeatAfter
@@ -98,16 +100,19 @@ new-before before (s ∷ l) j h = go (among s before) refl j h (new-before (s �
   where
     i : ℕ
     i = repeatAfter (s ∷ before) l
+
     at-first : EarlierToo (s ∷ l) 0 → ⊥
     at-first e = omega (arith, e .before)
+
     at-next : (j : ℕ) → (s ≡ getD l j 0 → ⊥) → (EarlierToo l j → ⊥) → EarlierToo (s ∷ l) (suc j) → ⊥
     at-next j n m e = go (e .at) (e .before) (e .same)
       where
         go : (k : ℕ) → k < suc j → getD (s ∷ l) k 0 ≡ getD l j 0 → ⊥
         go zero h q = n q
         go (suc k) h q = m (record { at = k; before = omega arith; same = q })
+
     go : (b : Bool) → among s before ≡ b → (j : ℕ) → j < pick b 0 (suc i) → ((j : ℕ) → j < i → (among (getD l j 0) (s ∷ before) ≡ false) × (EarlierToo l j → ⊥))
-      → (among (getD (s ∷ l) j 0) before ≡ false) × (EarlierToo (s ∷ l) j → ⊥)
+        → (among (getD (s ∷ l) j 0) before ≡ false) × (EarlierToo (s ∷ l) j → ⊥)
     go true e j h ih = absurd (omega arith)
     go false e zero h ih = (e, at-first)
     go false e (suc j) h ih =

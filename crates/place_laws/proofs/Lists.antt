@@ -46,19 +46,19 @@ module _ (ts : List ℕ) (ws : List Float) (ps : List ℕ) (vs : List ℤ) where
   lists-say =
       by-test Q (shortEnough ts ws ps vs) _ _
       (λ s. by-test Q (allGood ts) _ _
-        (λ g. by-test Q (allGood ps) _ _
-          (λ h. let good : GoodSymbols ts ps vs = record { targets = none-bad ts g; prices = none-bad ps h } in
-            by-test Q (distinct ts) _ _
-            (λ d. by-test Q (distinct ps) _ _
-              (λ e. by-test Q (allFinite ws) _ _
-                (λ f. by-test Q (allPriced vs) _ _
-                  (λ p. tt)
-                  (λ p. record { good = good; targets-once = none-twice ts d; prices-once = none-twice ps e; first = first-unpriced vs p }))
-                (λ f. tt))
-              (λ e. record { good = good; targets-once = none-twice ts d; first = first-repeat ps e }))
-            (λ d. record { good = good; first = first-repeat ts d }))
-          (λ h. record { targets-good = none-bad ts g; first = first-bad ps h }))
-        (λ g. first-bad ts g))
+      (λ g. by-test Q (allGood ps) _ _
+      (λ h. let good : GoodSymbols ts ps vs = record { targets = none-bad ts g; prices = none-bad ps h } in
+      by-test Q (distinct ts) _ _
+      (λ d. by-test Q (distinct ps) _ _
+      (λ e. by-test Q (allFinite ws) _ _
+      (λ f. by-test Q (allPriced vs) _ _
+      (λ p. tt)
+      (λ p. record { good = good; targets-once = none-twice ts d; prices-once = none-twice ps e; first = first-unpriced vs p }))
+      (λ f. tt))
+      (λ e. record { good = good; targets-once = none-twice ts d; first = first-repeat ps e }))
+      (λ d. record { good = good; first = first-repeat ts d }))
+      (λ h. record { targets-good = none-bad ts g; first = first-bad ps h }))
+      (λ g. first-bad ts g))
       (λ s. tt)
     where
       Q : Answer → Type 0
