@@ -95,7 +95,9 @@ enum tc_account_word {
 #define TC_RECORD_PLACES 64
 #define TC_WEIGHT_PLACES 64
 
-/* ---- answers: the low eight bits of what an entry returns; above them a count of records or weights, or a file's length */
+/* ---- answers: the low eight bits of what an entry returns, TC_ANSWER. Above them stands, after TC_DONE, a count of records or
+ * weights, or a file's length (TC_COUNT); after a refusal the place that it tells, 0 where it tells none. So a refusal is known
+ * by TC_ANSWER(r) == TC_BAD_PRICE and not by r == TC_BAD_PRICE, and a count is one after TC_DONE alone. */
 enum tc_answer {
     TC_DONE = 0,
     TC_BAD_SETTING = 1,     /* a setting or opening cash is bad, a kind is unknown, or a mark of a group is above 1 */
@@ -120,6 +122,16 @@ enum tc_answer {
 };
 #define TC_ANSWER(r) ((r) & 0xff)
 #define TC_COUNT(r) ((r) >> 8)
+
+/* The place of a refusal, of which 56 bits are kept. TC_BAD_SYMBOL, TC_TWICE and TC_BAD_PRICE tell the first entry that is bad:
+ * its index in its list, from 0, and whether that list is the prices (1) or the targets (0). Targets are examined before prices;
+ * TC_TWICE tells the first entry whose symbol stands earlier in its list. A call with one symbol tells the prices and index 0.
+ * TC_ENDS_EARLY, TC_BAD_NUMBER and TC_LEFT_OVER tell a byte of the file, from 0: its end, the first of the number, the first that
+ * is left over. No other answer tells a place. */
+#define TC_PLACE(r) ((r) >> 8)
+#define TC_INDEX(r) (TC_PLACE(r) >> 1)
+#define TC_IN_PRICES(r) (TC_PLACE(r) & 1)
+#define TC_BYTE(r) TC_PLACE(r)
 
 enum tc_kind { TC_REBALANCE = 0, TC_STOP_EXIT = 1 };
 

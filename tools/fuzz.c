@@ -1,6 +1,6 @@
-/* One file to the proved reader, as libFuzzer calls it: an answer of document 02's, all as found where it is a refusal, and the same file again from
- * what was read where it is none. What is lent ends at a page that can't be touched, and begins after one in every other call, so that a byte read
- * or written beside it ends the run. */
+/* One file to the proved reader, as libFuzzer calls it: an answer of document 02's, at a place in the file, and all as found where it is a refusal, and
+ * the same file again from what was read where it is none. What is lent ends at a page that can't be touched, and begins after one in every other
+ * call, so that a byte read or written beside it ends the run. */
 #define _DEFAULT_SOURCE
 #include "threshcoil.h"
 
@@ -80,7 +80,9 @@ int LLVMFuzzerTestOneInput(const uint8_t *data, size_t count)
         must(tc_cash(account, TC_ACCOUNT_BYTES, cash, sizeof cash) == TC_DONE, "a sound account");
         saved_again(account, file, count, bytes(rooms, count, at_end));
     } else {
-        must(answer == TC_UNSOUND || answer == TC_ENDS_EARLY || answer == TC_BAD_NUMBER || answer == TC_LEFT_OVER, "an answer of a file");
+        uint64_t number = TC_ANSWER(answer), byte = TC_BYTE(answer);
+        must(number == TC_UNSOUND || number == TC_ENDS_EARLY || number == TC_BAD_NUMBER || number == TC_LEFT_OVER, "an answer of a file");
+        must(number == TC_UNSOUND ? byte == 0 : number == TC_ENDS_EARLY ? byte == count : byte < count, "its place in the file");
         must(untouched(account, TC_ACCOUNT_BYTES), "the account as found after a refusal");
     }
     return 0;

@@ -1,5 +1,5 @@
 /* Compiled with the header and linked with the archive: some of document 01's cases, document 02's of request 1, a ceiling of
- * its request 3, a group of its request 2 and a saved account of its request 5, asked from C. */
+ * its request 3, a group of its request 2, a saved account of its request 5 and the places of its request 9, asked from C. */
 #include "threshcoil.h"
 
 #include <stdio.h>
@@ -247,11 +247,17 @@ static void saved_account(void)
 
     memcpy(file, room, sizeof file);
     memset(loaded, 7, sizeof loaded);
-    held("loaded, a part", (int64_t)tc_load(file, sizeof file - 1, loaded, sizeof loaded), TC_ENDS_EARLY);
-    held("loaded, a byte more", (int64_t)tc_load(room, sizeof file + 1, loaded, sizeof loaded), TC_LEFT_OVER);
-    file[0] = 0x81;
-    file[1] = 0;
-    held("loaded, a longer form", (int64_t)tc_load(file, sizeof file, loaded, sizeof loaded), TC_BAD_NUMBER);
+    r = tc_load(file, sizeof file - 1, loaded, sizeof loaded);
+    held("loaded, a part", (int64_t)TC_ANSWER(r), TC_ENDS_EARLY);
+    held("loaded, a part's end", (int64_t)TC_BYTE(r), sizeof file - 1);
+    r = tc_load(room, sizeof file + 1, loaded, sizeof loaded);
+    held("loaded, a byte more", (int64_t)TC_ANSWER(r), TC_LEFT_OVER);
+    held("loaded, that byte", (int64_t)TC_BYTE(r), sizeof file);
+    file[2] |= 0x80;
+    file[3] = 0;
+    r = tc_load(file, sizeof file, loaded, sizeof loaded);
+    held("loaded, a longer form", (int64_t)TC_ANSWER(r), TC_BAD_NUMBER);
+    held("loaded, where it begins", (int64_t)TC_BYTE(r), 1);
     file[0] = 2;
     held("loaded, an unknown form", (int64_t)tc_load(file, sizeof file, loaded, sizeof loaded), TC_UNSOUND);
     held("loaded, into too few bytes", (int64_t)tc_load(room, 0, loaded, sizeof loaded - 1), TC_UNSOUND);
@@ -259,6 +265,46 @@ static void saved_account(void)
     memcpy(file, room, sizeof file);
     held("loaded, answer", (int64_t)tc_load(file, sizeof file, loaded, sizeof loaded), TC_DONE);
     held("loaded, the same account", memcmp(loaded, account, sizeof account), 0);
+}
+
+/* Three targets and three prices, spoiled one way after the other: which of them C is told. */
+static void places(void)
+{
+    uint8_t settings[TC_SETTINGS_BYTES] = {0}, account[TC_ACCOUNT_BYTES], position[TC_POSITION_BYTES];
+    uint8_t targets[3 * TC_TARGET_BYTES] = {0}, prices[3 * TC_PRICE_BYTES] = {0};
+    int64_t equities[1];
+    put(settings, TC_STEP_AT, TC_SCALE);
+    held("place, opening", (int64_t)tc_open(300, settings, sizeof settings, account, sizeof account, equities, 1), TC_DONE);
+    for (size_t i = 0; i < 3; i++) {
+        targets[i * TC_TARGET_BYTES] = prices[i * TC_PRICE_BYTES] = (uint8_t)('A' + i);
+        put(prices, 2 * i + 1, 5);
+    }
+    struct {
+        const char *what;
+        uint8_t *entry, text;
+        size_t word;
+        uint64_t answer, index, in_prices;
+    } spoiled[] = {
+        {"place, a price below 1", prices + 2 * TC_PRICE_BYTES, 'C', 1, TC_BAD_PRICE, 2, 1},
+        {"place, a price twice", prices + 2 * TC_PRICE_BYTES, 'A', 0, TC_TWICE, 2, 1},
+        {"place, a target twice", targets + TC_TARGET_BYTES, 'A', 0, TC_TWICE, 1, 0},
+        {"place, a price's bad symbol", prices, ' ', 0, TC_BAD_SYMBOL, 0, 1},
+        {"place, a target's bad symbol", targets + 2 * TC_TARGET_BYTES, ' ', 0, TC_BAD_SYMBOL, 2, 0},
+    };
+    /* Each comes before those that stay. */
+    for (size_t i = 0; i < sizeof spoiled / sizeof spoiled[0]; i++) {
+        put(spoiled[i].entry, spoiled[i].word, spoiled[i].word == 0 ? spoiled[i].text : 0);
+        uint64_t r = tc_rebalance_simple(account, sizeof account, targets, sizeof targets, prices, sizeof prices, 0, TC_REBALANCE,
+                                         position, 0);
+        held(spoiled[i].what, (int64_t)TC_ANSWER(r), (int64_t)spoiled[i].answer);
+        held(spoiled[i].what, (int64_t)TC_INDEX(r), (int64_t)spoiled[i].index);
+        held(spoiled[i].what, (int64_t)TC_IN_PRICES(r), (int64_t)spoiled[i].in_prices);
+        held(spoiled[i].what, (int64_t)TC_PLACE(r), (int64_t)(2 * spoiled[i].index + spoiled[i].in_prices));
+    }
+    uint64_t r = tc_position(account, sizeof account, 0, position, sizeof position);
+    held("place, one symbol", (int64_t)TC_ANSWER(r), TC_BAD_SYMBOL);
+    held("place, its index", (int64_t)TC_INDEX(r), 0);
+    held("place, its list", (int64_t)TC_IN_PRICES(r), 1);
 }
 
 int main(void)
@@ -270,6 +316,7 @@ int main(void)
     ceiling_of_an_account();
     house_return();
     saved_account();
+    places();
     if (failures == 0)
         printf("header: the cases asked from C are as documents 01 and 02 say\n");
     return failures != 0;
