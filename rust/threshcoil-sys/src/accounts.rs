@@ -1,8 +1,8 @@
 //! Accounts in lent bytes. Each line stands as in the Rattle source: a slice goes over as its pointer and its count.
 //!
-//! Every value is eight bytes, little-endian; a symbol stands as its text; `layout` has the words of settings and accounts. An
-//! answer has the documents' number in its low eight bits and a count of records or weights, or a file's length, above them.
-//! After a refusal every lent byte is as found.
+//! Every value is eight bytes, little-endian; a symbol stands as its text; `layout` has the words of settings and accounts. What is
+//! returned has the documents' number in its low eight bits. Above them stands a count of records or weights, or a file's length;
+//! after a refusal the place that it tells: `answer` has the parts. After a refusal every lent byte is as found.
 
 /// Declares an entry and wraps it for slices, one parameter after the other.
 #[doc(hidden)]

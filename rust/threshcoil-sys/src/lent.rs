@@ -1,5 +1,5 @@
-//! Leaves that are lent slices of numbers. Each returns the documents' number and 256 times a count of records; a refusal leaves
-//! every slice as found.
+//! Leaves that are lent slices of numbers. Each returns the documents' number and 256 times a count of records, or 256 times the place
+//! that a refusal tells; a refusal leaves every slice as found.
 #![allow(clippy::too_many_arguments)]
 
 crate::entries! {

@@ -3,6 +3,7 @@
 //! here against its Rattle source but the differential runs.
 
 mod accounts;
+pub mod answer;
 pub mod layout;
 mod lent;
 pub use accounts::*;
