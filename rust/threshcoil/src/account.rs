@@ -1,9 +1,10 @@
 //! The account and its calls.
 
 use crate::bytes;
+use crate::entry::Given;
 use crate::list::{Prices, Targets};
 use crate::record;
-use crate::refusal::told;
+use crate::refusal::{told, told_of};
 use crate::settings;
 use crate::{Context, CostModel, ExecutionRecord, Price, Refusal, Saved, Settings, Shares, Symbol, Target, Weights};
 use std::fmt;
@@ -81,8 +82,8 @@ impl Account {
     /// # let account = Account::open(50_000, &Settings::new(CostModel::default()), &mut [0])?;
     /// let file = account.saved().to_vec();
     /// assert_eq!(Account::load(&file)?, account);
-    /// assert_eq!(Account::load(&file[..20]), Err(Refusal::EndsEarly));
-    /// assert_eq!(Account::load(&[&file[..], &[0]].concat()), Err(Refusal::LeftOver));
+    /// assert_eq!(Account::load(&file[..20]), Err(Refusal::EndsEarly(20)));
+    /// assert_eq!(Account::load(&[&file[..], &[0]].concat()), Err(Refusal::LeftOver(file.len())));
     /// # Ok::<(), Refusal>(())
     /// ```
     pub fn load(file: &[u8]) -> Result<Account, Refusal> {
@@ -237,7 +238,7 @@ impl Account {
     /// The position of a symbol, flat ones too.
     pub fn position(&self, symbol: Symbol) -> Result<Option<Position>, Refusal> {
         let mut out = [0; layout::POSITION_SIZE];
-        told(port::tc_position(&self.0, symbol.number(), &mut out))?;
+        told_of(port::tc_position(&self.0, symbol.number(), &mut out), Given::Only(symbol))?;
         Ok(position_of(&out))
     }
 
@@ -253,21 +254,23 @@ impl Account {
     /// Cash and the value of the positions; one without a price counts 0.
     pub fn total_equity(&self, prices: &[Price]) -> Result<i64, Refusal> {
         let mut out = [0; 8];
-        told(port::tc_total_equity(&self.0, Prices::new(prices).as_bytes(), &mut out))?;
+        told_of(port::tc_total_equity(&self.0, Prices::new(prices).as_bytes(), &mut out), Given::Lists(&[], prices))?;
         Ok(i64::from_le_bytes(out))
     }
 
     /// The weights of open positions, in symbol order; none at equity 0.
     pub fn current_weights(&self, prices: &[Price]) -> Result<Weights, Refusal> {
         let mut out = [0; layout::WEIGHTS_SIZE];
-        let count = told(port::tc_current_weights(&self.0, Prices::new(prices).as_bytes(), &mut out))?;
+        let answer = port::tc_current_weights(&self.0, Prices::new(prices).as_bytes(), &mut out);
+        let count = told_of(answer, Given::Lists(&[], prices))?;
         Ok(Weights::of_bytes(&out, count))
     }
 
     /// The first open position, in symbol order, that has no price.
     pub fn unpriced_holding(&self, prices: &[Price]) -> Result<Option<Symbol>, Refusal> {
         let mut out = [0; layout::ENTRY_SIZE];
-        told(port::tc_unpriced_holding(&self.0, Prices::new(prices).as_bytes(), &mut out))?;
+        let answer = port::tc_unpriced_holding(&self.0, Prices::new(prices).as_bytes(), &mut out);
+        told_of(answer, Given::Lists(&[], prices))?;
         let [mark, symbol] = bytes::take(&out);
         Ok((u64::from_le_bytes(mark) == 1).then_some(Symbol::from_padded(symbol)))
     }
@@ -275,7 +278,8 @@ impl Account {
     /// The account at these prices.
     pub fn snapshot(&self, prices: &[Price]) -> Result<Snapshot, Refusal> {
         let (mut out, mut weights) = ([0; layout::SNAPSHOT_SIZE], [0; layout::WEIGHTS_SIZE]);
-        let count = told(port::tc_snapshot(&self.0, Prices::new(prices).as_bytes(), &mut out, &mut weights))?;
+        let answer = port::tc_snapshot(&self.0, Prices::new(prices).as_bytes(), &mut out, &mut weights);
+        let count = told_of(answer, Given::Lists(&[], prices))?;
         let [cash, equity, open, realized, _] = bytes::take(&out);
         let [cash, equity, total_realized_pnl] = [cash, equity, realized].map(i64::from_le_bytes);
         let (weights, num_positions) = (Weights::of_bytes(&weights, count), u64::from_le_bytes(open));
@@ -293,10 +297,11 @@ impl Account {
     ) -> Result<usize, Refusal> {
         let mut out = [0; layout::PLACES * layout::RECORD_SIZE];
         let room = &mut out[..records.len().min(layout::PLACES) * layout::RECORD_SIZE];
+        let given = Given::Lists(targets, prices);
         let (targets, prices) = (Targets::new(targets), Prices::new(prices));
         let (period, kind) = (context.period_index, context.kind.number());
         let answer = port::tc_rebalance_simple(&mut self.0, targets.as_bytes(), prices.as_bytes(), period, kind, room);
-        let count = told(answer)?;
+        let count = told_of(answer, given)?;
         record::read(records, count, &out);
         Ok(count)
     }
@@ -313,15 +318,15 @@ impl Account {
         let room = &mut out[..records.len().min(1) * layout::RECORD_SIZE];
         let (period, kind) = (context.period_index, context.kind.number());
         let answer = port::tc_close_position_at(&mut self.0, symbol.number(), price, period, kind, room);
-        let count = told(answer)?;
+        let count = told_of(answer, Given::Only(symbol))?;
         record::read(records, count, &out);
         Ok(count)
     }
 
     /// Writes the equity at these prices and, where one is due, the return since the last, each at the account's count.
     pub fn record_return(&mut self, prices: &[Price], equity: &mut [i64], returns: &mut [f64]) -> Result<(), Refusal> {
-        let prices = Prices::new(prices);
-        told(port::tc_record_return(&mut self.0, prices.as_bytes(), equity, returns)).map(drop)
+        let answer = port::tc_record_return(&mut self.0, Prices::new(prices).as_bytes(), equity, returns);
+        told_of(answer, Given::Lists(&[], prices)).map(drop)
     }
 
     fn counter(&self, word: Counter) -> bytes::Word {

@@ -4,7 +4,8 @@
 //! The work is done by proved Rattle crates, reached through their C interface; here it has the names and types
 //! that Rust callers expect. An [`Account`] owns its bytes and a [`Group`] its equities, and everything else that a call fills
 //! is lent by the caller: nothing allocates, and no input makes a call panic. What a call does not accept it refuses, by a
-//! [`Refusal`], and then the account and every lent place are as they were.
+//! [`Refusal`] that says which entry of its lists or which byte of its file was bad, and then the account and every lent place are as
+//! they were.
 //!
 //! Money is in cents, quantities are micro-shares (see [`Shares`]), rates are basis points.
 //!
@@ -36,6 +37,7 @@
 
 mod account;
 mod bytes;
+mod entry;
 mod figures;
 mod house;
 mod list;
@@ -43,8 +45,10 @@ mod record;
 mod refusal;
 mod saved;
 mod settings;
+mod spelling;
 
 pub use account::{Account, Position, Snapshot};
+pub use entry::{Entry, List};
 pub use figures::{Figures, figures};
 pub use house::{AccountId, AnotherGroup, Group, HouseReturn, Part, PartReturn};
 pub use list::{Price, Shares, Symbol, Target, Weight, Weights};
@@ -52,3 +56,4 @@ pub use record::{Context, ExecutionKind, ExecutionRecord};
 pub use refusal::Refusal;
 pub use saved::Saved;
 pub use settings::{CostModel, Settings};
+pub use spelling::Spelling;

@@ -1,8 +1,8 @@
 //! Symbols, and what lists pair them with.
 
-use crate::Refusal;
 use crate::bytes::{self, Word};
-use std::fmt::{self, Write};
+use crate::{Entry, Refusal, Spelling};
+use std::fmt;
 use threshcoil_sys::layout;
 
 /// One to eight bytes from 33 to 126, padded with zeros; ordered by bytes.
@@ -12,11 +12,12 @@ pub struct Symbol([u8; 8]);
 impl Symbol {
     /// The symbol of a text, or [`Refusal::BadSymbol`].
     pub fn new(text: &str) -> Result<Symbol, Refusal> {
+        let bad = Refusal::BadSymbol(Entry::Only { symbol: Spelling::of_text(text) });
         let mut padded = [0; 8];
-        let place = padded.get_mut(..text.len()).ok_or(Refusal::BadSymbol)?;
+        let place = padded.get_mut(..text.len()).ok_or(bad)?;
         place.copy_from_slice(text.as_bytes());
         let symbol = Symbol(padded);
-        if symbol.is_good() && symbol.as_bytes().len() == text.len() { Ok(symbol) } else { Err(Refusal::BadSymbol) }
+        if symbol.is_good() && symbol.as_bytes().len() == text.len() { Ok(symbol) } else { Err(bad) }
     }
 
     /// The symbol of eight padded bytes, good or not: calls refuse a bad one.
@@ -34,9 +35,9 @@ impl Symbol {
         threshcoil_sys::tc_good_symbol(self.number())
     }
 
-    /// The bytes without their padding.
+    /// The bytes without their padding. A bad one may have zeros before its last byte, and keeps them.
     pub fn as_bytes(&self) -> &[u8] {
-        let length = self.0.iter().position(|byte| *byte == 0).unwrap_or(8);
+        let length = self.0.iter().rposition(|byte| *byte != 0).map_or(0, |last| last + 1);
         &self.0[..length]
     }
 
@@ -48,13 +49,7 @@ impl Symbol {
 /// As it is; of a bad one, what can't be shown is escaped.
 impl fmt::Display for Symbol {
     fn fmt(&self, f: &mut fmt::Formatter<'_>) -> fmt::Result {
-        for part in self.as_bytes().utf8_chunks() {
-            for c in part.valid().chars() {
-                if c.is_control() { write!(f, "{}", c.escape_default())? } else { f.write_char(c)? }
-            }
-            write!(f, "{}", part.invalid().escape_ascii())?;
-        }
-        Ok(())
+        Spelling::from(*self).fmt(f)
     }
 }
 

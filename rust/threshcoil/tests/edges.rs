@@ -1,8 +1,8 @@
 //! The edges that document 01 names beside its cases a to l, and each answer number for its first and its last reason.
 
 use threshcoil::{
-    Account, Context, CostModel, ExecutionKind, ExecutionRecord, Price, Refusal, Settings, Shares, Symbol, Target,
-    figures,
+    Account, Context, CostModel, Entry, ExecutionKind, ExecutionRecord, Price, Refusal, Settings, Shares, Symbol,
+    Target, figures,
 };
 use threshcoil_sys as port;
 use threshcoil_sys::layout::{self, Column, Counter, Kind, Setting};
@@ -165,7 +165,9 @@ fn two_is_a_bad_symbol() {
         last[127].symbol = bad(bytes);
         assert_eq!(refused(&account, &targets(64, 0.0), &last, 64), 2);
     }
-    assert_eq!(account.position(bad(b"a b\0\0\0\0\0")), Err(Refusal::BadSymbol));
+    let spaced = bad(b"a b\0\0\0\0\0");
+    let only = Entry::Only { symbol: spaced.into() };
+    assert_eq!(account.position(spaced), Err(Refusal::BadSymbol(only)));
 }
 
 #[test]
@@ -186,7 +188,8 @@ fn four_is_a_price_below_one() {
     last[127].price = i64::MIN;
     assert_eq!(refused(&account, &[], &last, 64), 4);
     let mut held = opened(1_000, |_| ());
-    assert_eq!(held.close_position_at(nth(0), 0, NOW, &mut [EMPTY; 1]), Err(Refusal::BadPrice));
+    let only = Entry::Only { symbol: nth(0).into() };
+    assert_eq!(held.close_position_at(nth(0), 0, NOW, &mut [EMPTY; 1]), Err(Refusal::BadPrice(only)));
 }
 
 #[test]

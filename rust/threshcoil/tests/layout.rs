@@ -228,6 +228,42 @@ fn queries_tell_what_the_document_has() {
     assert!(rest.iter().all(|b| *b == 0xaa));
 }
 
+/// Each refusal of the page's table on answers, by what it says is returned.
+#[test]
+fn refusals_tell_their_place_as_the_page_has_it() {
+    let cells =
+        |line: &'static str| Some(line.strip_prefix("| ")?.strip_suffix(" |")?.split(" | ").collect::<Vec<_>>());
+    let word = |cell: &str| u64::from_str_radix(cell.strip_prefix("`0x")?.split('`').next()?, 16).ok();
+    let table: Vec<(&str, u64)> = section("Answers")
+        .lines()
+        .filter_map(cells)
+        .filter_map(|cells| Some((*cells.get(2)?, word(cells.get(3)?)?)))
+        .collect();
+    let (mut account, _) = run();
+    let mut file = vec![0; layout::FILE_SIZE];
+    assert_eq!(port::tc_save(&account, &mut file), 55 << 8);
+    file.truncate(55);
+    assert_eq!(file[1..3], [0x88, 0x0e], "the cash");
+    let longer = [&file[..1], &[0x88, 0x8e, 0], &file[3..]].concat();
+    let (target, price) = (row("Lists", "target"), row("Lists", "price"));
+    let prices: Vec<u8> = (0..18u8).flat_map(|k| [&[b'A' + k], &price[1..8], &[k ^ 17], &[0; 7]].concat()).collect();
+    let mut other = account.clone();
+    let returned = [
+        (
+            "a rebalance with that target twice",
+            port::tc_rebalance_simple(&mut account, &[&target[..], &target].concat(), &price, 0, 0, &mut []),
+        ),
+        ("the equity at 18 prices, the last of them 0", port::tc_total_equity(&account, &prices, &mut [0; 8])),
+        ("the position of the symbol 0", port::tc_position(&account, 0, &mut [0; layout::POSITION_SIZE])),
+        ("the first 20 bytes of its file (SAVED.md)", port::tc_load(&file[..20], &mut other)),
+        ("its file with the cash as `88 8e 00`", port::tc_load(&longer, &mut other)),
+        ("its file and a byte more", port::tc_load(&[&file[..], &[0]].concat(), &mut other)),
+        ("a rebalance of an unknown kind", port::tc_rebalance_simple(&mut account, &target, &price, 0, 2, &mut [])),
+    ];
+    assert_eq!(table, returned);
+    assert_eq!(account, other, "as found");
+}
+
 /// The cells of a row of the group's table, 'any' as a number that must not matter.
 fn group_row(begins: &str) -> Vec<i64> {
     let start = format!("| {begins} |");

@@ -137,24 +137,28 @@ fn numbers_are_as_the_page_has_them() {
     assert_eq!(tried, 17);
 }
 
-/// Each refusal of the page by its shortest file: whatever is shorter ends early, or is good where a byte is left over.
+/// The number that a file is answered, and the byte that is told.
+fn told(file: &[u8]) -> (u64, Option<usize>) {
+    Account::load(file).map_or_else(|refusal| (refusal.number(), refusal.byte()), |_| (0, None))
+}
+
+/// Each refusal of the page by its shortest file: whatever is shorter ends early, at its end, or is good where a byte is left over.
 #[test]
 fn refusals_are_as_the_page_has_them() {
-    let told = |file: &[u8]| Account::load(file).map_or_else(Refusal::number, |_| 0);
     let table = rows("What is refused");
-    assert_eq!(table.len(), 13);
+    assert_eq!(table.len(), 14);
     for cells in table {
-        let file = bytes(cells[2]);
-        assert_eq!(told(&file), cells[0].parse().expect("an answer"), "{}", cells[1]);
-        let shorter: Vec<u64> = (0..file.len()).map(|n| told(&file[..n])).collect();
-        let mut expected = vec![16; file.len()];
+        let file = bytes(cells[3]);
+        assert_eq!(told(&file), (cells[0].parse().expect("an answer"), cells[2].parse().ok()), "{}", cells[1]);
+        let shorter: Vec<_> = (0..file.len()).map(|n| told(&file[..n])).collect();
+        let mut expected: Vec<_> = (0..file.len()).map(|n| (16, Some(n))).collect();
         if cells[0] == "18" {
-            *expected.last_mut().expect("a byte") = 0;
+            *expected.last_mut().expect("a byte") = (0, None);
         }
         assert_eq!(shorter, expected, "{}", cells[1]);
     }
     let good = bytes(PAGE.split("the shortest good file: ").nth(1).expect("the shortest good file"));
-    assert_eq!((told(&good), good.len()), (0, 23));
+    assert_eq!((told(&good), good.len()), ((0, None), 23));
 }
 
 /// A file that was written while form 1 was the newest, no field of it as at opening.
@@ -196,7 +200,7 @@ fn the_longest_file_is_as_long_as_it_is_said_to_be() {
     let file = account.saved();
     assert_eq!((file.len(), Account::FILE_SIZE), (3_328, 3_328));
     assert_eq!(Account::load(&file), Ok(account));
-    assert!((0..file.len()).all(|n| Account::load(&file[..n]) == Err(Refusal::EndsEarly)));
+    assert!((0..file.len()).all(|n| Account::load(&file[..n]) == Err(Refusal::EndsEarly(n))));
     let header = include_str!("../../../include/threshcoil.h");
     assert!(header.contains("#define TC_FILE_BYTES 3328 "));
 }
@@ -233,7 +237,7 @@ fn eleven_for_another_length_comes_before_the_file() {
         assert!(account.iter().all(|byte| *byte == 0x5a), "as found");
     }
     let mut account = [0x5a; Account::SIZE];
-    for (file, answer) in [(&file[..9], 16), (&[0x80, 0][..], 17), (&[0][..], 11)] {
+    for (file, answer) in [(&file[..9], 16 + 256 * 9), (&[1, 0x80, 0][..], 17 + 256), (&[0][..], 11)] {
         assert_eq!(port::tc_load(file, &mut account), answer);
         assert_eq!(account, [0x5a; Account::SIZE], "as found");
     }
@@ -251,7 +255,8 @@ fn no_two_files_give_one_account() {
     for k in 0..at {
         if file[k] < 0x80 {
             let longer = [&file[..k], &[file[k] | 0x80, 0], &file[k + 1..]].concat();
-            assert_eq!(Account::load(&longer), Err(Refusal::BadNumber), "at {k}");
+            let first = (0..k).rev().find(|before| file[*before] < 0x80).map_or(0, |before| before + 1);
+            assert_eq!(Account::load(&longer), Err(Refusal::BadNumber(first)), "at {k}");
         }
     }
 }
