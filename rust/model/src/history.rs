@@ -102,7 +102,7 @@ pub fn run(start: Start, plan: &Plan, stop: bool, mut told: impl FnMut(usize, &T
                 now.refused.extend(unpriced(&account, period));
             }
             Some(Err(refusal)) => {
-                let line = bad_prices(&account, period).unwrap_or(period.line);
+                let line = told_line(period, refusal).or_else(|| bad_prices(&account, period)).unwrap_or(period.line);
                 now.refused.push(Refused { line, what: "the period's return".into(), why: Why::Library(refusal) });
             }
         }
@@ -155,7 +155,8 @@ fn trade(account: &mut Account, index: u64, period: &Period, now: &mut Told) {
         Ok(filled) => now.fills.extend(&records[..filled]),
         Err(refusal) => {
             let first = lines.first().map_or(period.line, |said| said.line);
-            let line = bad_targets(account, lines).or(bad_prices(account, period)).unwrap_or(first);
+            let by_itself = || bad_targets(account, lines).or_else(|| bad_prices(account, period));
+            let line = told_line(period, refusal).or_else(by_itself).unwrap_or(first);
             now.refused.push(Refused { line, what: "the rebalance".into(), why: Why::Library(refusal) });
         }
     }
@@ -170,7 +171,12 @@ fn unpriced(account: &Account, period: &Period) -> Vec<Refused> {
         .collect()
 }
 
-/// The first line whose prices are refused by themselves; none where the fault is between lines.
+/// The line of the entry that a refusal tells.
+fn told_line(period: &Period, refusal: Refusal) -> Option<usize> {
+    refusal.entry().and_then(|entry| period.line_at(entry.list(), entry.index()))
+}
+
+/// Of a refusal that tells no entry, the first line whose prices are refused by themselves; none where the fault is between lines.
 fn bad_prices(account: &Account, period: &Period) -> Option<usize> {
     let refused = |prices: &[Price]| account.total_equity(prices).is_err();
     period.prices.iter().find(|said| refused(&said.what)).map(|said| said.line)

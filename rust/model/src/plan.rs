@@ -1,7 +1,7 @@
 //! A model portfolio as a text file has it: the opening, the settings, and what each period asks for.
 
 use crate::lines::{Said, cents, lines, scaled};
-use threshcoil::{CostModel, Price, Settings, Shares, Symbol, Target};
+use threshcoil::{CostModel, List, Price, Settings, Shares, Symbol, Target};
 
 #[derive(Clone, Debug)]
 pub struct Close {
@@ -37,6 +37,18 @@ impl Period {
     pub fn all_targets(&self) -> Vec<Target> {
         self.targets.iter().flatten().flat_map(|said| said.what.iter().copied()).collect()
     }
+
+    /// The line on which the entry at an index of a list stands.
+    pub fn line_at(&self, list: List, index: usize) -> Option<usize> {
+        match list {
+            List::Targets => line_of_nth(self.targets.as_deref().unwrap_or_default(), index),
+            List::Prices => line_of_nth(&self.prices, index),
+        }
+    }
+}
+
+fn line_of_nth<T>(lines: &[Said<Vec<T>>], index: usize) -> Option<usize> {
+    lines.iter().flat_map(|said| said.what.iter().map(|_| said.line)).nth(index)
 }
 
 #[derive(Clone, Debug)]
@@ -223,6 +235,16 @@ mod tests {
         assert_eq!(plan.periods[0].all_targets().len(), 1);
         assert!(plan.periods[0].all_prices().is_empty());
         assert!(unread.iter().all(|u| !u.opening));
+    }
+
+    #[test]
+    fn an_entry_stands_on_its_line() {
+        let (plan, _) = read("period one\nprices A 1.00 B 1.00\ntargets A 0.5\nprices\nprices C 1.00\ntargets B 0.5\n");
+        let [prices, targets] = [List::Prices, List::Targets]
+            .map(|list| (0..4).map(|index| plan.periods[0].line_at(list, index)).collect::<Vec<_>>());
+        assert_eq!(prices, [Some(2), Some(2), Some(5), None]);
+        assert_eq!(targets, [Some(3), Some(6), None, None]);
+        assert_eq!(read("period one\n").0.periods[0].line_at(List::Targets, 0), None);
     }
 
     #[test]

@@ -113,11 +113,13 @@ impl Drop for New {
     }
 }
 
-/// As many bytes of a file as tell whether it is a saved account: one more than any has.
+/// More bytes than any numbers take that a saved account could be read from, sound or not: a file is refused for them, at its place in
+/// them, as it would be for all of its bytes.
+const FRONT: u64 = 4_096;
+
 fn front(file: &Path) -> io::Result<Vec<u8>> {
     let mut bytes = Vec::new();
-    let most = Account::FILE_SIZE as u64 + 1;
-    let read = std::fs::File::open(file).and_then(|found| found.take(most).read_to_end(&mut bytes));
+    let read = std::fs::File::open(file).and_then(|found| found.take(FRONT).read_to_end(&mut bytes));
     read.map_err(|e| named(file, e))?;
     Ok(bytes)
 }

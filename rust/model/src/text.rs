@@ -5,7 +5,7 @@ use crate::plan::{Plan, SHARE};
 use crate::saved::Start;
 use std::io::{self, Write};
 use std::path::Path;
-use threshcoil::{ExecutionKind, ExecutionRecord, Figures, Refusal, Shares};
+use threshcoil::{Entry, ExecutionKind, ExecutionRecord, Figures, Refusal, Shares};
 
 /// Cents as units with two decimals and grouped thousands.
 pub fn money(cents: i64) -> String {
@@ -60,15 +60,22 @@ pub fn count(n: usize, noun: &str) -> String {
     format!("{n} {noun}{}", if n == 1 { "" } else { "s" })
 }
 
+/// That something was refused, and why. An entry of a list stands first, behind the line that it stands on.
 pub fn refused(what: &str, refusal: Refusal) -> String {
-    format!("{what} was refused, {}: {refusal}", refusal.number())
+    let number = refusal.number();
+    match refusal.entry() {
+        None => format!("{what} was refused, {number}: {refusal}"),
+        Some(Entry::Target { .. } | Entry::Price { .. }) => format!("{refusal}; {what} was refused, {number}"),
+        // What was refused has the symbol in its name.
+        Some(Entry::Only { .. }) => format!("{what} was refused, {number}: {}", refusal.meaning()),
+    }
 }
 
 /// Why a file is no saved account, in words that say what to do about it.
 pub fn bad_file(file: &Path, refusal: Refusal) -> String {
     let then = match refusal {
-        Refusal::EndsEarly => "a part of it was lost",
-        Refusal::BadNumber | Refusal::LeftOver => "it is damaged, or no saved account",
+        Refusal::EndsEarly(_) => "a part of it was lost",
+        Refusal::BadNumber(_) | Refusal::LeftOver(_) => "it is damaged, or no saved account",
         _ => "it is damaged, or of a form that is not known here",
     };
     format!("{}: {}; {then}", file.display(), refused("the saved account", refusal))

@@ -38,7 +38,7 @@ fn what_the_feed_lost_is_told_and_the_account_stays() {
     assert_eq!(out.status.code(), Some(1));
     let (said, page) = (said(&out), page.unwrap());
     for (line, why) in [
-        (line_of("INDIGO 0.00"), "the period's return was refused, 4: a price is below 1"),
+        (line_of("INDIGO 0.00"), "price 8 (`INDIGO`): a price is below 1; the period's return was refused, 4"),
         (line_of("close LUMEN"), "the close of LUMEN was refused, 9: a close names an absent or flat position"),
     ] {
         assert!(said.contains(&format!(":{line}: {why}")), "{said}");
@@ -56,15 +56,61 @@ fn a_bad_line_is_told_with_its_number_and_the_run_goes_on() {
     let (out, page) = model("bad", Some(BAD), &[]);
     assert_eq!(out.status.code(), Some(1));
     let said = said(&out);
-    assert!(said.contains(":3: the rebalance was refused, 3: a symbol stands twice in one list"), "{said}");
+    let twice = "price 1 (`A`): a symbol stands twice in one list; the rebalance was refused, 3";
+    assert!(said.contains(&format!(":3: {twice}\n")), "{said}");
     assert!(said.contains(":7: 'what' is neither"), "{said}");
     assert!(said.contains("two\n  equity 1,000.00"), "{said}");
     let page = page.unwrap();
     let listed: Vec<&str> = page.lines().filter(|l| l.starts_with("<li>")).collect();
     assert_eq!(listed.len(), 3, "{listed:?}");
-    assert!(listed[0].starts_with("<li>one, line 3: the rebalance was refused, 3:"), "{listed:?}");
+    assert_eq!(listed[0], format!("<li>one, line 3: {twice}</li>"));
     assert!(listed[2].starts_with("<li>line 7: 'what' is neither"), "{listed:?}");
     assert!(page.find(BOX) < page.find("<h2>Equity"), "the box stands above the curves");
+}
+
+/// Lists on several lines each, and what a change of the file is refused for, on which line.
+#[test]
+fn a_refused_entry_is_told_on_its_line() {
+    let lists = "cash 100.00\nperiod one\nprices A 1.00 B 1.00\nprices C 1.00 D 1.00\nprices E 1.00\n\
+                 targets A 0.1 B 0.1\ntargets C 0.1\ntargets D 0.1 E 0.1\n";
+    let (out, page) = model("entry-none", Some(lists), &[]);
+    assert!(out.status.success() && !page.unwrap().contains(BOX), "{}", said(&out));
+    let (rebalance, both) = (&["the rebalance"][..], &["the rebalance", "the period's return"][..]);
+    for (name, from, to, line, entry, number, refused) in [
+        ("price", "D 1.00", "D 0.00", 4, "price 3 (`D`): a price is below 1", 4, both),
+        ("prices", "C 1.00 D 1.00", "C -1.00 D 0", 4, "price 2 (`C`): a price is below 1", 4, both),
+        ("symbol", "E 1.00", "\u{dc}&\u{202e} 1.00", 5, "price 4 (`\u{dc}&\\u{202e}`): a symbol is bad", 2, both),
+        ("first", "A 1.00 B", "\u{1b}[1m 1.00 B", 3, "price 0 (`\\u{1b}[1m`): a symbol is bad", 2, both),
+        ("twice", "C 1.00 D", "B 1.00 B", 4, "price 2 (`B`): a symbol stands twice in one list", 3, both),
+        ("pairs", "C 1.00 D 1.00\nprices E", "B 1.00 X 1.00\nprices A", 4, "price 2 (`B`): a symbol stands", 3, both),
+        ("target", "C 0.1", "\u{dc} 0.1", 7, "target 2 (`\u{dc}`): a symbol is bad", 2, rebalance),
+        ("targets", "E 0.1", "A 0.1", 8, "target 4 (`A`): a symbol stands twice in one list", 3, rebalance),
+        (
+            "before",
+            "E 1.00\ntargets A 0.1 B",
+            "\u{dc} 1.00\ntargets A 0.1 A",
+            5,
+            "price 4 (`\u{dc}`): a symbol is",
+            2,
+            both,
+        ),
+    ] {
+        assert!(lists.contains(from), "{name}");
+        let (out, page) = model(&format!("entry-{name}"), Some(&lists.replacen(from, to, 1)), &[]);
+        assert_eq!(out.status.code(), Some(1), "{name}");
+        let (said, page) = (said(&out), page.unwrap());
+        let told: Vec<&str> = said.lines().filter(|l| l.contains(".txt:")).collect();
+        let listed: Vec<&str> = page.lines().filter(|l| l.starts_with("<li>")).collect();
+        assert_eq!((told.len(), listed.len()), (refused.len(), refused.len()), "{name}: {said}");
+        for ((what, told), listed) in refused.iter().zip(told).zip(listed) {
+            let end = format!("; {what} was refused, {number}");
+            assert!(told.contains(&format!(".txt:{line}: {entry}")) && told.ends_with(&end), "{name}: {told}");
+            let entry = entry.replace('&', "&amp;");
+            assert!(listed.starts_with(&format!("<li>one, line {line}: {entry}")), "{name}: {listed}");
+            assert!(listed.ends_with(&format!("{end}</li>")), "{name}: {listed}");
+        }
+        assert!(!said.contains(['\u{1b}', '\u{202e}']) && !page.contains(['\u{1b}', '\u{202e}']), "{name}");
+    }
 }
 
 #[test]

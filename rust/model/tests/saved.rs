@@ -120,26 +120,41 @@ fn without_its_history_the_page_begins_at_the_account() {
     );
 }
 
+/// The most bytes that a file is read for: every number of ten groups, three rates among them, which are no sound account's.
+fn most_numbers() -> Vec<u8> {
+    let ten = |count: usize| [[0xff; 9].as_slice(), &[1]].concat().repeat(count);
+    let position = [b"\x08SYMBOL00".to_vec(), ten(4)].concat();
+    let settings = [vec![1], ten(1 + 4 + 1 + 3), vec![1], ten(1 + 1), vec![1, 1]].concat();
+    let file = [settings, ten(4 + 1 + 2 + 1), vec![64], position.repeat(64)].concat();
+    assert_eq!(file.len(), 3_331);
+    file
+}
+
 #[test]
 fn a_file_that_is_no_saved_account_is_told() {
     let file = fresh("bad.account");
     run("bad-run", EXAMPLE, None, Some("bad.account"));
     let good = bytes("bad.account").unwrap();
+    // The last group of the cash, which begins after the form.
+    let cash = 1 + good[1..].iter().position(|group| *group < 0x80).unwrap();
+    assert!(cash > 1 && good.len() > 200);
+    let longer = [&good[..cash], &[good[cash] | 0x80, 0], &good[cash + 1..]].concat();
+    let left_over = format!("18: bytes of the file are left over, from byte {} on; it is damaged", good.len());
+    let unsound = "11: the account is not sound; it is damaged, or of a form that is not known here";
     for (name, damaged, why) in [
-        ("cut", good[..40].to_vec(), "16: the file ends early; a part of it was lost"),
-        ("empty", Vec::new(), "16: the file ends early; a part of it was lost"),
+        ("cut", good[..200].to_vec(), "16: the file ends early, at byte 200; a part of it was lost"),
+        ("empty", Vec::new(), "16: the file ends early, at byte 0; a part of it was lost"),
         (
             "longer",
-            [&[0x81, 0], &good[1..]].concat(),
-            "17: a number of the file is not in its shortest form, or too large;",
+            longer,
+            "17: a number of the file is not in its shortest form, or too large, at byte 1; it is damaged, or no saved account",
         ),
-        (
-            "added",
-            [&good[..], b"\n"].concat(),
-            "18: bytes of the file are left over; it is damaged, or no saved account",
-        ),
-        ("form", [&[9], &good[1..]].concat(), "11: the account is not sound; it is damaged, or of a form that is not"),
-        ("text", EXAMPLE.into(), "11: the account is not sound;"),
+        ("added", [&good[..], b"\n\n"].concat(), left_over.as_str()),
+        ("form", [&[9], &good[1..]].concat(), unsound),
+        ("text", EXAMPLE.into(), unsound),
+        ("most", most_numbers(), unsound),
+        ("more", [most_numbers(), vec![0; 9_000]].concat(), "18: bytes of the file are left over, from byte 3331 on;"),
+        ("less", most_numbers()[..3_330].to_vec(), "16: the file ends early, at byte 3330;"),
     ] {
         std::fs::write(&file, &damaged).unwrap();
         let (out, page) = run(&format!("bad-{name}"), "period x\n", Some("bad.account"), Some("bad.account"));
