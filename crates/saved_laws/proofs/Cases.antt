@@ -22,12 +22,12 @@ use Rattle.loading.specs.Reading.{judged, fieldRead, fieldsRead, headOf, headRe
 use Rattle.loading.specs.Loading.{fileAccount, loadAnswer}
 
 -- "16 file ends early"
-no-bytes : loadAnswer [] ≡ EndsEarly
+no-bytes : loadAnswer [] ≡ EndsEarly 0
 unfolding loadAnswer told read
 no-bytes = refl
 
 -- a form number of two groups is no number, though it would be 1
-form-not-shortest : loadAnswer (129 ∷ 0 ∷ []) ≡ BadNumber
+form-not-shortest : loadAnswer (129 ∷ 0 ∷ []) ≡ BadNumber 0
 unfolding loadAnswer told read onto
 form-not-shortest = refl
 
@@ -41,16 +41,16 @@ unfolding loadAnswer told read
 form-2 = refl
 
 -- nine groups that go on, and then the end
-nine-groups : loadAnswer (255 ∷ 255 ∷ 255 ∷ 255 ∷ 255 ∷ 255 ∷ 255 ∷ 255 ∷ 255 ∷ []) ≡ EndsEarly
+nine-groups : loadAnswer (255 ∷ 255 ∷ 255 ∷ 255 ∷ 255 ∷ 255 ∷ 255 ∷ 255 ∷ 255 ∷ []) ≡ EndsEarly 9
 unfolding loadAnswer told read onto
 nine-groups = refl
 
 -- a tenth above 1
-tenth-group : loadAnswer (255 ∷ 255 ∷ 255 ∷ 255 ∷ 255 ∷ 255 ∷ 255 ∷ 255 ∷ 255 ∷ 2 ∷ []) ≡ BadNumber
+tenth-group : loadAnswer (255 ∷ 255 ∷ 255 ∷ 255 ∷ 255 ∷ 255 ∷ 255 ∷ 255 ∷ 255 ∷ 2 ∷ []) ≡ BadNumber 0
 unfolding loadAnswer told read onto
 tenth-group = refl
 
-form-alone : loadAnswer (1 ∷ []) ≡ EndsEarly
+form-alone : loadAnswer (1 ∷ []) ≡ EndsEarly 1
 unfolding loadAnswer told read headRead headFields headOf fieldsRead fieldRead judged hasField follows
 form-alone = refl
 
@@ -76,7 +76,7 @@ positions-65 : loadAnswer (upTo 65) ≡ Unsound
 unfolding loadAnswer told read headRead headFields headOf fieldsRead fieldRead judged hasField follows allowed
 positions-65 = refl
 
-positions-64 : loadAnswer (upTo 64) ≡ EndsEarly
+positions-64 : loadAnswer (upTo 64) ≡ EndsEarly 23
 unfolding loadAnswer told read headRead headFields headOf fieldsRead fieldRead judged hasField follows allowed tableRead positionsRead positionRead symbolRead entryAfter thenRows filed
 positions-64 = refl
 
@@ -99,13 +99,18 @@ length-0 : loadAnswer (upTo 1 ++ 0 ∷ []) ≡ Unsound
 unfolding loadAnswer told read headRead headFields headOf fieldsRead fieldRead judged hasField follows allowed tableRead positionsRead positionRead symbolRead entryAfter thenRows filed
 length-0 = refl
 
+-- a length of two groups, the first of which is told
+length-not-shortest : loadAnswer (upTo 1 ++ 129 ∷ 0 ∷ []) ≡ BadNumber 23
+unfolding loadAnswer told read onto headRead headFields headOf fieldsRead fieldRead judged hasField follows allowed tableRead positionsRead positionRead symbolRead entryAfter thenRows filed
+length-not-shortest = refl
+
 -- a text of which a byte is missing
-text-cut : loadAnswer (upTo 1 ++ 2 ∷ 65 ∷ []) ≡ EndsEarly
+text-cut : loadAnswer (upTo 1 ++ 2 ∷ 65 ∷ []) ≡ EndsEarly 25
 unfolding loadAnswer told read headRead headFields headOf fieldsRead fieldRead judged hasField follows allowed tableRead positionsRead positionRead symbolRead textRead entryAfter thenRows filed
 text-cut = refl
 
 -- "18 bytes left over"
-one-over : loadAnswer (upTo 0 ++ 0 ∷ []) ≡ LeftOver
+one-over : loadAnswer (upTo 0 ++ 0 ∷ []) ≡ LeftOver 23
 unfolding loadAnswer told read headRead headFields headOf fieldsRead fieldRead judged hasField follows allowed tableRead positionsRead filed
 one-over = refl
 
@@ -132,6 +137,6 @@ step-0 : loadAnswer stepless ≡ Unsound
 unfolding loadAnswer told read headRead headFields headOf fieldsRead fieldRead judged hasField follows allowed tableRead positionsRead filed fileAccount accountOf settingsOf countersOf seriesOf unfolded capOf ofBits tableOf soundAccount soundScalars goodSettings goodRules goodCosts goodRate goodCeiling le lt eq isZero soundColumns soundPlaces ordered unused
 step-0 = refl
 
-step-0-one-over : loadAnswer (stepless ++ 0 ∷ []) ≡ LeftOver
+step-0-one-over : loadAnswer (stepless ++ 0 ∷ []) ≡ LeftOver 23
 unfolding loadAnswer told read headRead headFields headOf fieldsRead fieldRead judged hasField follows allowed tableRead positionsRead filed
 step-0-one-over = refl

@@ -1,15 +1,15 @@
--- Numbers in a row, each field with its own: what was written is read, a part of it ends early, and what is read is what would be written.
+-- Numbers in a row, each field with its own: what was written is read, and what is read is what would be written.
 use mathlib.Core.Path.{_≡_, refl, sym, _∙_, ap, subst}
 use Prim.Native.Nat.{ℕ, suc, _+_, _<_, _≤_, _^_}
 use native.Mathlib.Omega.{arith}
 use mathlib.Core.Bool.{Bool, true, false}
 use mathlib.Core.List.{List, [], _∷_, _++_, append-assoc}
-use lib.ListN.{length, take, drop, length-append}
+use lib.ListN.{length, drop, length-append}
 use Rattle.answer.specs.Choice.{pick}
 use Rattle.answer.specs.Numbers.{isDone}
 use Rattle.answer.proofs.Answers.{done-is}
 use Rattle.answer.specs.declared.Answer.{Answer}
-use Rattle.answer.specs.declared.Answer.the-variants.{Done, Unsound, EndsEarly}
+use Rattle.answer.specs.declared.Answer.the-variants.{Done, Unsound}
 use Rattle.word_bytes.proofs.Words.{Words}
 use Rattle.seven_bit.specs.declared.Number.{Number}
 use Rattle.seven_bit.specs.Groups.{groups}
@@ -20,7 +20,7 @@ use Rattle.saved_form.specs.declared.field.Kind.{Kind}
 use Rattle.saved_form.specs.Fields.{allowed, hasField}
 use Rattle.saved_form.specs.Writing.{fieldFile, fieldsFile}
 use Rattle.loading.specs.Reading.{Run, noNumber, thenNumber, judged, fieldRead, ended, withValue, thenRun, fieldsRead}
-use Rattle.saved_laws.proofs.Places.{after, Part, within, past, part, apart, clash, was, number-back, number-part, number-one}
+use Rattle.saved_laws.proofs.Places.{after, apart, clash, was, number-back, number-one}
 
 -- a number that may stand where its field does, and 0 where it does not
 abbrev pub Stands : Bool → Kind → ℕ → Type 0
@@ -63,18 +63,6 @@ pub field-back : (l rest : List ℕ) (form : ℕ) (f : Field) (before v at : ℕ
 unfolding fieldRead fieldFile
 field-back l rest form f before v at s e = field-by l rest (f .kind) at v (hasField form f before) s e
 
-judged-ends : (k : Kind) (at : ℕ) (n : Number) → n .answer ≡ EndsEarly → judged k at n .answer ≡ EndsEarly
-unfolding judged
-judged-ends k at n e = rw e
-
-part-by : (l : List ℕ) (k : Kind) (at v j : ℕ) (t : Bool) → j < length (pick t (groups v) []) → drop at l ≡ take j (pick t (groups v) []) → pick t (judged k at (numberAt l at)) (noNumber Done at) .answer ≡ EndsEarly
-part-by l k at v j true h e = judged-ends k at (numberAt l at) (number-part l at v j h e)
-part-by l k at v j false h e = absurd (omega arith)
-
-pub field-part : (l : List ℕ) (form : ℕ) (f : Field) (before v at j : ℕ) → j < length (fieldFile form f before v) → drop at l ≡ take j (fieldFile form f before v) → fieldRead l form f before at .answer ≡ EndsEarly
-unfolding fieldRead fieldFile
-field-part l form f before v at j h e = part-by l (f .kind) at v j (hasField form f before) h e
-
 -- ---- fields in a row
 abbrev pub ran : List ℕ → ℕ → Run
 ran vs next = record { values = vs; answer = Done; next = next }
@@ -91,28 +79,6 @@ fields-back l rest form (f ∷ fs) before (v ∷ vs) at o e =
     let m = fields-back l rest form fs v vs (at + length x) (o .1) (after l x (y ++ rest) at s) in
     let k : at + length x + length y ≡ at + length (x ++ y) = omega (arith, length-append x y) in
     ap (λ (n : Number). thenRun n (λ n. fieldsRead l form fs (n .value) (n .next))) (field-back l (y ++ rest) form f before v at (o .0) s) ∙ ap (withValue v) m ∙ ap (ran (v ∷ vs)) k
-
-then-ends : (n : Number) (more : Number → Run) → n .answer ≡ EndsEarly → thenRun n more .answer ≡ EndsEarly
-then-ends n more e = rw e
-
-module _ (l : List ℕ) (form : ℕ) (f : Field) (before v at : ℕ) (more : Number → Run) (y : List ℕ) (s : Stands (hasField form f before) (f .kind) v) where
-  next-part : (j : ℕ) → Part (fieldFile form f before v) y j → drop at l ≡ take j (fieldFile form f before v ++ y)
-      → ((k : ℕ) → k < length y → drop (at + length (fieldFile form f before v)) l ≡ take k y → more (was v (at + length (fieldFile form f before v))) .answer ≡ EndsEarly)
-      → thenRun (fieldRead l form f before at) more .answer ≡ EndsEarly
-  next-part j (within g q) e i = then-ends (fieldRead l form f before at) more (field-part l form f before v at j g (e ∙ q))
-  next-part j (past k g q) e i =
-      ap (λ (n : Number). thenRun n more .answer) (field-back l (take k y) form f before v at s (e ∙ q))
-      ∙ i k g (after l (fieldFile form f before v) (take k y) at (e ∙ q))
-
-pub fields-part : (l : List ℕ) (form : ℕ) (fs : List Field) (before : ℕ) (vs : List ℕ) (at j : ℕ) → Allowed form fs before vs → j < length (fieldsFile form fs before vs) → drop at l ≡ take j (fieldsFile form fs before vs) → fieldsRead l form fs before at .answer ≡ EndsEarly
-unfolding fieldsRead fieldsFile
-fields-part l form [] before [] at j o h e = absurd (omega arith)
-fields-part l form [] before (v ∷ vs) at j o h e = absurd o
-fields-part l form (f ∷ fs) before [] at j o h e = absurd o
-fields-part l form (f ∷ fs) before (v ∷ vs) at j o h e =
-    next-part l form f before v at (λ n. fieldsRead l form fs (n .value) (n .next)) (fieldsFile form fs v vs) (o .0) j
-    (part (fieldFile form f before v) (fieldsFile form fs v vs) j h) e
-    (λ k g q. fields-part l form fs v vs (at + length (fieldFile form f before v)) k (o .1) g q)
 
 -- ---- what is read is what would be written
 judged-by : (k : Kind) (at : ℕ) (n : Number) (w : Answer) (d t : Bool) → w ≡ n .answer → isDone w ≡ d → allowed k (n .value) ≡ t → pick d (pick t n (noNumber Unsound at)) n .answer ≡ Done

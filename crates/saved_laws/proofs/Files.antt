@@ -1,17 +1,17 @@
--- The parts of the file of a sound account, each where it stands in some bytes: read whole, or cut off.
+-- The parts of the file of a sound account, each where it stands in some bytes, are read.
 use mathlib.Core.Path.{_≡_, refl, sym, _∙_, ap}
 use Prim.Native.Nat.{ℕ, zero, suc, _+_, _<_, _≤_}
 use native.Mathlib.Omega.{arith}
 use mathlib.Core.Bool.{Bool, true, false}
 use mathlib.Core.List.{List, [], _∷_, _++_}
 use lib.Dec.{ltb}
-use lib.ListN.{length, getD, take, drop}
+use lib.ListN.{length, getD, drop}
 use lib.IntN.{ℤ, pos}
 use borrow.Author.Tests.{ltb-false}
 use mir.Syntax.{w64}
 use mir.Val.{SFits}
 use Rattle.answer.specs.Choice.{pick}
-use Rattle.answer.specs.declared.Answer.the-variants.{Done, EndsEarly}
+use Rattle.answer.specs.declared.Answer.the-variants.{Done}
 use Rattle.position.specs.declared.position.Position.{Position}
 use Rattle.position.specs.Rows.{fresh}
 use Rattle.position.specs.Fills.{sound}
@@ -32,12 +32,11 @@ use Rattle.saved_form.specs.Fields.{newest, headFields}
 use Rattle.saved_form.specs.Values.{scalarsOf, settingValues, counterValues, headValues}
 use Rattle.saved_form.specs.Writing.{fieldsFile, positionsFile}
 use Rattle.loading.specs.declared.head.Head.{Head}
-use Rattle.loading.specs.declared.positions.Positions.{Positions}
 use Rattle.loading.specs.Reading.{headOf, headRead, positionsRead, filed, upTo64, tableRead, headIn, positionsIn}
-use Rattle.saved_laws.proofs.Places.{was, number-back, number-part}
-use Rattle.saved_laws.proofs.Fields.{ran, fields-back, fields-part}
+use Rattle.saved_laws.proofs.Places.{was, number-back}
+use Rattle.saved_laws.proofs.Fields.{ran, fields-back}
 use Rattle.saved_laws.proofs.Texts.{text-of}
-use Rattle.saved_laws.proofs.Positions.{Fit, Fits, positions-back, positions-part, sound-symbol}
+use Rattle.saved_laws.proofs.Positions.{Fit, Fits, positions-back, sound-symbol}
 use Rattle.saved_laws.proofs.Values.{head-allowed}
 
 -- ---- the positions of a sound account can be written
@@ -97,9 +96,6 @@ module _ (a : Account) (e : soundAccount a ≡ true) (k : KeptAccount a) (l : Li
   pub form-in : (rest : List ℕ) → l ≡ groups newest ++ rest → numberAt l 0 ≡ was newest (0 + length (groups newest))
   form-in rest q = number-back l rest 0 newest (omega arith) q
 
-  pub form-part : (j : ℕ) → j < length (groups newest) → l ≡ take j (groups newest) → numberAt l 0 .answer ≡ EndsEarly
-  form-part j h q = number-part l 0 newest j h q
-
   module _ (n : ℕ) (f : numberAt l 0 ≡ was newest n) where
     pub head-in : (rest : List ℕ) → drop n l ≡ headFile a ++ rest → headIn l ≡ headTo a (n + length (headFile a))
     unfolding headRead
@@ -107,12 +103,6 @@ module _ (a : Account) (e : soundAccount a ≡ true) (k : KeptAccount a) (l : Li
         ap (λ (m : Number). headRead l (m .value) (m .next)) f
         ∙ ap headOf (fields-back l rest newest headFields 0 (headValues (scalarsOf a)) n (head-allowed a e k) q)
         ∙ head-whole a (n + length (headFile a))
-
-    pub head-part : (j : ℕ) → j < length (headFile a) → drop n l ≡ take j (headFile a) → headIn l .answer ≡ EndsEarly
-    unfolding headRead headOf
-    head-part j h q =
-        ap (λ (m : Number). headRead l (m .value) (m .next) .answer) f
-        ∙ fields-part l newest headFields 0 (headValues (scalarsOf a)) n j (head-allowed a e k) h q
 
     module _ (m : ℕ) (g : headIn l ≡ headTo a m) where
       places-read : positionsIn l ≡ filed (positionsRead (length (heldIn (a .positions))) l newest m)
@@ -128,7 +118,3 @@ module _ (a : Account) (e : soundAccount a ≡ true) (k : KeptAccount a) (l : Li
           places-read
           ∙ ap filed (positions-back l rest (heldIn (a .positions)) m (rows-fit a e k) q)
           ∙ ap (λ (t : Table). record { answer = Done; next = m + length (heldFile a); table = t }) (held-table (a .positions) (k .positions .full) (account-table a e))
-
-      pub held-part : (j : ℕ) → j < length (heldFile a) → drop m l ≡ take j (heldFile a) → positionsIn l .answer ≡ EndsEarly
-      unfolding filed
-      held-part j h q = ap (λ (p : Positions). p .answer) places-read ∙ positions-part l (heldIn (a .positions)) m j (rows-fit a e k) h q

@@ -1,20 +1,20 @@
 -- The laws of the saved form, of every account and of every file.
-use Prim.Native.Nat.{ℕ, _<_}
-use mathlib.Core.Path.{_≡_, refl, sym, ap, _∙_, subst}
+use Prim.Native.Nat.{ℕ}
+use mathlib.Core.Path.{_≡_, refl, sym, ap, _∙_}
 use mathlib.Core.Bool.{true, false}
 use mathlib.Core.List.{List, [], _∷_}
-use lib.ListN.{length, take}
 use borrow.Author.Tests.{lt-ltb}
 use Rattle.answer.specs.Numbers.{isDone}
-use Rattle.answer.specs.declared.Answer.the-variants.{Done, EndsEarly}
+use Rattle.answer.specs.declared.Answer.the-variants.{Done}
 use Rattle.account.specs.declared.account.Account.{Account}
 use Rattle.account.specs.Account.{soundAccount}
 use Rattle.account_bytes.proofs.AccountKept.{KeptAccount}
 use Rattle.seven_bit.proofs.Groups.{Octets}
 use Rattle.saved_form.specs.Writing.{fileOf}
 use Rattle.loading.specs.Loading.{fileAccount, loadAnswer}
-use Rattle.saved_laws.specs.Statement.{areBytes, Saved, SameFile, Accepted, Refused}
+use Rattle.saved_laws.specs.Statement.{areBytes, Saved, SameFile, Accepted, Refused, Placed}
 use Rattle.saved_laws.proofs.ReadsBack.{file-account, reads-back, ends-early}
+use Rattle.saved_laws.proofs.PlacesTold.{taken-ends, places-told}
 use Rattle.saved_laws.proofs.OneFile.{one-file, loads-sound, loads-kept, refused-zeros}
 use Rattle.saved_laws.proofs.SameBytes.{bytes-alike, alike-bytes}
 use Rattle.saved_laws.proofs.Bytes.{file-octets}
@@ -45,8 +45,12 @@ accepted l o e =
       sound = s;
       plain = sym (file-account (fileAccount l) s k) ∙ ap fileAccount f;
       one-file = f;
-      ends-early = subst (λ (m : List ℕ). (j : ℕ) → j < length m → loadAnswer (take j m) ≡ EndsEarly) f (ends-early (fileAccount l) s k);
+      ends-early = taken-ends l e;
     }
+
+-- of every list of numbers, bytes or not
+pub placed : (l : List ℕ) → Placed l
+placed l = places-told l
 
 pub refused : (l : List ℕ) → isDone (loadAnswer l) ≡ false → Refused l
 refused l e = refused-zeros l e

@@ -6,6 +6,8 @@ pub mod Symbols
 pub mod Positions
 pub mod Values
 pub mod Files
+pub mod FirstBytes
+pub mod PlacesTold
 pub mod ReadsBack
 pub mod Kept
 pub mod OneFile

@@ -56,7 +56,7 @@ taken l e =
     let b = passed (eqb (numberAt l 0 .value) newest) Unsound _ refl (a .1) in
     let c = passed-both (headIn l .answer) _ (b .1) in
     let p = passed-both (positionsIn l .answer) _ (c .1) in
-    let n = passed (eqb (positionsIn l .next) (length l)) LeftOver _ refl (p .1) in
+    let n = passed (eqb (positionsIn l .next) (length l)) (LeftOver (positionsIn l .next)) _ refl (p .1) in
     let s = passed (soundAccount (fileAccount l)) Unsound Done refl (n .1) in
     record {
       form = done-is (numberAt l 0 .answer) (a .0);

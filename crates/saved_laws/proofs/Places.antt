@@ -1,20 +1,18 @@
--- A number at a place of a file: what was written is read, a part of it ends early, and what is read is what would be written.
+-- A number at a place of a file: what was written is read, and what is read is what would be written.
 use mathlib.Core.Path.{_≡_, refl, sym, _∙_, ap}
-use Prim.Native.Nat.{ℕ, zero, suc, _+_, _-_, _<_, _≤_, _^_}
+use Prim.Native.Nat.{ℕ, zero, suc, _+_, _<_, _^_}
 use native.Mathlib.Omega.{arith}
 use mathlib.Core.Bool.{Bool, true, false}
 use mathlib.Core.List.{List, [], _∷_, _++_}
-use lib.Dec.{ltb}
-use lib.ListN.{length, take, drop, length-append, take-append-drop}
-use lib.Seq.{drop-at, drop-drop, take-append-le, take-append-add}
-use borrow.Author.Tests.{ltb-true, ltb-false}
+use lib.ListN.{length, take, drop, take-append-drop}
+use lib.Seq.{drop-at, drop-drop}
 use Rattle.answer.specs.declared.Answer.{Answer}
 use Rattle.answer.specs.declared.Answer.the-variants.{Done, EndsEarly, BadNumber}
 use Rattle.answer.specs.Numbers.{numberOf}
 use Rattle.seven_bit.specs.declared.Number.{Number}
 use Rattle.seven_bit.specs.Groups.{Out, ends, bad, got, number, groups}
 use Rattle.seven_bit.specs.Placed.{told, numberAt}
-use Rattle.seven_bit.proofs.Groups.{Octets, number-groups, part-ends, number-shortest}
+use Rattle.seven_bit.proofs.Groups.{Octets, number-groups, number-shortest}
 
 -- a fact of the first of a row, and one of the others
 infixr 60 _▸_
@@ -25,21 +23,6 @@ a ▸ b = (a, b)
 -- what follows what stands at a place
 pub after : (l x rest : List ℕ) (at : ℕ) → drop at l ≡ x ++ rest → drop (at + length x) l ≡ rest
 after l x rest at e = sym (drop-drop (length x) at l) ∙ ap (drop (length x)) e ∙ drop-at x rest (length x) refl
-
--- a part of two texts in a row: it ends in the first, or in the second
-pub data Part (x y : List ℕ) (j : ℕ) : Type 0 where
-  within : j < length x → take j (x ++ y) ≡ take j x → Part x y j
-  past : (k : ℕ) → k < length y → take j (x ++ y) ≡ x ++ take k y → Part x y j
-
-part-by : (x y : List ℕ) (j : ℕ) (t : Bool) → ltb j (length x) ≡ t → j < length (x ++ y) → Part x y j
-part-by x y j true e h = within (ltb-true j (length x) e) (take-append-le j x y (omega (arith, ltb-true j (length x) e)))
-part-by x y j false e h =
-    let g : length x ≤ j = ltb-false j (length x) e in
-    let s : j ≡ length x + (j - length x) = omega arith in
-    past (j - length x) (omega (arith, length-append x y)) (ap (λ (i : ℕ). take i (x ++ y)) s ∙ take-append-add x y (j - length x))
-
-pub part : (x y : List ℕ) (j : ℕ) → j < length (x ++ y) → Part x y j
-part x y j h = part-by x y j (ltb j (length x)) refl h
 
 pub octets-drop : (n : ℕ) (l : List ℕ) → Octets l → Octets (drop n l)
 octets-drop zero l o = o
@@ -66,18 +49,14 @@ pub number-back : (l rest : List ℕ) (at v : ℕ) → v < 2 ^ 64 → drop at l 
 unfolding told
 number-back l rest at v h e = ap (λ (m : List ℕ). told at (length l) (number m)) e ∙ ap (told at (length l)) (number-groups rest v h)
 
-pub number-part : (l : List ℕ) (at v j : ℕ) → j < length (groups v) → drop at l ≡ take j (groups v) → numberAt l at .answer ≡ EndsEarly
-unfolding told
-number-part l at v j h e = ap (λ (m : List ℕ). told at (length l) (number m) .answer) e ∙ ap (λ (o : Out). told at (length l) o .answer) (part-ends 9 v 0 j h)
-
 pub record Shortest (l : List ℕ) (at : ℕ) (n : Number) : Type 0 where
   pub fits : n .value < 2 ^ 64
   pub same : drop at l ≡ groups (n .value) ++ drop (n .next) l
 
 shortest-by : (l : List ℕ) (at : ℕ) (o : Out) → Octets l → number (drop at l) ≡ o → told at (length l) o .answer ≡ Done → Shortest l at (told at (length l) o)
 unfolding told
-shortest-by l at ends p e d = apart EndsEarly Done d (λ z. omega arith)
-shortest-by l at bad p e d = apart BadNumber Done d (λ z. omega arith)
+shortest-by l at ends p e d = apart (EndsEarly (length l)) Done d (λ z. omega arith)
+shortest-by l at bad p e d = apart (BadNumber at) Done d (λ z. omega arith)
 shortest-by l at (got v n) p e d =
     let s = number-shortest (drop at l) v n (octets-drop at l p) e in
     record { fits = s .0; same = sym (take-append-drop n (drop at l)) ∙ rw (s .2, drop-drop n at l) }

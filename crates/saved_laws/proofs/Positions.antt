@@ -1,15 +1,15 @@
--- Positions one after another: what was written is read, a part of it ends early, and what is read is what would be written.
+-- Positions one after another: what was written is read, and what is read is what would be written.
 use mathlib.Core.Path.{_≡_, refl, sym, _∙_, ap, subst}
 use Prim.Native.Nat.{ℕ, zero, suc, _+_, _<_, _≤_, _^_}
 use native.Mathlib.Omega.{arith}
 use mathlib.Core.Bool.{Bool, true, false}
 use mathlib.Core.List.{List, [], _∷_, _++_, map, append-assoc}
-use lib.ListN.{length, getD, take, drop, length-append}
+use lib.ListN.{length, getD, drop, length-append}
 use Rattle.answer.specs.Choice.{pick, all}
 use Rattle.answer.specs.Numbers.{isDone}
 use Rattle.answer.proofs.Choice.{both-true}
 use Rattle.answer.proofs.Answers.{done-is}
-use Rattle.answer.specs.declared.Answer.the-variants.{Done, EndsEarly}
+use Rattle.answer.specs.declared.Answer.the-variants.{Done}
 use Rattle.position.specs.declared.position.Position.{Position}
 use Rattle.position.specs.Rows.{row, keyOf, held, avg, realized, total, numbersOf}
 use Rattle.position.specs.Symbols.{goodSymbol}
@@ -25,10 +25,10 @@ use Rattle.saved_form.specs.Texts.{symbolFile}
 use Rattle.saved_form.specs.Writing.{fieldsFile, positionFile, positionsFile}
 use Rattle.loading.specs.declared.entry.Entry.{Entry}
 use Rattle.loading.specs.Reading.{Run, fieldsRead, noEntry, signedIn, entryOf, symbolRead, entryAfter, positionRead, Rows, noRows, withRow, thenRows, positionsRead}
-use Rattle.saved_laws.proofs.Places.{_▸_, after, Part, within, past, part, clash}
-use Rattle.saved_laws.proofs.Fields.{Allowed, allowed-words, ran, fields-back, fields-part, Whole, fields-one}
+use Rattle.saved_laws.proofs.Places.{_▸_, after, clash}
+use Rattle.saved_laws.proofs.Fields.{Allowed, allowed-words, ran, fields-back, Whole, fields-one}
 use Rattle.saved_laws.proofs.Texts.{Text}
-use Rattle.saved_laws.proofs.Symbols.{symbol-back, symbol-part, Spelt, symbol-one}
+use Rattle.saved_laws.proofs.Symbols.{symbol-back, Spelt, symbol-one}
 
 -- ---- one position
 -- what can be written of a position: a good symbol, and numbers that fit
@@ -67,27 +67,6 @@ position-back l rest p at f e =
     let k : at + length x + length y ≡ at + length (x ++ y) = omega (arith, length-append x y) in
     ap (entryAfter l newest) (symbol-back l (y ++ rest) (keyOf p) at (f .text) s) ∙ ap (entryOf (keyOf p)) n ∙ entry-back p (at + length x + length y) ∙ ap (read p) k
 
-entry-ends : (s : ℕ) (r : Run) → r .answer ≡ EndsEarly → entryOf s r .answer ≡ EndsEarly
-unfolding entryOf
-entry-ends s r e = rw e
-
-after-ends : (l : List ℕ) (form : ℕ) (n : Number) → n .answer ≡ EndsEarly → entryAfter l form n .answer ≡ EndsEarly
-unfolding entryAfter
-after-ends l form n e = rw e
-
-position-by : (l : List ℕ) (p : Position) (at j : ℕ) → Fit p → Part (symbolFile (keyOf p)) (numbersFile p) j → drop at l ≡ take j (symbolFile (keyOf p) ++ numbersFile p) → entryAfter l newest (symbolRead l at) .answer ≡ EndsEarly
-unfolding entryAfter
-position-by l p at j f (within g q) e = after-ends l newest (symbolRead l at) (symbol-part l (keyOf p) at j (f .text) g (e ∙ q))
-position-by l p at j f (past k g q) e =
-    let x : List ℕ = symbolFile (keyOf p) in
-    let r = fields-part l newest positionFields 0 (valuesOf p) (at + length x) k (numbers-allowed p f) g (after l x (take k (numbersFile p)) at (e ∙ q)) in
-    ap (λ (n : Number). entryAfter l newest n .answer) (symbol-back l (take k (numbersFile p)) (keyOf p) at (f .text) (e ∙ q))
-    ∙ entry-ends (keyOf p) (fieldsRead l newest positionFields 0 (at + length x)) r
-
-pub position-part : (l : List ℕ) (p : Position) (at j : ℕ) → Fit p → j < length (positionFile p) → drop at l ≡ take j (positionFile p) → positionRead l newest at .answer ≡ EndsEarly
-unfolding positionRead positionFile
-position-part l p at j f h e = position-by l p at j f (part (symbolFile (keyOf p)) (numbersFile p) j h) e
-
 -- ---- positions in a row
 abbrev pub Fits : List Position → Type 0
 Fits [] = 0 ≤ 0
@@ -106,28 +85,6 @@ positions-back l rest (p ∷ ps) at f e =
     let m = positions-back l rest ps (at + length x) (f .1) (after l x (y ++ rest) at s) in
     let k : at + length x + length y ≡ at + length (x ++ y) = omega (arith, length-append x y) in
     ap (λ (n : Entry). thenRows n (λ e. positionsRead (length ps) l newest (e .next))) (position-back l (y ++ rest) p at (f .0) s) ∙ ap (withRow p) m ∙ ap (rowsTo (p ∷ ps)) k
-
-rows-end : (e : Entry) (more : Entry → Rows) → e .answer ≡ EndsEarly → thenRows e more .answer ≡ EndsEarly
-unfolding thenRows
-rows-end e more h = rw h
-
-module _ (l : List ℕ) (p : Position) (at : ℕ) (f : Fit p) (y : List ℕ) (more : Entry → Rows) where
-  next-part : (j : ℕ) → Part (positionFile p) y j → drop at l ≡ take j (positionFile p ++ y)
-      → ((k : ℕ) → k < length y → drop (at + length (positionFile p)) l ≡ take k y → more (read p (at + length (positionFile p))) .answer ≡ EndsEarly)
-      → thenRows (positionRead l newest at) more .answer ≡ EndsEarly
-  unfolding thenRows
-  next-part j (within g q) e i = rows-end (positionRead l newest at) more (position-part l p at j f g (e ∙ q))
-  next-part j (past k g q) e i =
-      ap (λ (n : Entry). thenRows n more .answer) (position-back l (take k y) p at f (e ∙ q))
-      ∙ i k g (after l (positionFile p) (take k y) at (e ∙ q))
-
-pub positions-part : (l : List ℕ) (ps : List Position) (at j : ℕ) → Fits ps → j < length (positionsFile ps) → drop at l ≡ take j (positionsFile ps) → positionsRead (length ps) l newest at .answer ≡ EndsEarly
-unfolding positionsRead positionsFile
-positions-part l [] at j f h e = absurd (omega arith)
-positions-part l (p ∷ ps) at j f h e =
-    next-part l p at (f .0) (positionsFile ps) (λ e. positionsRead (length ps) l newest (e .next)) j
-    (part (positionFile p) (positionsFile ps) j h) e
-    (λ k g q. positions-part l ps (at + length (positionFile p)) k (f .1) g q)
 
 -- ---- what is read is what would be written
 values-back : (s : ℕ) (vs : List ℕ) → Allowed newest positionFields 0 vs → valuesOf (row s (unfolded (getD vs 0 0)) (unfolded (getD vs 1 0)) (unfolded (getD vs 2 0)) (unfolded (getD vs 3 0))) ≡ vs

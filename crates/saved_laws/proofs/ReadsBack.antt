@@ -25,10 +25,11 @@ use Rattle.loading.specs.declared.positions.Positions.{Positions}
 use Rattle.loading.specs.Reading.{headIn, positionsIn}
 use Rattle.loading.specs.Loading.{fileAccount, loadAnswer, loaded}
 use Rattle.zero_laws.specs.Zeros.{plainAccount}
-use Rattle.saved_laws.proofs.Places.{after, Part, within, past, part, was}
+use Rattle.saved_laws.proofs.Places.{after, was}
 use Rattle.zero_laws.proofs.Sound.{plain-sound}
 use Rattle.saved_laws.proofs.Values.{head-back}
-use Rattle.saved_laws.proofs.Files.{headFile, heldFile, headTo, form-in, form-part, head-in, head-part, positions-in, held-part}
+use Rattle.saved_laws.proofs.Files.{headFile, heldFile, headTo, form-in, head-in, positions-in}
+use Rattle.saved_laws.proofs.PlacesTold.{taken-ends}
 
 -- ---- the answer by the parts of a file
 abbrev pub judgement : Number → Head → Positions → ℕ → Account → Answer
@@ -37,21 +38,12 @@ judgement n h p end a =
     (unless (eqb (n .value) newest) Unsound
     (orLater (h .answer)
     (orLater (p .answer)
-    (unless (eqb (p .next) end) LeftOver
+    (unless (eqb (p .next) end) (LeftOver (p .next))
     (unless (soundAccount a) Unsound Done)))))
 
 pub by-parts : (l : List ℕ) → loadAnswer l ≡ judgement (numberAt l 0) (headIn l) (positionsIn l) (length l) (fileAccount l)
 unfolding loadAnswer
 by-parts l = refl
-
-form-ends : (n : Number) (h : Head) (p : Positions) (end : ℕ) (a : Account) → n .answer ≡ EndsEarly → judgement n h p end a ≡ EndsEarly
-form-ends n h p end a e = rw e
-
-head-ends : (next : ℕ) (h : Head) (p : Positions) (end : ℕ) (a : Account) → h .answer ≡ EndsEarly → judgement (was newest next) h p end a ≡ EndsEarly
-head-ends next h p end a e = rw e
-
-positions-end : (next : ℕ) (h : Head) (p : Positions) (end : ℕ) (a : Account) → h .answer ≡ Done → p .answer ≡ EndsEarly → judgement (was newest next) h p end a ≡ EndsEarly
-positions-end next h p end a d e = simp (d, e)
 
 all-done : (next : ℕ) (h : Head) (p : Positions) (end : ℕ) (a : Account) → h .answer ≡ Done → p .answer ≡ Done → p .next ≡ end → soundAccount a ≡ true → judgement (was newest next) h p end a ≡ Done
 all-done next h p end a d e n s = simp (d, e, eq-eqb (p .next) end n, s)
@@ -117,27 +109,6 @@ module _ (a : Account) (e : soundAccount a ≡ true) (k : KeptAccount a) where
   pub reads-back : loaded (fileOf a) ≡ answered Done (plainAccount a)
   reads-back = loaded-done (fileOf a) file-done ∙ ap (answered Done) file-account
 
-  -- ---- a part of it
-  module _ (l : List ℕ) where
-    past-head : (q : numberAt l 0 ≡ was newest afterForm) (j : ℕ) → drop afterForm l ≡ take j (headFile a ++ heldFile a) → Part (headFile a) (heldFile a) j → loadAnswer l ≡ EndsEarly
-    past-head q j d (within g r) =
-        by-parts l
-        ∙ ap (λ (n : Number). judgement n (headIn l) (positionsIn l) (length l) (fileAccount l)) q
-        ∙ head-ends afterForm (headIn l) (positionsIn l) (length l) (fileAccount l) (head-part a e k l afterForm q j g (d ∙ r))
-    past-head q j d (past i g r) =
-        let h = head-in a e k l afterForm q (take i (heldFile a)) (d ∙ r) in
-        let s = after l (headFile a) (take i (heldFile a)) afterForm (d ∙ r) in
-        by-parts l
-        ∙ ap (λ (n : Number). judgement n (headIn l) (positionsIn l) (length l) (fileAccount l)) q
-        ∙ positions-end afterForm (headIn l) (positionsIn l) (length l) (fileAccount l) (ap (λ (h : Head). h .answer) h) (held-part a e k l afterForm q afterHead h i g s)
-
-    past-form : (j : ℕ) → l ≡ take j (groups newest ++ (headFile a ++ heldFile a)) → Part (groups newest) (headFile a ++ heldFile a) j → loadAnswer l ≡ EndsEarly
-    past-form j q (within g r) = by-parts l ∙ form-ends (numberAt l 0) (headIn l) (positionsIn l) (length l) (fileAccount l) (form-part a e k l j g (q ∙ r))
-    past-form j q (past i g r) =
-        past-head (form-in a e k l (take i (headFile a ++ heldFile a)) (q ∙ r)) i
-        (after l (groups newest) (take i (headFile a ++ heldFile a)) 0 (q ∙ r)) (part (headFile a) (heldFile a) i g)
-
   -- "every proper prefix of a good file is 16"
-  pub ends-early : (j : ℕ) → j < length (fileOf a) → loadAnswer (take j (fileOf a)) ≡ EndsEarly
-  unfolding fileOf
-  ends-early j h = past-form (take j (fileOf a)) j refl (part (groups newest) (headFile a ++ heldFile a) j h)
+  pub ends-early : (j : ℕ) → j < length (fileOf a) → loadAnswer (take j (fileOf a)) ≡ EndsEarly j
+  ends-early j h = taken-ends (fileOf a) file-done j h

@@ -1,4 +1,4 @@
--- "a symbol is its length and bytes": what was written is read, a part of it ends early, and what is read is what would be written.
+-- "a symbol is its length and bytes": what was written is read, and what is read is what would be written.
 use mathlib.Core.Path.{_≡_, refl, sym, _∙_, ap}
 use Prim.Native.Nat.{ℕ, _+_, _<_, _≤_, _^_}
 use native.Mathlib.Omega.{arith}
@@ -7,7 +7,7 @@ use mathlib.Core.List.{List, _++_, append-assoc}
 use lib.Dec.{leb}
 use lib.ListN.{length, take, drop, length-append, length-drop, take-append-drop}
 use lib.Seq.{take-at, drop-drop, length-take-le}
-use borrow.Author.Tests.{le-leb, lt-leb, leb-true}
+use borrow.Author.Tests.{le-leb, leb-true}
 use Rattle.answer.specs.Choice.{pick}
 use Rattle.answer.specs.Numbers.{isDone}
 use Rattle.answer.proofs.Choice.{both-true}
@@ -20,7 +20,7 @@ use Rattle.seven_bit.specs.Placed.{numberAt}
 use Rattle.seven_bit.proofs.Groups.{Octets}
 use Rattle.saved_form.specs.Texts.{textOf, symbolFile, goodLength, spelt}
 use Rattle.loading.specs.Reading.{noNumber, thenNumber, textRead, symbolRead}
-use Rattle.saved_laws.proofs.Places.{after, Part, within, past, part, octets-drop, octets-take, apart, clash, was, number-back, number-part, Shortest, number-one}
+use Rattle.saved_laws.proofs.Places.{after, octets-drop, octets-take, apart, clash, was, number-back, Shortest, number-one}
 use Rattle.saved_laws.proofs.Texts.{Text, spelling}
 
 -- ---- bytes of a text
@@ -30,12 +30,6 @@ text-back l rest t n at e s d =
     let h : at + n ≤ length l = omega (arith, length-drop at l, ap length d, length-append t rest) in
     let b : take n (drop at l) ≡ t = ap (take n) d ∙ take-at t rest n e in
     simp (le-leb (at + n) (length l) h, b)
-
-text-part : (l t : List ℕ) (n at j : ℕ) → length t ≡ n → j < n → drop at l ≡ take j t → textRead l n at .answer ≡ EndsEarly
-unfolding textRead
-text-part l t n at j e s d =
-    let h : length l < at + n = omega (arith, length-drop at l, ap length d, length-take-le j t (omega arith)) in
-    simp (lt-leb (at + n) (length l) h)
 
 -- ---- a symbol
 abbrev textAfter : List ℕ → ℕ → Number → Number
@@ -54,17 +48,6 @@ symbol-back l rest s at t d =
     let k : at + length x + length (textOf s) ≡ at + length (x ++ textOf s) = omega (arith, length-append x (textOf s)) in
     ap (λ (n : Number). thenNumber n (textAfter l at)) n ∙ simp (good-length (length (textOf s)) (t .some) (t .short), b, t .spells, k)
 
-symbol-by : (l : List ℕ) (s at j : ℕ) → Text s → Part (groups (length (textOf s))) (textOf s) j → drop at l ≡ take j (groups (length (textOf s)) ++ textOf s) → thenNumber (numberAt l at) (textAfter l at) .answer ≡ EndsEarly
-symbol-by l s at j t (within g q) e = rw (number-part l at (length (textOf s)) j g (e ∙ q))
-symbol-by l s at j t (past k g q) e =
-    let n = number-back l (take k (textOf s)) at (length (textOf s)) (omega (arith, t .short)) (e ∙ q) in
-    let b = text-part l (textOf s) (length (textOf s)) (at + length (groups (length (textOf s)))) k refl g (after l (groups (length (textOf s))) (take k (textOf s)) at (e ∙ q)) in
-    ap (λ (n : Number). thenNumber n (textAfter l at) .answer) n ∙ simp (good-length (length (textOf s)) (t .some) (t .short), b)
-
-pub symbol-part : (l : List ℕ) (s at j : ℕ) → Text s → j < length (symbolFile s) → drop at l ≡ take j (symbolFile s) → symbolRead l at .answer ≡ EndsEarly
-unfolding symbolRead symbolFile
-symbol-part l s at j t h e = symbol-by l s at j t (part (groups (length (textOf s))) (textOf s) j h) e
-
 -- ---- what is read is what would be written
 pub record Spelt (l : List ℕ) (at : ℕ) (n : Number) : Type 0 where
   pub small : n .value < 2 ^ 64
@@ -72,9 +55,9 @@ pub record Spelt (l : List ℕ) (at : ℕ) (n : Number) : Type 0 where
 
 module _ (l : List ℕ) (at : ℕ) (o : Octets l) where
   text-one : (n from : ℕ) → 1 ≤ n → n ≤ 8 → drop at l ≡ groups n ++ drop from l → (t : Bool) → leb (from + n) (length l) ≡ t
-      → pick t (was (spelt (take n (drop from l))) (from + n)) (noNumber EndsEarly (length l)) .answer ≡ Done
-      → goodSymbol (pick t (was (spelt (take n (drop from l))) (from + n)) (noNumber EndsEarly (length l)) .value) ≡ true
-      → Spelt l at (pick t (was (spelt (take n (drop from l))) (from + n)) (noNumber EndsEarly (length l)))
+      → pick t (was (spelt (take n (drop from l))) (from + n)) (noNumber (EndsEarly (length l)) (length l)) .answer ≡ Done
+      → goodSymbol (pick t (was (spelt (take n (drop from l))) (from + n)) (noNumber (EndsEarly (length l)) (length l)) .value) ≡ true
+      → Spelt l at (pick t (was (spelt (take n (drop from l))) (from + n)) (noNumber (EndsEarly (length l)) (length l)))
   unfolding symbolFile
   text-one n from a b s true e d g =
       let t : List ℕ = take n (drop from l) in
@@ -84,7 +67,7 @@ module _ (l : List ℕ) (at : ℕ) (o : Octets l) where
         small = w .small;
         same = s ∙ ap (λ (m : List ℕ). groups n ++ m) (sym (take-append-drop n (drop from l)) ∙ ap (λ (m : List ℕ). t ++ m) (drop-drop n from l)) ∙ sym (append-assoc (groups n) t (drop (from + n) l)) ∙ rw (w .text, k);
       }
-  text-one n from a b s false e d g = apart EndsEarly Done d (λ z. omega arith)
+  text-one n from a b s false e d g = apart (EndsEarly (length l)) Done d (λ z. omega arith)
 
   length-one : (n : Number) → n .answer ≡ Done → Shortest l at n → (t : Bool) → goodLength (n .value) ≡ t
       → pick t (textRead l (n .value) (n .next)) (noNumber Unsound at) .answer ≡ Done

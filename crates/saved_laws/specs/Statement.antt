@@ -1,4 +1,4 @@
--- Document 02, 5: what holds of every saved account, and of every file. Statements only.
+-- Document 02, 5 and 9: what holds of every saved account, and of every file. Statements only.
 use Prim.Native.Nat.{ℕ, _<_, _≤_}
 use mathlib.Core.Path.{_≡_}
 use mathlib.Core.Logic.{_↔_}
@@ -7,10 +7,13 @@ use mathlib.Core.List.{List}
 use lib.Dec.{ltb}
 use lib.ListN.{length, take}
 use Rattle.answer.specs.Choice.{all}
-use Rattle.answer.specs.declared.Answer.the-variants.{Done, EndsEarly}
+use Rattle.answer.specs.Numbers.{numberOf, unless}
+use Rattle.answer.specs.Places.{placeOf}
+use Rattle.answer.specs.declared.Answer.the-variants.{Done, Unsound, EndsEarly, BadNumber, LeftOver}
 use Rattle.account.specs.declared.account.Account.{Account}
 use Rattle.account.specs.Account.{soundAccount}
 use Rattle.account.specs.Calls.{answered, zeroAccount}
+use Rattle.seven_bit.specs.Placed.{numberAt}
 use Rattle.saved_form.specs.Writing.{fileOf}
 use Rattle.loading.specs.Loading.{fileAccount, loadAnswer, loaded}
 use Rattle.zero_laws.specs.Zeros.{plainAccount, Alike}
@@ -29,8 +32,8 @@ longest = 3328
 pub record Saved (a : Account) : Type 0 where
   -- "reading what was written gives the account back", up to the sign of a zero
   pub reads-back : loaded (fileOf a) ≡ answered Done (plainAccount a)
-  -- "16 file ends early": of every part of it from its start
-  pub ends-early : (j : ℕ) → j < length (fileOf a) → loadAnswer (take j (fileOf a)) ≡ EndsEarly
+  -- "16 file ends early": of every part of it from its start, at "the end of the file"
+  pub ends-early : (j : ℕ) → j < length (fileOf a) → loadAnswer (take j (fileOf a)) ≡ EndsEarly j
   pub bytes : areBytes (fileOf a) ≡ true
   pub short : length (fileOf a) ≤ longest
 
@@ -55,8 +58,19 @@ pub record Accepted (l : List ℕ) : Type 0 where
   pub plain : plainAccount (fileAccount l) ≡ fileAccount l
   -- "shortest form only": no other file holds its account
   pub one-file : fileOf (fileAccount l) ≡ l
-  pub ends-early : (j : ℕ) → j < length l → loadAnswer (take j l) ≡ EndsEarly
+  pub ends-early : (j : ℕ) → j < length l → loadAnswer (take j l) ≡ EndsEarly j
 
 -- of a file that is refused: its number, and all zeros
 abbrev pub Refused : List ℕ → Type 0
 Refused l = loaded l ≡ answered (loadAnswer l) zeroAccount
+
+-- Document 02, 9: "The saved reader tells the byte place for 16, 17 and 18". Of every file, by what loading answers
+pub record Placed (l : List ℕ) : Type 0 where
+  -- 16: "the end of the file"
+  pub end : (p : ℕ) → loadAnswer l ≡ EndsEarly p → p ≡ length l
+  -- 17: "the number's first byte". The number that starts there is the one that is not shortest or too large, and all before it was read
+  pub number : (p : ℕ) → loadAnswer l ≡ BadNumber p → (p < length l) × (numberAt l p .answer ≡ BadNumber p) × (loadAnswer (take p l) ≡ EndsEarly p)
+  -- 18: "the first byte left over". The bytes before it are a whole file, whose account is sound or not, and fewer are none
+  pub over : (p : ℕ) → loadAnswer l ≡ LeftOver p → (p < length l) × (loadAnswer (take p l) ≡ unless (soundAccount (fileAccount l)) Unsound Done) × ((j : ℕ) → j < p → loadAnswer (take j l) ≡ EndsEarly j)
+  -- "Refusals: numbers unchanged, place added": no other tells a place
+  pub others : numberOf (loadAnswer l) < 16 → placeOf (loadAnswer l) ≡ 0
