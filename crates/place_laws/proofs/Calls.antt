@@ -20,6 +20,7 @@ use Rattle.answer.specs.declared.Answer.{Answer}
 use Rattle.answer.specs.declared.Answer.the-variants.{Done, TooMany, NoRecordRoom, NotHeld, BufferFull}
 use Rattle.answer.specs.Numbers.{isDone, unless, orLater}
 use Rattle.answer.specs.Places.{placeOf}
+use Rattle.answer.proofs.Answers.{done-is}
 use Rattle.answer.proofs.Choice.{by-test, both-true}
 use Rattle.position.specs.declared.position.Position.{Position}
 use Rattle.account.specs.declared.account.Account.{Account}
@@ -34,20 +35,20 @@ use Rattle.place_laws.proofs.Lists.{lists-say, is-below, first-bad, fir
 use Rattle.place_laws.proofs.Firsts.{first-repeat}
 
 -- ---- calls with lists
--- a refusal is told as it is, and else what comes later
-said-first : (Q : Answer → Type 0) (first later : Answer) → Q first → Q later → Q (orLater first later)
-said-first Q first later p q = by-test Q (isDone first) later first (λ e. q) (λ e. p)
+-- a refusal is told as it is; and else what comes later, where the first was done
+said-first : (Q : Answer → Type 0) (first later : Answer) → Q first → (Q Done → Q later) → Q (orLater first later)
+said-first Q first later p q = by-test Q (isDone first) later first (λ e. let d : Q Done = rw (done-is first e) at p in q d) (λ e. p)
 
 module _ (a : Account) (ts : List ℕ) (ws : List Float) (ps : List ℕ) (vs : List ℤ) where
-  pub rebalance-says : (room : ℕ) → Says ts ps vs (rebalanceAnswer a ts ws ps vs room)
+  pub rebalance-says : (room : ℕ) → Says ts ws ps vs (rebalanceAnswer a ts ws ps vs room)
   unfolding rebalanceAnswer
   rebalance-says room =
       by-test Q (soundAccount a) _ _
-      (λ s. said-first Q (listsAnswer ts ws ps vs) later (lists-say ts ws ps vs) (by-test Q (hasRoom a 64 room) fewer NoRecordRoom (λ r. by-test Q few Done TooMany (λ f. tt) (λ f. tt)) (λ r. tt)))
+      (λ s. said-first Q (listsAnswer ts ws ps vs) later (lists-say ts ws ps vs) (λ c. by-test Q (hasRoom a 64 room) fewer NoRecordRoom (λ r. by-test Q few Done TooMany (λ f. c) (λ f. c)) (λ r. c)))
       (λ s. tt)
     where
       Q : Answer → Type 0
-      Q = Says ts ps vs
+      Q = Says ts ws ps vs
 
       few : Bool
       few = leb (length (heldIn (a .positions)) + notHeld ts (heldIn (a .positions))) 64
@@ -59,15 +60,15 @@ module _ (a : Account) (ts : List ℕ) (ws : List Float) (ps : List ℕ) (vs : L
       later = unless (hasRoom a 64 room) NoRecordRoom fewer
 
 module _ (a : Account) (ps : List ℕ) (vs : List ℤ) where
-  pub query-says : Says [] ps vs (queryAnswer a ps vs)
+  pub query-says : Says [] [] ps vs (queryAnswer a ps vs)
   unfolding queryAnswer
-  query-says = by-test (Says [] ps vs) (soundAccount a) _ _ (λ s. lists-say [] [] ps vs) (λ s. tt)
+  query-says = by-test (Says [] [] ps vs) (soundAccount a) _ _ (λ s. lists-say [] [] ps vs) (λ s. tt)
 
-  pub return-says : (equities returns : ℕ) → Says [] ps vs (returnAnswer a ps vs equities returns)
+  pub return-says : (equities returns : ℕ) → Says [] [] ps vs (returnAnswer a ps vs equities returns)
   unfolding returnAnswer
   return-says equities returns =
-      by-test (Says [] ps vs) (soundAccount a) _ _
-      (λ s. said-first (Says [] ps vs) (listsAnswer [] [] ps vs) _ (lists-say [] [] ps vs) (by-test (Says [] ps vs) places Done BufferFull (λ f. tt) (λ f. tt)))
+      by-test (Says [] [] ps vs) (soundAccount a) _ _
+      (λ s. said-first (Says [] [] ps vs) (listsAnswer [] [] ps vs) _ (lists-say [] [] ps vs) (λ c. by-test (Says [] [] ps vs) places Done BufferFull (λ f. c) (λ f. c)))
       (λ s. tt)
     where
       places : Bool
@@ -79,7 +80,7 @@ unfolding closeAnswer
 close-says a s price room =
     by-test Q (soundAccount a) _ _
     (λ e. by-test Q (goodSymbol s) _ _
-    (λ g. by-test Q (leZ (pos 1) price) _ _ (λ p. by-test Q (hasRoom a 1 room) asked NoRecordRoom (λ r. by-test Q standing Done NotHeld (λ h. tt) (λ h. tt)) (λ r. tt)) (λ p. (refl, is-below price p)))
+    (λ g. by-test Q (leZ (pos 1) price) _ _ (λ p. by-test Q (hasRoom a 1 room) asked NoRecordRoom (λ r. by-test Q standing Done NotHeld (λ h. g) (λ h. g)) (λ r. g)) (λ p. (refl, g, is-below price p)))
     (λ g. (refl, g)))
     (λ e. tt)
   where
@@ -96,15 +97,15 @@ pub position-says : (s : ℕ) (price : ℤ) (a : Account) → SaysAlone s price 
 unfolding positionOf
 position-says s price a =
     by-test Q (soundAccount a) _ _
-    (λ e. by-test Q (goodSymbol s) _ _ (λ g. found (seek keyOf s (heldIn (a .positions)))) (λ g. (refl, g)))
+    (λ e. by-test Q (goodSymbol s) _ _ (λ g. found g (seek keyOf s (heldIn (a .positions)))) (λ g. (refl, g)))
     (λ e. tt)
   where
     Q : Held → Type 0
     Q h = SaysAlone s price (h .answer)
 
-    found : (o : Option Position) → Q (presentOr o)
-    found none = tt
-    found (some p) = tt
+    found : goodSymbol s ≡ true → (o : Option Position) → Q (presentOr o)
+    found g none = g
+    found g (some p) = g
 
 -- ---- C's word cuts nothing of a place in lists
 module _ (ts : List ℕ) (ws : List Float) (ps : List ℕ) (vs : List ℤ) where

@@ -11,12 +11,15 @@ use lib.ListN.{length, getD}
 use borrow.Author.Tests.{not-true, not-false}
 use Rattle.doubles.specs.Doubles.{allFinite}
 use Rattle.position.specs.Symbols.{goodSymbol}
+use Rattle.answer.specs.declared.Entry.the-variants.{Price}
 use Rattle.answer.specs.declared.Answer.{Answer}
+use Rattle.answer.specs.declared.Answer.the-variants.{Done, BadPrice, BadWeight}
+use Rattle.answer.specs.Numbers.{unless}
 use Rattle.answer.proofs.Choice.{by-test}
 use Rattle.call_lists.specs.Lists.{allGood, distinct, allPriced, firstUnpriced, firstFailing}
 use Rattle.call_lists.specs.Checks.{shortEnough, listsAnswer}
 use Rattle.call_lists.proofs.Lists.{below-one}
-use Rattle.place_laws.specs.Statement.{BadSymbolAt, EarlierToo, BadPriceAt, First, None, GoodSymbols, Says}
+use Rattle.place_laws.specs.Statement.{BadSymbolAt, BadPriceAt, First, None, GoodSymbols, Once, Says}
 use Rattle.place_laws.proofs.Firsts.{first-failing, none-failing, first-repeat, none-twice}
 
 pub first-bad : (l : List ℕ) → allGood l ≡ false → First (BadSymbolAt l) (length l) (firstFailing goodSymbol l)
@@ -40,26 +43,36 @@ first-unpriced l e =
     let f = first-failing (leZ (pos 1)) (pos 1) l e in
     record { within = f .within; bad-there = is-below (getD l (firstUnpriced l) (pos 1)) (f .bad-there); none-before = λ j h b. f .none-before j h (not-below (getD l j (pos 1)) b) }
 
+none-unpriced : (l : List ℤ) → allPriced l ≡ true → None (BadPriceAt l) (length l)
+unfolding allPriced
+none-unpriced l e j h b = none-failing (leZ (pos 1)) (pos 1) l e j h (not-below (getD l j (pos 1)) b)
+
 module _ (ts : List ℕ) (ws : List Float) (ps : List ℕ) (vs : List ℤ) where
-  pub lists-say : Says ts ps vs (listsAnswer ts ws ps vs)
-  unfolding listsAnswer
+  Q : Answer → Type 0
+  Q = Says ts ws ps vs
+
+  -- from each test on, with what was asked before it
+  after-once : Once ts ws ps vs → Q (unless (allFinite ws) BadWeight (unless (allPriced vs) (BadPrice (Price (firstUnpriced vs))) Done))
+  unfolding Q
+  after-once o =
+      by-test Q (allFinite ws) (unless (allPriced vs) (BadPrice (Price (firstUnpriced vs))) Done) BadWeight
+      (λ f. by-test Q (allPriced vs) Done (BadPrice (Price (firstUnpriced vs)))
+      (λ p. record { once = o; finite = f; prices-good = none-unpriced vs p })
+      (λ p. record { once = o; finite = f; first = first-unpriced vs p }))
+      (λ f. record { once = o; not-finite = f })
+
+  pub lists-say : Says ts ws ps vs (listsAnswer ts ws ps vs)
+  unfolding listsAnswer Q
   lists-say =
       by-test Q (shortEnough ts ws ps vs) _ _
       (λ s. by-test Q (allGood ts) _ _
       (λ g. by-test Q (allGood ps) _ _
-      (λ h. let good : GoodSymbols ts ps vs = record { targets = none-bad ts g; prices = none-bad ps h } in
+      (λ h. let good : GoodSymbols ts ws ps vs = record { short = s; targets-good = none-bad ts g; prices-good = none-bad ps h } in
       by-test Q (distinct ts) _ _
       (λ d. by-test Q (distinct ps) _ _
-      (λ e. by-test Q (allFinite ws) _ _
-      (λ f. by-test Q (allPriced vs) _ _
-      (λ p. tt)
-      (λ p. record { good = good; targets-once = none-twice ts d; prices-once = none-twice ps e; first = first-unpriced vs p }))
-      (λ f. tt))
+      (λ e. after-once (record { good = good; targets-once = none-twice ts d; prices-once = none-twice ps e }))
       (λ e. record { good = good; targets-once = none-twice ts d; first = first-repeat ps e }))
       (λ d. record { good = good; first = first-repeat ts d }))
-      (λ h. record { targets-good = none-bad ts g; first = first-bad ps h }))
-      (λ g. first-bad ts g))
-      (λ s. tt)
-    where
-      Q : Answer → Type 0
-      Q = Says ts ps vs
+      (λ h. record { short = s; targets-good = none-bad ts g; first = first-bad ps h }))
+      (λ g. record { short = s; first = first-bad ts g }))
+      (λ s. s)
