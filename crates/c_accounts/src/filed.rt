@@ -9,7 +9,7 @@ use account::Changed;
 use account_bytes::write_account;
 use answer::Answer;
 
-// The number of an answer, which 11 goes before.
+// The word of an answer, which 11 goes before.
 pub(crate) fn unless_unsound(a: Account, answer: Answer) -> u64
     ensures { λ r. ⌜ r ≡ wordOf (unlessUnsound a answer) ⌝ }
 {

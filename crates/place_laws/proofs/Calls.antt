@@ -5,21 +5,23 @@ use mathlib.Core.Bool.{Bool, true, false, not}
 use mathlib.Core.List.{List, []}
 use mathlib.Core.Option.{Option, none, some}
 use native.Mathlib.Omega.{arith}
-use lib.IntN.{ℤ, pos}
+use lib.IntN.{ℤ, pos, negsuc}
 use lib.Ieee.{Float}
 use lib.Signed.{leZ, ltZ}
 use lib.Dec.{eqb, leb}
 use lib.ListN.{length}
-use borrow.Author.Tests.{leb-true, eqb-true}
+use borrow.Author.Tests.{leb-true, eqb-true, ltb-true}
 use Rattle.doubles.specs.Doubles.{allFinite}
 use Rattle.position.specs.Symbols.{goodSymbol}
-use Rattle.position.specs.Rows.{keyOf}
-use Rattle.table.specs.Keyed.{both, seek}
+use Rattle.position.specs.Rows.{keyOf, held, avg, total}
+use Rattle.position.specs.declared.position.Filled.{Filled}
+use Rattle.position.specs.Fills.{soundNumbers, sound, applied, applyFill}
+use Rattle.table.specs.Keyed.{pick, both, seek}
 use Rattle.table.specs.Rows.{holding, isZero}
 use Rattle.answer.specs.declared.Answer.{Answer}
-use Rattle.answer.specs.declared.Answer.the-variants.{Done, TooMany, NoRecordRoom, NotHeld, BufferFull}
+use Rattle.answer.specs.declared.Answer.the-variants.{Done, BadPrice, TooMany, NoRecordRoom, NotHeld, BufferFull, Unsound}
 use Rattle.answer.specs.Numbers.{isDone, unless, orLater}
-use Rattle.answer.specs.Places.{placeOf}
+use Rattle.answer.specs.Places.{alone, placeOf}
 use Rattle.answer.proofs.Answers.{done-is}
 use Rattle.answer.proofs.Choice.{by-test, both-true}
 use Rattle.position.specs.declared.position.Position.{Position}
@@ -106,6 +108,22 @@ position-says s price a =
     found : goodSymbol s ≡ true → (o : Option Position) → Q (presentOr o)
     found g none = g
     found g (some p) = g
+
+-- a fill by itself: its price is asked to be at least 0
+below-both : (price : ℤ) → ltZ price (pos 0) ≡ true → ltZ price (pos 1) ≡ true
+below-both (pos n) e = absurd (omega (arith, ltb-true n 0 e))
+below-both (negsuc n) e = refl
+
+pub apply-fill-says : (p : Position) (q price : ℤ) → SaysAlone (keyOf p) price (applyFill p q price .answer)
+unfolding applyFill sound
+apply-fill-says p q price = go (goodSymbol (keyOf p)) refl (soundNumbers (held p) (avg p) (total p)) (ltZ price (pos 0)) refl
+  where
+    go : (g : Bool) → goodSymbol (keyOf p) ≡ g → (n : Bool) (below : Bool) → ltZ price (pos 0) ≡ below
+        → SaysAlone (keyOf p) price (pick {A = Filled} (not (both g n)) (record { answer = Unsound; position = p }) (pick below (record { answer = BadPrice alone; position = p }) (record { answer = Done; position = applied p q price })) .answer)
+    go true e true true b = (refl, e, below-both price b)
+    go true e true false b = e
+    go true e false below b = tt
+    go false e n below b = tt
 
 -- ---- C's word cuts nothing of a place in lists
 module _ (ts : List ℕ) (ws : List Float) (ps : List ℕ) (vs : List ℤ) where
