@@ -17,7 +17,7 @@ settingsIn b = accountIn b .settings
 unfoldable pub accountBytes : Account → List ℕ
 accountBytes a = bytesOf (accountWords a)
 
--- ---- the answer's number, and the lent bytes as the entry leaves them
+-- ---- the answer's word, and the lent bytes as the entry leaves them
 pub record AccountTold : Type 0 where
   pub number : ℕ
   pub lent : List ℕ

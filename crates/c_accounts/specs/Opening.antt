@@ -15,7 +15,7 @@ use Rattle.account_bytes.specs.Sizes.{accountLength}
 use Rattle.account_bytes.specs.Settings.{readSettings}
 use Rattle.c_accounts.specs.Entries.{accountBytes}
 
--- ---- the answer's number, and both lent runs after it
+-- ---- the answer's word, and both lent runs after it
 pub record OpenTold : Type 0 where
   pub number : ℕ
   pub account : List ℕ

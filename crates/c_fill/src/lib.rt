@@ -288,7 +288,7 @@ fn fill_asked(
 
 // The settings of a fill as numbers, the order, and the lent places: cash, shortfall and the position's quantity, average, realized profit and total cost;
 // the counts of trimmed fills and of records; and room for one record or more, as four words and eight numbers. A refusal leaves all as found.
-// The answer's number, and 256 times the count of records that were written.
+// The word of a refusal, or 256 times the count of records that were written.
 #[no_mangle]
 pub extern "C" fn tc_fill(
     commission_bps: f64,

@@ -1,4 +1,4 @@
--- What a query returns and leaves: the answer's number in the low eight bits with the count of weights above it, and the lent bytes.
+-- What a query returns and leaves: the answer's number in the low eight bits, with the count of weights or a refusal's place above it, and the lent bytes.
 use Prim.Native.Nat.{ℕ}
 use mathlib.Core.List.{List}
 use Rattle.answer.specs.declared.Answer.{Answer}

@@ -114,7 +114,7 @@ fn close_in_room(
     )
 }
 
-// The answer's number, and 256 times the count of records.
+// The word of a refusal, or 256 times the count of records.
 #[no_mangle]
 pub extern "C" fn tc_close_position_at(
     account: &mut [u8],

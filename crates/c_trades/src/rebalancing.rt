@@ -134,7 +134,7 @@ fn rebalance_in_room(
     )
 }
 
-// The answer's number, and 256 times the count of records.
+// The word of a refusal, or 256 times the count of records.
 #[no_mangle]
 pub extern "C" fn tc_rebalance_simple(
     account: &mut [u8],

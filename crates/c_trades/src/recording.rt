@@ -73,7 +73,7 @@ fn file_return<'a>(
     keep(c, account)
 }
 
-// The answer's number.
+// The answer's word.
 #[no_mangle]
 pub extern "C" fn tc_record_return(
     account: &mut [u8],

@@ -1,4 +1,4 @@
--- The number of a question to an account, and its words where all is well.
+-- The word of a question to an account, and its words where all is well.
 use Prim.Native.Nat.{ℕ, _*_}
 use mathlib.Core.List.{List}
 use lib.Dec.{eqb}
