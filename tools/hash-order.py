@@ -63,10 +63,10 @@ def in_map_order(account, positions):
 
 def played(account, call, lines):
     """The account after the call as the play's map holds it, or None where the play is not the model's."""
-    after, said = compare.call(account, call)
+    after, _, said = compare.played(account, call)
     if call.startswith("open "):
         after = AsHeld(**vars(after))
-    ours, theirs = split(said + list(compare.account_lines(after))), split(lines)
+    ours, theirs = split(said), split(lines)
     if ours[0] != theirs[0] or sorted(ours[1]) != sorted(theirs[1]):
         return None
     return in_map_order(after, theirs[1])

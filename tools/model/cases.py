@@ -1,10 +1,11 @@
-"""Document 01's checked cases, a to l, and its refusals, and document 02's case of request 1 with its like and cases of requests 2, 3
-and 5, on the model. Exit status 1 where one fails."""
+"""Document 01's checked cases, a to l, and its refusals, and document 02's case of request 1 with its like and cases of requests 2, 3,
+5 and 9, on the model. Exit status 1 where one fails."""
 import sys
 from dataclasses import replace
 
 import house
 import model
+from cases_places import PLACES
 from cases_saved import SAVED
 from model import Account, Costs, Order, Position, Settings
 
@@ -76,7 +77,7 @@ def cash_first(cash, costs, shares, prices, targets=(), mode=True, **settings):
     held = {s: Position(n * WHOLE, prices[s], 0, n * prices[s]) for s, n in shares.items()}
     a = account(cash, costs, held, recording=True, cash_first=mode, **settings)
     answer, a, records = model.rebalance(a, list(targets), list(prices.items()), 0, "rebalance")
-    return answer, "".join(chr(r.symbol >> 56) for r in records), a.cash
+    return answer.number, "".join(chr(r.symbol >> 56) for r in records), a.cash
 
 
 # Document 02, request 1. At a price of 7 a gap of 1 becomes 142,857 micro-shares, which are worth 0.
@@ -169,6 +170,10 @@ def two_sold(ceiling):
     return cash_first(0, Costs(20_000.0, 0.0, 0, ceiling), {A: 1, B: 1}, {A: 10, B: 25})
 
 
+def opening(costs, places=1):
+    return model.opened(1, costs, places)[0].number
+
+
 # Document 02, request 3.
 CEILING = [
     ("a flat fee", [FLAT.commission(n) for n in (0, 10_000, 1_000_000)], [100, 100, 100]),
@@ -187,12 +192,12 @@ CEILING = [
     ("cash first by the ceiling", two_sold(15), (0, "BA", 5)),
     ("both in the first group by the ceiling", two_sold(10), (0, "AB", 15)),
     ("neither without a ceiling", two_sold(0), (0, "", 0)),
-    ("a ceiling below the floor", model.opened(1, Costs(0.0, 0.0, 100, 99))[0], 1),
-    ("a negative ceiling", [model.opened(1, Costs(0.0, 0.0, n, -1))[0] for n in (0, 100)], [1, 1]),
-    ("a ceiling equal to the floor", model.opened(1, FLAT)[0], 0),
-    ("a ceiling over a floor of 0", model.opened(1, Costs(0.0, 0.0, 0, 1))[0], 0),
-    ("a bad ceiling before no place", model.opened(1, Costs(0.0, 0.0, 100, 99), 0)[0], 1),
-    ("a bad ceiling in an account", model.total_equity(account(1, Costs(0.0, 0.0, 100, 99)), [])[0], 11),
+    ("a ceiling below the floor", opening(Costs(0.0, 0.0, 100, 99)), 1),
+    ("a negative ceiling", [opening(Costs(0.0, 0.0, n, -1)) for n in (0, 100)], [1, 1]),
+    ("a ceiling equal to the floor", opening(FLAT), 0),
+    ("a ceiling over a floor of 0", opening(Costs(0.0, 0.0, 0, 1)), 0),
+    ("a bad ceiling before no place", opening(Costs(0.0, 0.0, 100, 99), 0), 1),
+    ("a bad ceiling in an account", model.total_equity(account(1, Costs(0.0, 0.0, 100, 99)), [])[0].number, 11),
 ]
 
 CASES = [
@@ -253,7 +258,8 @@ def refusals():
 
 def main():
     failures = 0
-    first, second = CASES + list(refusals()), CASH_FIRST + HOUSE + CEILING + SAVED
+    first = CASES + [(name, answer.number, number) for name, answer, number in refusals()]
+    second = CASH_FIRST + HOUSE + CEILING + SAVED + PLACES
     for paper, (name, found, expected) in [("01", row) for row in first] + [("02", row) for row in second]:
         if found != expected:
             failures += 1

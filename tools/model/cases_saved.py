@@ -3,7 +3,7 @@ from dataclasses import replace
 from pathlib import Path
 
 import saved
-from model import SCALE, TOP, Account, Costs, Position, Settings
+from model import DONE, SCALE, TOP, Account, Answer, Costs, Position, Settings
 
 AAPL = int.from_bytes(b"AAPL".ljust(8, b"\0"), "big")
 MOST = 2**64 - 1
@@ -27,15 +27,23 @@ def file(after="", **parts):
     return bytes.fromhex("".join({**SMALL, **parts}.values()) + after)
 
 
+def loaded(file):
+    return saved.load(file)[0]
+
+
 def answer(after="", **parts):
-    return saved.load(file(after, **parts))[0]
+    return loaded(file(after, **parts)).number
+
+
+def beginning(part, **parts):
+    """A file that ends after a part."""
+    names = list(SMALL)
+    kept = {**SMALL, **parts}
+    return bytes.fromhex("".join(kept[name] for name in names[:names.index(part) + 1]))
 
 
 def cut(part, **parts):
-    """The answer to a file that ends after a part."""
-    names = list(SMALL)
-    kept = {**SMALL, **parts}
-    return saved.load(bytes.fromhex("".join(kept[name] for name in names[:names.index(part) + 1])))[0]
+    return loaded(beginning(part, **parts)).number
 
 
 def full():
@@ -56,22 +64,23 @@ def negative_zeros(a):
 STORED = (Path(__file__).resolve().parents[2] / "rust/threshcoil/tests/files/form-1").read_bytes()
 LONGEST = saved.file_of(full())
 NINE = "80" * 9
+GIVEN = Answer(DONE)
 SAVED = [
     ("numbers", [saved.written(n).hex() for n in (0, 127, 128, 300, 16_383, 16_384)], ["00", "7f", "8001", "ac02", "ff7f", "808001"]),
     ("numbers of nine and ten groups", [saved.written(n).hex() for n in (2**63 - 1, 2**63, MOST)],
      ["ff" * 8 + "7f", NINE + "01", "ff" * 9 + "01"]),
     ("signed numbers", [saved.of_signed(n) for n in (0, -1, 1, -2, TOP, -TOP - 1)], [0, 1, 2, 3, MOST - 1, MOST]),
     ("signed numbers back", [saved.to_signed(n) for n in (0, 1, 2, 3, MOST - 1, MOST)], [0, -1, 1, -2, TOP, -TOP - 1]),
-    ("case d", saved.save(CASE_D), (0, bytes.fromhex(CASE_D_FILE))),
-    ("case d back", saved.load(bytes.fromhex(CASE_D_FILE)), (0, CASE_D)),
-    ("the stored file of form 1", saved.save(saved.load(STORED)[1]), (0, STORED)),
-    ("the longest file", (len(LONGEST), saved.load(LONGEST)), (3_328, (0, full()))),
+    ("case d", saved.save(CASE_D), (GIVEN, bytes.fromhex(CASE_D_FILE))),
+    ("case d back", saved.load(bytes.fromhex(CASE_D_FILE)), (GIVEN, CASE_D)),
+    ("the stored file of form 1", saved.save(saved.load(STORED)[1]), (GIVEN, STORED)),
+    ("the longest file", (len(LONGEST), saved.load(LONGEST)), (3_328, (GIVEN, full()))),
     ("negative zeros in settings", saved.save(negative_zeros(CASE_D)), saved.save(CASE_D)),
-    ("an unsound account before the room", saved.save(replace(CASE_D, cash=-1), 0)[0], 11),
-    ("a room of the file, and one less", [saved.save(CASE_D, n)[0] for n in (55, 54)], [0, 19]),
+    ("an unsound account before the room", saved.save(replace(CASE_D, cash=-1), 0)[0].number, 11),
+    ("a room of the file, and one less", [saved.save(CASE_D, n)[0].number for n in (55, 54)], [0, 19]),
     ("a small file", [answer(), len(file())], [0, 29]),
-    ("every part of the longest file", {saved.load(LONGEST[:n])[0] for n in range(len(LONGEST))}, {16}),
-    ("nothing", saved.load(b"")[0], 16),
+    ("every part of the longest file", {loaded(LONGEST[:n]).number for n in range(len(LONGEST))}, {16}),
+    ("nothing", loaded(b"").number, 16),
     ("form 0 and form 2", [answer(form="00"), answer(form="02")], [11, 11]),
     ("form 1 in two groups, and form 0", [answer(form="8100"), answer(form="8000")], [17, 17]),
     ("nine continuing groups and the end", cut("cash", cash=NINE), 16),

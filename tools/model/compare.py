@@ -1,13 +1,13 @@
 """Plays the scenarios on standard input on the model and holds its answers to those written beside them.
 
 usage: harness scenarios SEED COUNT | python3 tools/model/compare.py                  the Rust's answers
-       harness spoiled SEED COUNT | python3 tools/model/compare.py                    the port's, refusals and cash-first mode among them
+       harness spoiled SEED COUNT | python3 tools/model/compare.py spoiled            the port's, cash-first mode among them, and the places of refusals
        harness cash-first SEED COUNT | python3 tools/model/compare.py cash-first      the port's in cash-first mode, and what they meet
        harness ceiling SEED COUNT | python3 tools/model/compare.py ceiling            the port's under a commission ceiling, and what they meet
 
-The text is that of rust/scenario: a call after '>', what it gave and the account after it after '<'. A call with no
-answer beside it is played and its answer number counted. Exit status 1 where an answer differs, nothing was played, or, of
-cash-first mode and of ceilings, something was met too seldom.
+The text is that of rust/scenario: a call after '>', what it gave and the account after it after '<'. A refusal is written as the C
+interface returns it, its place above its number. A call with no answer beside it is played and its answer number counted. Exit status
+1 where an answer differs, nothing was played, or, of all but the first, something was met too seldom.
 """
 import struct
 import sys
@@ -15,6 +15,7 @@ from collections import Counter
 
 import met
 import met_ceiling
+import met_places
 import model
 from model import Costs
 
@@ -25,6 +26,14 @@ def double(word):
 
 def digits(x):
     return "7ff8000000000000" if x != x else struct.pack(">d", x).hex()
+
+
+def word(answer):
+    """The number in the lowest byte; above it twice the index, plus 1 for prices, or the byte of a file as it is."""
+    number, place = answer
+    if isinstance(place, model.Entry):
+        place = 2 * place.index + ["targets", "prices"].index(place.list)
+    return number + 256 * (place or 0)
 
 
 def pairs(words, number):
@@ -81,41 +90,47 @@ def opening(words):
 
 
 def call(account, line):
-    """The account after the call on a line, and the lines that it answers."""
+    """The account after the call on a line, its answer, and the lines that tell what it gave."""
     verb, *words = line.split(" ")
     words = [word for word in words if word]
     if verb == "open":
         answer, account = model.opened(*opening(words))
-        return account, [f"answer {answer}"]
+        return account, answer, []
     if verb == "set":
         answer, account = model.with_setting(account, **{words[0]: setting(*words)})
-        return account, [f"answer {answer}"]
+        return account, answer, []
     if verb == "rebalance":
         context, *given = lists(line)
         answer, account, records = model.rebalance(account, *given, int(context[0]), context[1], int(context[2]))
-        return account, [f"answer {answer}", *map(record_line, records)]
+        return account, answer, [*map(record_line, records)]
     if verb == "close":
         context = int(words[0]), words[1], int(words[2])
         answer, account, records = model.close(account, int(words[3], 16), int(words[4]), *context)
-        return account, [f"answer {answer}", *map(record_line, records)]
+        return account, answer, [*map(record_line, records)]
     if verb == "record_return":
         answer, account, equity, gain = model.record_return(account, pairs(words[2:], int), int(words[0]), int(words[1]))
-        return account, told(answer, lambda: f"recorded {equity} {'none' if gain is None else digits(gain)}")
-    return account, query(account, verb, words)
+        return account, answer, told(answer, lambda: f"recorded {equity} {'none' if gain is None else digits(gain)}")
+    return account, *query(account, verb, words)
 
 
 def told(answer, figures):
-    """A refusal has its number alone."""
-    return [f"answer {answer}"] + ([figures()] if answer == model.DONE else [])
+    """A refusal tells nothing beside its number and place."""
+    return [figures()] if answer.number == model.DONE else []
 
 
 def query(account, verb, words):
     if verb == "position":
         symbol = int(words[0], 16)
         answer, p = model.position(account, symbol)
-        return told(answer, lambda: f"found {'none' if p is None else held(symbol, p)}")
+        return answer, told(answer, lambda: f"found {'none' if p is None else held(symbol, p)}")
     answer, found = getattr(model, verb)(account, pairs(words, int))
-    return told(answer, lambda: FIGURES[verb](found))
+    return answer, told(answer, lambda: FIGURES[verb](found))
+
+
+def played(account, line):
+    """The account after the call on a line, its answer, and all that it gives as text."""
+    account, answer, lines = call(account, line)
+    return account, answer, [f"answer {word(answer)}", *lines, *account_lines(account)]
 
 
 FIGURES = {
@@ -147,7 +162,7 @@ def exchanges(lines):
 
 def met_in_mode(account, line, answer):
     """What a call met, where it is a rebalance of an account in cash-first mode."""
-    if not line.startswith("rebalance ") or answer != model.DONE or not account.settings.cash_first:
+    if not line.startswith("rebalance ") or answer.number != model.DONE or not account.settings.cash_first:
         return {}
     _, targets, prices = lists(line)
     return met.rebalance(account, targets, dict(prices))
@@ -158,7 +173,7 @@ def met_under_ceiling(account, line, answer):
     verb, *words = line.split()
     if verb == "open":
         return met_ceiling.opening(*opening(words), answer)
-    if answer != model.DONE or account.settings.costs.max_commission == 0:
+    if answer.number != model.DONE or account.settings.costs.max_commission == 0:
         return {}
     if verb == "rebalance":
         _, targets, prices = lists(line)
@@ -166,29 +181,43 @@ def met_under_ceiling(account, line, answer):
     return met_ceiling.close(account, int(words[3], 16), int(words[4])) if verb == "close" else {}
 
 
-# What a run must meet, and how a call is looked at for it.
-RUNS = {"cash-first": (met.ALL, met_in_mode), "ceiling": (met_ceiling.ALL, met_under_ceiling)}
+def met_refused(account, line, answer):
+    """What a call met, where it is refused at an entry."""
+    verb, *words = line.split()
+    if answer.place is None:
+        return {}
+    if verb in ("position", "close"):
+        return met_places.alone(answer)
+    targets, prices = lists(line)[1:] if verb == "rebalance" else ([], pairs([word for word in words if "=" in word], int))
+    return met_places.entry(answer, targets, prices)
+
+
+# What a run must meet, how a call is looked at for it, and how often in 1,000 scenarios it must be met.
+RUNS = {
+    "spoiled": (met_places.ENTRIES, met_refused, ("once", 1)),
+    "cash-first": (met.ALL, met_in_mode, ("ten times", 10)),
+    "ceiling": (met_ceiling.ALL, met_under_ceiling, ("ten times", 10)),
+}
 
 
 def main():
     run = sys.argv[1] if len(sys.argv) > 1 else None
     if len(sys.argv) > 2 or run not in [None, *RUNS]:
         sys.exit(__doc__)
-    names, met_by = RUNS.get(run, ([], None))
-    account, scenarios, compared, differences, answers, found = None, 0, 0, 0, Counter(), Counter()
+    names, met_by, (least, times) = RUNS.get(run, ([], None, ("", 0)))
+    account, scenarios, compared, placed, differences, answers, found = None, 0, 0, 0, 0, Counter(), Counter()
     for name, asked, expected in exchanges(sys.stdin):
         if asked.startswith("open "):
             account = None
             scenarios += 1
         elif account is None:
             continue  # the rest of a scenario in which something differed
-        before, (account, lines) = account, call(account, asked)
-        lines += account_lines(account)
-        answer = int(lines[0].split()[1])
-        answers[answer] += 1
+        before, (account, answer, lines) = account, played(account, asked)
+        answers[answer.number] += 1
         if run:
             found.update(met_by(before, asked, answer))
         compared += len(expected) > 0
+        placed += answer.place is not None
         if expected and lines != expected:
             differences += 1
             account = None
@@ -197,8 +226,8 @@ def main():
                 print(f"DIFFERS in {name}\n  asked: {asked}\n  model: {ours}\n  given: {theirs}")
     given = ", ".join(f"{n} {answers[n]} times" for n in sorted(answers))
     print(f"model: {scenarios} scenarios, {answers.total()} calls; answers {given}")
-    print(f"model: {compared} calls compared, {differences} differences")
-    missed = met.told(run, names, found, scenarios) if run else []
+    print(f"model: {compared} calls compared, {differences} differences; {placed} refusals told a place")
+    missed = met.told(run, names, found, scenarios, f"{least} in 1,000 scenarios", times) if run else []
     sys.exit(differences > 0 or scenarios == 0 or len(missed) > 0)
 
 

@@ -3,7 +3,7 @@
 usage: harness ceiling-fills SEED COUNT | python3 tools/model/fills.py     the port's under a commission ceiling, and what they meet
 
 A fill after '>' with the account of at most one position that it finds; what it gave, the account that it left and its record after
-'<'. Exit status 1 where something differs, nothing was played, or something was met too seldom.
+'<', a refusal with its place. Exit status 1 where something differs, nothing was played, or something was met too seldom.
 """
 import sys
 from collections import Counter
@@ -11,8 +11,11 @@ from collections import Counter
 import compare
 import met
 import met_ceiling
+import met_places
 import model
 from model import Account, Costs, Order, Position, Settings
+
+REFUSED = "4 of one symbol"
 
 
 def read(line):
@@ -40,9 +43,10 @@ def main():
     played, differences, found = 0, 0, Counter()
     for _, asked, expected in compare.exchanges(sys.stdin):
         account, order, period, kind = read(asked)
-        after, record = model.filled(account, order, period, kind)
-        lines = [f"answer {model.DONE}", left(after, order.symbol)] + ([compare.record_line(record)] if record is not None else [])
-        found.update(met_ceiling.fill(account, order, record))
+        answer, after, record = model.fill(account, order, period, kind)
+        told = [f"answer {compare.word(answer)}", left(after, order.symbol)]
+        lines = told + ([compare.record_line(record)] if record is not None else [])
+        found.update(met_ceiling.fill(account, order, record) if answer.place is None else met_places.alone(answer))
         played += 1
         if lines != expected:
             differences += 1
@@ -50,7 +54,7 @@ def main():
                 ours, theirs = next((a, b) for a, b in zip(lines + ["-"], expected + ["-"]) if a != b)
                 print(f"DIFFERS\n  asked: {asked}\n  model: {ours}\n  given: {theirs}")
     print(f"ceiling-fills: {played} fills compared, {differences} differences")
-    missed = met.told("ceiling-fills", met_ceiling.FILLS, found, played, "once in 1,000 fills", 1)
+    missed = met.told("ceiling-fills", [*met_ceiling.FILLS, REFUSED], found, played, "once in 1,000 fills", 1)
     sys.exit(differences > 0 or played == 0 or len(missed) > 0)
 
 

@@ -67,8 +67,8 @@ def answered(accounts, parts, sums):
                          (OVER_BOUND, lambda: not 1 <= parts <= MOST_PARTS),
                          (OUT_OF_RANGE, lambda: any(leaves_i64(n) for kind in sums.kinds() for n in kind)),
                          (NO_FIRST_SUM, lambda: any(first <= 0 for first in sums.firsts)))
-    if answer != DONE:
-        return answer, None
+    if answer.number != DONE:
+        return answer.number, None
     # 'its summed change over its first sum', each a double before they are divided.
     growths = [float(gain) / float(first) for gain, first in zip(sums.gains, sums.firsts)]
     return DONE, House(product(growths) - 1.0, growths, sums)

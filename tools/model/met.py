@@ -76,7 +76,7 @@ def each(account, orders, planned, met):
         met["orders that a cap puts into their group"] += lowers(costs, planned[order.symbol]) != (change < 0)
 
 
-def told(run, names, met, count, least="ten times in 1,000 scenarios", times=10):
+def told(run, names, met, count, least, times):
     """Tells how often each was met, and what was met too seldom, and returns the latter."""
     missed = [name for name in names if met[name] * 1_000 < count * times]
     print(f"{run}: " + ", ".join(f"{name} {met[name]}" for name in names))

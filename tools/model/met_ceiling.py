@@ -91,4 +91,5 @@ def close(account, symbol, price):
 def opening(cash, costs, equity_places, answer):
     """Refused for the ceiling where it is done without one."""
     free = replace(costs, max_commission=0)
-    return {"openings refused for the ceiling": answer != model.DONE and model.opened(cash, free, equity_places)[0] == model.DONE}
+    done = model.Answer(model.DONE)
+    return {"openings refused for the ceiling": answer != done and model.opened(cash, free, equity_places)[0] == done}

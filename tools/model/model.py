@@ -1,11 +1,12 @@
-"""Document 01, and requests 1 and 3 of document 02, as a plain program: each rule once, in the paper's words. It knows nothing
+"""Document 01, and requests 1, 3 and 9 of document 02, as a plain program: each rule once, in the paper's words. It knows nothing
 of the Rust nor of the port.
 
 Python's int is exact and its float is binary64. A call takes the account as it was and returns a new one; a refusal
-returns its number and the account as given. Quantities are micro-shares, symbols the number of their eight bytes.
+returns its number with its place and the account as given. Quantities are micro-shares, symbols the number of their eight bytes.
 """
 from dataclasses import dataclass, field, replace
 from math import isfinite, isnan, trunc
+from typing import NamedTuple
 
 SCALE = 1_000_000
 TOP, BOTTOM = 2**63 - 1, -(2**63)
@@ -183,24 +184,67 @@ def good_symbol(symbol):
 
 # ---- Refusals: 'Check order where several apply: 11, 1, 6, 2, 3, 5, 4, 8, 7, 9, 10, 12.'
 
+class Entry(NamedTuple):
+    """'the list, targets or prices, and the first offending index'."""
+    list: str
+    index: int
+
+
+# 'Calls with one symbol tell index 0': of prices, since such a call has no targets.
+ALONE = Entry("prices", 0)
+
+
+class Answer(NamedTuple):
+    """A number, and the place that it tells: an entry, a byte of a file, or None."""
+    number: int
+    place: Entry | int | None = None
+
+
 def first(*checks):
-    """The number of the first check that holds; a check is a number and a test, made only in its turn."""
-    return next((number for number, test in checks if test()), DONE)
+    """The answer of the first check that holds. A check is a number and a test, made only in its turn, that tells whether it holds, or
+    at which entry."""
+    for number, test in checks:
+        found = test()
+        if found:
+            return Answer(number, None if found is True else found)
+    return Answer(DONE)
 
 
 def unsound(account):
     return (NOT_SOUND, lambda: not account.sound())
 
 
+def earliest(targets, prices, index):
+    """'Targets are examined before prices within each number': the first entry of either that offends, by its index in a list."""
+    for name, entries in (("targets", targets), ("prices", prices)):
+        k = index(entries)
+        if k is not None:
+            return Entry(name, k)
+    return None
+
+
+def bad_symbol(entries):
+    return next((k for k, (s, _) in enumerate(entries) if not good_symbol(s)), None)
+
+
+def twice(entries):
+    """'the index of the second appearance whose index is smallest'."""
+    names = [s for s, _ in entries]
+    return next((k for k, s in enumerate(names) if s in names[:k]), None)
+
+
+def bad_price(entries):
+    return next((k for k, (_, p) in enumerate(entries) if p < 1), None)
+
+
 def lists(targets, prices):
     """The checks on lists that a call is given."""
-    names = [[s for s, _ in entries] for entries in (targets, prices)]
     return [
         (OVER_BOUND, lambda: len(targets) > MOST_TARGETS or len(prices) > MOST_PRICES),
-        (BAD_SYMBOL, lambda: not all(good_symbol(s) for some in names for s in some)),
-        (TWICE, lambda: any(len(set(some)) < len(some) for some in names)),
+        (BAD_SYMBOL, lambda: earliest(targets, prices, bad_symbol)),
+        (TWICE, lambda: earliest(targets, prices, twice)),
         (BAD_WEIGHT, lambda: not all(isfinite(w) for _, w in targets)),
-        (BAD_PRICE, lambda: any(p < 1 for _, p in prices)),
+        (BAD_PRICE, lambda: earliest([], prices, bad_price)),
     ]
 
 
@@ -214,15 +258,15 @@ def opened(cash, costs, equity_places=1):
     """The answer and the account; the cash goes to the equity buffer's first place."""
     settings = Settings(costs)
     answer = first((BAD_SETTING, lambda: cash < 0 or not settings.good()), (NO_SERIES_ROOM, lambda: equity_places < 1))
-    if answer != DONE:
+    if answer.number != DONE:
         return answer, ZEROS
-    return DONE, Account(cash, settings, equity_count=1, previous_equity=cash)
+    return answer, Account(cash, settings, equity_count=1, previous_equity=cash)
 
 
 def with_setting(account, **change):
     settings = replace(account.settings, **change)
     answer = first(unsound(account), (BAD_SETTING, lambda: not settings.good()))
-    return answer, account if answer != DONE else replace(account, settings=settings)
+    return answer, account if answer.number != DONE else replace(account, settings=settings)
 
 
 # ---- Queries
@@ -245,7 +289,7 @@ def weights_of(account, prices):
 
 def asked(account, prices, query):
     answer = first(unsound(account), *lists([], prices))
-    return answer, query(account, dict(prices)) if answer == DONE else None
+    return answer, query(account, dict(prices)) if answer.number == DONE else None
 
 
 def total_equity(account, prices):
@@ -273,8 +317,8 @@ def snapshot(account, prices):
 
 
 def position(account, symbol):
-    answer = first(unsound(account), (BAD_SYMBOL, lambda: not good_symbol(symbol)))
-    return answer, account.positions.get(symbol) if answer == DONE else None
+    answer = first(unsound(account), (BAD_SYMBOL, lambda: not good_symbol(symbol) and ALONE))
+    return answer, account.positions.get(symbol) if answer.number == DONE else None
 
 
 # ---- Planning
@@ -398,8 +442,8 @@ def average(total, quantity):
 
 def apply_fill(p, quantity, price):
     """'called by itself it answers 11 for an unsound position and 4 only below 0'."""
-    answer = first((NOT_SOUND, lambda: not p.sound()), (BAD_PRICE, lambda: price < 0))
-    return answer, after_fill(p, quantity, price) if answer == DONE else p
+    answer = first((NOT_SOUND, lambda: not p.sound()), (BAD_PRICE, lambda: price < 0 and ALONE))
+    return answer, after_fill(p, quantity, price) if answer.number == DONE else p
 
 
 def need(costs, quantity, price):
@@ -453,11 +497,17 @@ def filled(account, order, period, kind):
 
 # ---- The calls
 
+def fill(account, order, period, kind):
+    """One order by itself: the answer, the account, the record."""
+    answer = first(unsound(account), (BAD_PRICE, lambda: order.price < 1 and ALONE))
+    return answer, *(filled(account, order, period, kind) if answer.number == DONE else (account, None))
+
+
 def rebalance(account, targets, prices, period, kind, places=MOST_POSITIONS):
     """The answer, the account, the records."""
     together = lambda: len({s for s, _ in targets} | set(account.positions)) > MOST_POSITIONS
     answer = first(unsound(account), *lists(targets, prices), no_room(account, places, MOST_POSITIONS), (TOO_MANY, together))
-    if answer != DONE:
+    if answer.number != DONE:
         return answer, account, []
     orders = ordered(account, targets, dict(prices))
     total = 0
@@ -468,25 +518,25 @@ def rebalance(account, targets, prices, period, kind, places=MOST_POSITIONS):
     for order in running_order(account.settings, orders):
         account, record = filled(account, order, period, kind)
         records += [record] if record is not None else []
-    return DONE, account, records
+    return answer, account, records
 
 
 def close(account, symbol, price, period, kind, places=1):
     """The answer, the account, the records. 'For closing, 8 asks for one place.'"""
     held = account.positions.get(symbol, Position())
-    answer = first(unsound(account), (BAD_SYMBOL, lambda: not good_symbol(symbol)), (BAD_PRICE, lambda: price < 1),
+    answer = first(unsound(account), (BAD_SYMBOL, lambda: not good_symbol(symbol) and ALONE), (BAD_PRICE, lambda: price < 1 and ALONE),
                    no_room(account, places, 1), (NOT_HELD, lambda: held.quantity == 0))
-    if answer != DONE:
+    if answer.number != DONE:
         return answer, account, []
     account, record = filled(account, Order(symbol, clamp(-held.quantity), price, 0.0), period, kind)
-    return DONE, account, [record] if record is not None else []
+    return answer, account, [record] if record is not None else []
 
 
 def record_return(account, prices, equity_places=MOST_COUNT, return_places=MOST_COUNT):
     """The answer, the account, the equity and the return written, None where none is."""
     full = lambda: account.equity_count >= equity_places or account.return_count >= return_places
     answer = first(unsound(account), *lists([], prices), (NO_SERIES_ROOM, full))
-    if answer != DONE:
+    if answer.number != DONE:
         return answer, account, None, None
     equity, before = equity_of(account, dict(prices)), account.previous_equity
     gain = None
@@ -496,4 +546,4 @@ def record_return(account, prices, equity_places=MOST_COUNT, return_places=MOST_
         gain = 0.0
     account = replace(account, equity_count=account.equity_count + 1, previous_equity=equity,
                       return_count=account.return_count + (gain is not None))
-    return DONE, account, equity, gain
+    return answer, account, equity, gain

@@ -1,5 +1,5 @@
-"""Request 5 of document 02, the saved form of an account, as a plain program that knows nothing of the port. Run, it saves and loads
-what is on standard input and holds what that gives to what is written beside it.
+"""Request 5 of document 02, the saved form of an account, with request 9's places in a file, as a plain program that knows nothing of the
+port. Run, it saves and loads what is on standard input and holds what that gives to what is written beside it.
 
 usage: harness saved-files SEED COUNT | python3 tools/model/saved.py     the port's answers, and what the files meet
 
@@ -13,8 +13,9 @@ from dataclasses import replace
 
 import compare
 import met
+import met_places
 import met_saved
-from model import DONE, MOST_POSITIONS, NOT_SOUND, Account, Costs, Position, Settings
+from model import DONE, MOST_POSITIONS, NOT_SOUND, Account, Answer, Costs, Position, Settings
 
 ENDS_EARLY, BAD_NUMBER, LEFT_OVER, NO_FILE_ROOM = 16, 17, 18, 19
 FORM = 1
@@ -58,9 +59,9 @@ def to_float(n):
 def save(account, room=sys.maxsize):
     """The answer, and the file of a call that is done."""
     if not account.sound():
-        return NOT_SOUND, None
+        return Answer(NOT_SOUND), None
     file = file_of(account)
-    return (DONE, file) if len(file) <= room else (NO_FILE_ROOM, None)
+    return (Answer(DONE), file) if len(file) <= room else (Answer(NO_FILE_ROOM), None)
 
 
 def file_of(a):
@@ -90,10 +91,11 @@ def position_of(symbol, p):
 
 
 # ---- Reading: '16 ..., 17 ..., 11 for an unknown form, a flag or cap mark above 1, a negative zero, over 64 positions or a symbol
-# length outside 1 to 8, as the bytes are met', 18 after the last of them, 'then 11 for an unsound account'
+# length outside 1 to 8, as the bytes are met', 18 after the last of them, 'then 11 for an unsound account'; 'the byte place for 16, 17
+# and 18: the end of the file, the number's first byte, and the first byte left over'
 
 class Fault(Exception):
-    """What is met first: its number, and in words which of those that the number stands for."""
+    """What is met first: its answer, and in words which of those that its number stands for."""
 
 
 class Reader:
@@ -105,20 +107,20 @@ class Reader:
     def byte(self, k, what):
         """The byte after k of what is being read."""
         if self.place == len(self.file):
-            raise Fault(ENDS_EARLY, f"the end {PLACES.get(k, 'within')} {what}")
+            raise Fault(Answer(ENDS_EARLY, len(self.file)), f"the end {PLACES.get(k, 'within')} {what}")
         self.place += 1
         return self.file[self.place - 1]
 
     def number(self, what="a number"):
         """'shortest form only, at most ten groups, the tenth at most 1'."""
-        n = 0
+        n, begins = 0, self.place
         for k in range(MOST_GROUPS):
             group = self.byte(k, what)
             n += group % 128 * 128**k
             if k == MOST_GROUPS - 1 and group > MOST_TENTH:
-                raise Fault(BAD_NUMBER, "a tenth group above 1")
+                raise Fault(Answer(BAD_NUMBER, begins), "a tenth group above 1")
             if k > 0 and group == 0:
-                raise Fault(BAD_NUMBER, f"{what} not shortest")
+                raise Fault(Answer(BAD_NUMBER, begins), f"{what} not shortest")
             if group < 128:
                 return n
 
@@ -126,7 +128,7 @@ class Reader:
         n = self.number(what)
         if not least <= n <= most:
             last = " at the end" if self.place == len(self.file) else ""
-            raise Fault(NOT_SOUND, f"{what} {'below' if n < least else 'above'}{last}")
+            raise Fault(Answer(NOT_SOUND), f"{what} {'below' if n < least else 'above'}{last}")
         return n
 
     def signed(self):
@@ -136,7 +138,7 @@ class Reader:
         """The number is looked at: as floats the two zeros are equal."""
         n = self.number()
         if n == NEGATIVE_ZERO:
-            raise Fault(NOT_SOUND, "a negative zero")
+            raise Fault(Answer(NOT_SOUND), "a negative zero")
         return to_float(n)
 
     def flag(self, what="a flag"):
@@ -168,7 +170,7 @@ class Reader:
         series = self.number(), self.number(), self.signed()
         positions = [self.position() for _ in range(self.within(0, MOST_POSITIONS, "the position count"))]
         if self.place < len(self.file):
-            raise Fault(LEFT_OVER, "bytes left over")
+            raise Fault(Answer(LEFT_OVER, self.place), "bytes left over")
         return Account(cash, settings, {}, *counters, *series), positions
 
 
@@ -177,19 +179,19 @@ def read(file):
     account, positions = Reader(file).account()
     names = [name for name, _ in positions]
     if not all(33 <= byte <= 126 for name in names for byte in name):
-        raise Fault(NOT_SOUND, "a symbol is bad")
+        raise Fault(Answer(NOT_SOUND), "a symbol is bad")
     if not all(a < b for a, b in zip(names, names[1:])):
-        raise Fault(NOT_SOUND, "symbols don't ascend")
+        raise Fault(Answer(NOT_SOUND), "symbols don't ascend")
     loaded = replace(account, positions={int.from_bytes(name.ljust(8, b"\0"), "big"): p for name, p in positions})
     if not loaded.sound():
-        raise Fault(NOT_SOUND, "another fault of the account")
+        raise Fault(Answer(NOT_SOUND), "another fault of the account")
     return loaded
 
 
 def load(file):
     """The answer, and the account of a call that is done."""
     try:
-        return DONE, read(file)
+        return Answer(DONE), read(file)
     except Fault as fault:
         return fault.args[0], None
 
@@ -213,8 +215,8 @@ def asked_save(words):
     room, *lines = words.split("|")
     account = read_account(lines)
     answer, file = save(account, int(room))
-    told = [f"answer {answer}"] + ([f"file {file.hex()}"] if answer == DONE else [])
-    return answer, told, met_saved.account(account, int(room), answer, len(file or b""))
+    told = [f"answer {compare.word(answer)}"] + ([f"file {file.hex()}"] if answer.number == DONE else [])
+    return answer, told, met_saved.account(account, int(room), answer.number, len(file or b""))
 
 
 def asked_load(words):
@@ -223,9 +225,9 @@ def asked_load(words):
         account = read(file)
     except Fault as fault:
         answer, why = fault.args
-        return answer, [f"answer {answer}"], met_saved.refused(answer, why)
+        return answer, [f"answer {compare.word(answer)}"], met_saved.refused(answer.number, why) + met_places.byte(answer)
     again = file_of(account) == file
-    return DONE, [f"answer {DONE}", *compare.account_lines(account)], met_saved.accepted(again)
+    return Answer(DONE), [f"answer {DONE}", *compare.account_lines(account)], met_saved.accepted(again)
 
 
 def main():
@@ -236,7 +238,7 @@ def main():
         verb, _, words = asked.partition(" ")
         answer, lines, met_here = {"save": asked_save, "load": asked_load}[verb](words)
         played[verb] += 1
-        answers[verb, answer] += 1
+        answers[verb, answer.number] += 1
         found.update(met_here)
         if lines != expected:
             differences += 1
@@ -245,7 +247,7 @@ def main():
                 print(f"DIFFERS\n  asked: {asked}\n  model: {ours}\n  given: {theirs}")
     given = ", ".join(f"{verb} {n} {answers[verb, n]} times" for verb, n in sorted(answers))
     print(f"saved-files: {played['save']} accounts and {played['load']} files compared, {differences} differences; answers {given}")
-    missed = met.told("saved-files", met_saved.ALL, found, played.total(), "once in 1,000 calls", 1)
+    missed = met.told("saved-files", met_places.BYTES + met_saved.ALL, found, played.total(), "once in 1,000 calls", 1)
     sys.exit(differences > 0 or played.total() == 0 or len(missed) > 0)
 
 

@@ -67,12 +67,13 @@ def read(message):
     return fields
 
 
-def refusal(groups):
+def is_refused(groups):
+    """Whether the model refuses a number with 17, which tells its first byte."""
     try:
         saved.Reader(groups).number()
     except saved.Fault as fault:
-        return fault.args[0]
-    return 0
+        return fault.args[0] == (saved.BAD_NUMBER, 0)
+    return False
 
 
 def longer(n):
@@ -105,9 +106,9 @@ def check(count):
     yield "it writes the same bytes", theirs == mine
     yield "the model reads what it writes", read(theirs) == [counts, amounts]
     yield f"it takes {len(forms)} longer forms", all(taken(numbers, groups) == [n] for n, groups in forms)
-    yield "which the model refuses with 17", all(refusal(groups) == saved.BAD_NUMBER for _, groups in forms)
+    yield "which the model refuses with 17", all(is_refused(groups) for _, groups in forms)
     yield f"of {len(tenths)} tenth groups above 1 it takes {sum(taken(numbers, t) is not None for t in tenths)}", True
-    yield "and the model refuses all with 17", all(refusal(t) == saved.BAD_NUMBER for t in tenths)
+    yield "and the model refuses all with 17", all(is_refused(t) for t in tenths)
 
 
 def main():
