@@ -2,6 +2,7 @@
 //! and the model in tools/model reads both as text.
 
 mod aimed;
+mod bad_lists;
 mod cash_first;
 mod ceiling;
 mod covered;
@@ -11,6 +12,7 @@ mod random;
 mod spoil;
 pub mod text;
 
+pub use bad_lists::bad_lists;
 pub use cash_first::cash_first;
 pub use ceiling::ceiling;
 pub use covered::Covered;
@@ -158,6 +160,7 @@ pub enum Reply {
 
 #[derive(Clone, Debug, PartialEq)]
 pub struct Outcome {
+    /// The number; a refusal of the port's has its place above it.
     pub answer: u64,
     pub reply: Reply,
 }

@@ -1,7 +1,7 @@
 //! Scenarios outside the domain: each spoiled call breaks one rule or more, so that refusals and their order are tried. The
 //! Rust refuses nothing, so it is no oracle for these; the model is.
 
-use crate::{Prices, Random, Scenario, Setting, Step, Symbol};
+use crate::{Prices, Random, Scenario, Setting, Step, Symbol, bad_lists};
 
 /// About one call in three spoiled, one opening in twenty, and cash-first mode turned on now and then.
 pub fn spoiled(random: &mut Random, mut scenario: Scenario) -> Scenario {
@@ -48,6 +48,9 @@ fn negative(random: &mut Random) -> i64 {
 }
 
 fn spoil(random: &mut Random, step: &mut Step) {
+    if random.one_in(2) && replaced(random, step) {
+        return;
+    }
     // Several faults at once try the order in which they are told.
     for _ in 0..1 + random.below(3) {
         match step {
@@ -74,6 +77,20 @@ fn spoil(random: &mut Random, step: &mut Step) {
             | Step::Snapshot(prices) => spoil_prices(random, prices),
         }
     }
+}
+
+/// Lists with several bad entries in the place of a call's own; false where it takes none.
+fn replaced(random: &mut Random, step: &mut Step) -> bool {
+    match step {
+        Step::Rebalance { targets, prices, .. } => (*targets, *prices) = bad_lists(random),
+        Step::RecordReturn { prices, .. }
+        | Step::TotalEquity(prices)
+        | Step::CurrentWeights(prices)
+        | Step::UnpricedHolding(prices)
+        | Step::Snapshot(prices) => *prices = bad_lists(random).1,
+        Step::Set(_) | Step::Close { .. } | Step::Position(_) => return false,
+    }
+    true
 }
 
 fn spoil_setting(random: &mut Random, setting: &mut Setting) {
@@ -127,7 +144,7 @@ fn lengthen<T: Copy>(random: &mut Random, list: &mut Vec<(Symbol, T)>, bound: us
     }
 }
 
-fn bad_symbol(random: &mut Random) -> Symbol {
+pub fn bad_symbol(random: &mut Random) -> Symbol {
     Symbol(random.pick(&[
         *b"\0\0\0\0\0\0\0\0",
         *b"A\0B\0\0\0\0\0",
@@ -138,6 +155,6 @@ fn bad_symbol(random: &mut Random) -> Symbol {
     ]))
 }
 
-fn bad_price(random: &mut Random) -> i64 {
+pub fn bad_price(random: &mut Random) -> i64 {
     if random.one_in(2) { 0 } else { negative(random) }
 }
