@@ -1,6 +1,10 @@
 //! Calls on accounts, timed beside the Rust's: through the C interface on bytes that are ready, by value within the proved code, and
 //! through the safe crate.
 
+mod checks;
+
+pub use checks::run as run_checks;
+
 use crate::direct::{direct_rebalance, direct_return, direct_snapshot};
 use crate::port::model;
 use oracle::Timed;
@@ -359,7 +363,7 @@ pub fn run() -> bool {
             println!("{}", told(n, row.name, rust, ours));
         }
     }
-    run_cash_first() && run_ceiling()
+    run_cash_first() && run_ceiling() && run_checks()
 }
 
 /// Cash-first mode alone, beside plain order.

@@ -1,14 +1,17 @@
 //! Random, truncated and damaged bytes at every entry of the C interface; house returns and saved accounts have runs of their own. The
-//! answer is held to `expected`, which reads the same bytes by document 01's table; after a refusal every lent byte is as found, and after
-//! 0 only those that were to be written differ.
+//! answer, with its place, is held to `expected`, which reads the same bytes by the documents' tables; after a refusal every lent byte is as
+//! found, and after 0 only those that were to be written differ.
 
 mod expected;
+mod places;
 
 pub use expected::sound;
 
-use crate::port::Port;
+use crate::place::Answer;
+use crate::port::{Port, priced, weighed};
 use expected::expected;
-use scenario::{Account, Random, Scenario, Step, scenario};
+use places::Places;
+use scenario::{Account, Random, Scenario, Step, bad_lists, scenario};
 use std::collections::BTreeMap;
 use threshcoil_sys as port;
 use threshcoil_sys::layout::{self, Column, Kind, Word};
@@ -138,10 +141,10 @@ fn call(entry: Entry, g: &mut Given) -> u64 {
 /// Whether what was lent is as it may be: all as found after a refusal; after 0 the account sound where it was lent to be
 /// written, and the places past those filled as found.
 fn kept(entry: Entry, before: &Given, after: &Given, answer: u64) -> bool {
-    let count = (answer / 256) as usize;
     if answer % 256 != 0 {
-        return count == 0 && same(before, after);
+        return same(before, after);
     }
+    let count = (answer / 256) as usize;
     let mut allowed = before.clone();
     if matches!(entry, Open | QuantityStep | MinOrderValue | MaxOrderValue | NoTradeBand | MaxTrades)
         || matches!(entry, MaxRebalanceNotional | Recording | CashFirst | Rebalance | Close | RecordReturn)
@@ -193,19 +196,22 @@ struct Met {
     reserved: u64,
     /// Openings refused with 1 and calls refused with 11 for the ceiling alone, and calls done under one.
     ceilings: [u64; 3],
+    places: Places,
 }
 
 impl Met {
-    fn add(&mut self, entry: Entry, before: &Given, answer: u64) {
-        *self.answers.entry(answer % 256).or_default() += 1;
+    /// A call and its answer, as expected.
+    fn add(&mut self, entry: Entry, before: &Given, answer: Answer) {
+        *self.answers.entry(answer.number).or_default() += 1;
+        self.places.add(entry, before, answer);
         let (of, from) = if entry == Open { (&before.settings, 0) } else { (&before.account, layout::SETTINGS_FROM) };
         let hit = reserved(of, from).into_iter().any(|place| word(of, place) != 0);
-        self.reserved += u64::from(hit && [1, 11].contains(&answer));
+        self.reserved += u64::from(hit && [1, 11].contains(&answer.number));
         if ceiling_of(of, from).is_none_or(|place| word(of, place) == 0) {
             return;
         }
         let alone = || expected(entry, &without_ceiling(before)) != answer;
-        match answer % 256 {
+        match answer.number {
             0 => self.ceilings[2] += 1,
             1 if entry == Open && alone() => self.ceilings[0] += 1,
             11 if alone() => self.ceilings[1] += 1,
@@ -216,7 +222,8 @@ impl Met {
     fn all(&self) -> bool {
         let reserves = [layout::SETTINGS, layout::COUNTERS].concat().iter().any(|row| row.kind == Kind::Reserved);
         let answers = (0..=12).all(|number| self.answers.contains_key(&number));
-        answers && (self.reserved > 0 || !reserves) && self.ceilings.iter().all(|times| *times > 0)
+        let ceilings = self.ceilings.iter().all(|times| *times > 0);
+        answers && (self.reserved > 0 || !reserves) && ceilings && self.places.missed().is_empty()
     }
 }
 
@@ -233,12 +240,14 @@ pub fn run(seed: u64, count: u64) -> bool {
             given.out = vec![0x5a; entry.out_size()];
             spoil(&mut random, &mut given);
             let before = given.clone();
-            let answer = call(entry, &mut given);
-            met.add(entry, &before, answer);
-            if answer % 256 != expected(entry, &before) || !kept(entry, &before, &given, answer) {
+            let (expected, answer) = (expected(entry, &before), call(entry, &mut given));
+            met.add(entry, &before, expected);
+            // A call that is done counts above its number.
+            let told = if answer % 256 == 0 { 0 } else { answer };
+            if told != expected.word() || !kept(entry, &before, &given, answer) {
                 wrong += 1;
                 if wrong <= 3 {
-                    println!("WRONG: {entry:?} answers {answer}, expected {}", expected(entry, &before));
+                    println!("WRONG: {entry:?} answers {answer}, expected {} of {expected:?}", expected.word());
                 }
             }
         }
@@ -255,6 +264,10 @@ pub fn run(seed: u64, count: u64) -> bool {
     println!(
         "damage: for the ceiling alone 1 of an opening {openings} times, 11 of an account {calls} times; done under one {done}"
     );
+    println!("damage: {} refusals told a place: {}", met.places.told(), met.places);
+    if !met.places.missed().is_empty() {
+        println!("damage: not met: {}", met.places.missed().join(", "));
+    }
     wrong == 0 && met.all()
 }
 
@@ -293,14 +306,12 @@ fn played(random: &mut Random) -> (Given, Step) {
 
 /// The lists and the symbol of the next call, as far as it has them.
 fn lists(given: &mut Given, step: &Step) {
-    let entry = |symbol: [u8; 8], word: [u8; 8]| [symbol, word].concat();
     match step {
         Step::Rebalance { targets, prices, .. } => {
-            given.targets = targets.iter().flat_map(|(s, w)| entry(s.0, w.to_le_bytes())).collect();
-            given.prices = prices.iter().flat_map(|(s, p)| entry(s.0, p.to_le_bytes())).collect();
+            (given.targets, given.prices) = (weighed(targets), priced(prices));
         }
         Step::RecordReturn { prices, .. } | Step::TotalEquity(prices) | Step::Snapshot(prices) => {
-            given.prices = prices.iter().flat_map(|(s, p)| entry(s.0, p.to_le_bytes())).collect();
+            given.prices = priced(prices);
         }
         Step::Close { symbol, .. } | Step::Position(symbol) => given.symbol = u64::from_be_bytes(symbol.0),
         _ => {}
@@ -310,10 +321,14 @@ fn lists(given: &mut Given, step: &Step) {
     }
 }
 
-/// Nothing, or one to three things.
+/// Nothing, or one to three things; and a third of the time lists with several bad entries.
 fn spoil(random: &mut Random, g: &mut Given) {
+    if random.one_in(3) {
+        let (targets, prices) = bad_lists(random);
+        (g.targets, g.prices) = (weighed(&targets), priced(&prices));
+    }
     for _ in 0..random.below(4) {
-        match random.below(16) {
+        match random.below(17) {
             0 | 1 => damage(random, &mut g.account),
             2 => damage(random, &mut g.settings),
             3 => damage(random, &mut g.targets),
@@ -336,6 +351,7 @@ fn spoil(random: &mut Random, g: &mut Given) {
             13 => reserve(random, &mut g.settings, 0),
             14 if random.one_in(2) => limit(random, &mut g.account, layout::SETTINGS_FROM),
             14 => limit(random, &mut g.settings, 0),
+            15 => g.number = -(random.below(3) as i64),
             _ => g.counts.truncate(random.below(8) as usize),
         }
     }

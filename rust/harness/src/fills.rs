@@ -1,6 +1,7 @@
 //! Runs of fills: positions as nanobook makes them, fill after fill, beside the port's; and what the port must refuse.
 
 use crate::leaf::{Numbers, is_sound, refusal};
+use crate::place::DONE;
 use scenario::Random;
 use threshcoil_sys as port;
 
@@ -110,7 +111,7 @@ pub fn next(random: &mut Random, sort: u64, [held, average, ..]: Numbers) -> (i6
     (quantity, price)
 }
 
-/// Unsound positions, prices below 0 and slices that are no position: each with its number, and left as found.
+/// Unsound positions, prices below 0 and slices that are no position: each with its number and place, and left as found.
 fn refusals(seed: u64, count: u64) -> bool {
     let mut random = Random::new(!seed);
     let (mut wrong, mut unsound, mut below, mut lengths) = (0u64, 0u64, 0u64, 0u64);
@@ -120,12 +121,12 @@ fn refusals(seed: u64, count: u64) -> bool {
         let symbol = if random.one_in(3) { random.word() } else { SYMBOL };
         let (quantity, price) = (random.i64(), random.i64());
         let expected = refusal(symbol, found, price);
-        if expected > 0 {
+        if expected != DONE {
             let mut numbers = found;
-            wrong +=
-                u64::from(port::tc_apply_fill(symbol, &mut numbers, quantity, price) != expected || numbers != found);
-            unsound += u64::from(expected == 11);
-            below += u64::from(expected == 4);
+            let answer = port::tc_apply_fill(symbol, &mut numbers, quantity, price);
+            wrong += u64::from(answer != expected.word() || numbers != found);
+            unsound += u64::from(expected.number == 11);
+            below += u64::from(expected.number == 4);
         }
         let length = random.below(9) as usize;
         if length != 4 {

@@ -9,6 +9,7 @@ mod fills;
 mod house;
 mod leaf;
 mod model;
+mod place;
 mod played;
 mod port;
 mod sample;
@@ -22,7 +23,7 @@ mod values;
 const USAGE: &str =
     "usage: harness leaves [SEED [COUNT]] | fills [SEED [COUNT]] | single [SEED [COUNT]] | figures [SEED [COUNT]]
     | house [SEED [COUNT]] | accounts [SEED [COUNT]] | damage [SEED [COUNT]] | full | bench | bench values | bench figures
-    | bench house | bench saved | bench accounts | bench cash-first | bench ceiling | scenarios [SEED [COUNT]]
+    | bench house | bench saved | bench accounts | bench cash-first | bench ceiling | bench checks | scenarios [SEED [COUNT]]
     | spoiled [SEED [COUNT]]
     | cash-first [SEED [COUNT]] | ceiling [SEED [COUNT]] | ceiling-fills [SEED [COUNT]] | house-groups [SEED [COUNT]]
     | saved [SEED [COUNT]] | saved-damage [SEED [COUNT]] | saved-files [SEED [COUNT]] | stack | table
@@ -48,6 +49,7 @@ fn main() {
         ["bench", "accounts"] => bench::run(),
         ["bench", "cash-first"] => bench::run_cash_first(),
         ["bench", "ceiling"] => bench::run_ceiling(),
+        ["bench", "checks"] => bench::run_checks(),
         ["accounts", ref rest @ ..] => seeded(rest, 8_000, account::run),
         ["damage", ref rest @ ..] => seeded(rest, 20_000, damage::run),
         ["saved", ref rest @ ..] => seeded(rest, 50_000, saved::run),
@@ -97,12 +99,13 @@ fn full() -> bool {
     let accounts = account::run(SEED + 1, 90_000);
     let damage = damage::run(SEED + 1, 400_000);
     let saved = saved::run(SEED + 1, 1_000_000) && saved::run_damage(SEED + 1, 1_000_000);
+    let spoiled = model::plays(&["compare.py", "spoiled"], account::emit_spoiled, SEED + 1, 100_000);
     let ceiling = model::plays(&["compare.py", "ceiling"], account::emit_ceiling, SEED + 1, 25_000);
     let ceiling_fills = model::plays(&["fills.py"], single::emit, SEED + 1, 1_000_000);
     let house_groups = model::plays(&["house.py"], house::emit, SEED + 1, 1_000_000);
     let saved_files = model::plays(&["saved.py"], saved::emit, SEED + 1, 200_000);
     let beside_rust = leaves && fills && single && figures && house && accounts && damage && saved;
-    beside_rust && ceiling && ceiling_fills && house_groups && saved_files
+    beside_rust && spoiled && ceiling && ceiling_fills && house_groups && saved_files
 }
 
 fn number(word: &str) -> u64 {

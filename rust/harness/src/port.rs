@@ -1,10 +1,12 @@
-//! The port's account, answering a scenario's calls through the safe crate. What a call lends is looked at afterwards: a
-//! place that was to stay as found and did not gives an answer of its own, which nothing else gives.
+//! The port's account, answering a scenario's calls through the safe crate; a refusal is told as the C interface returns it. What a call
+//! lends is looked at afterwards: a place that was to stay as found and did not gives an answer of its own, which nothing else gives.
 
 use scenario::{
-    Context, Costs, Held, Kind, Opening, Outcome, Prices, Record, Reply, Setting, Settings, Step, Symbol, View,
+    Context, Costs, Held, Kind, Opening, Outcome, Prices, Record, Reply, Setting, Settings, Step, Symbol, Targets, View,
 };
 use threshcoil::{Account, CostModel, ExecutionKind, ExecutionRecord, Position, Price, Refusal, Target, Weight};
+use threshcoil_sys as port;
+use threshcoil_sys::layout;
 
 const TOUCHED: u64 = 255;
 
@@ -38,7 +40,9 @@ impl scenario::Account for Port {
         let before = self.account;
         let (answer, reply) = match self.answer(step) {
             Ok(reply) => (reply.as_ref().map_or(TOUCHED, |_| 0), reply.unwrap_or(Reply::Nothing)),
-            Err(refusal) => (if self.account == before { refusal.number() } else { TOUCHED }, Reply::Nothing),
+            Err(refusal) => {
+                (if self.account == before { self.refused(step, refusal) } else { TOUCHED }, Reply::Nothing)
+            }
         };
         Some(Outcome { answer, reply })
     }
@@ -59,6 +63,13 @@ impl Port {
         if let Some(account) = &mut self.account {
             *account = Account::load(&account.saved()).expect("its own file");
         }
+    }
+
+    /// What the C interface returns for a call that the safe crate told as refused: its place above that refusal's number.
+    fn refused(&self, step: &Step, refusal: Refusal) -> u64 {
+        let word = self.account.as_ref().and_then(|account| returned(account.as_bytes(), step));
+        let word = word.unwrap_or(refusal.number());
+        if word % 256 == refusal.number() { word } else { TOUCHED }
     }
 
     /// None where a lent place was touched that was to stay as found.
@@ -109,6 +120,46 @@ impl Port {
         }
         told.map(|()| Some(Reply::Recorded { equity: equity[at], gain }))
     }
+}
+
+/// What the C interface returns for a call on a copy of an account; None for a setter, of which no refusal tells a place.
+fn returned(account: &[u8; Account::SIZE], step: &Step) -> Option<u64> {
+    let mut account = *account;
+    let records = |places: u64| vec![0; layout::RECORD_SIZE * places as usize];
+    let room = |places: u64| SERIES.min(places as usize);
+    Some(match step {
+        Step::Set(_) => return None,
+        Step::Rebalance { targets, prices, context: c, places } => {
+            let (targets, prices, kind) = (weighed(targets), priced(prices), c.kind as u64);
+            port::tc_rebalance_simple(&mut account, &targets, &prices, c.period, kind, &mut records(*places))
+        }
+        Step::Close { symbol, price, context: c, places } => {
+            let (number, kind) = (u64::from_be_bytes(symbol.0), c.kind as u64);
+            port::tc_close_position_at(&mut account, number, *price, c.period, kind, &mut records(*places))
+        }
+        Step::RecordReturn { prices, equity_places, return_places } => {
+            let (mut equity, mut returns) = (vec![0; room(*equity_places)], vec![0.0; room(*return_places)]);
+            port::tc_record_return(&mut account, &priced(prices), &mut equity, &mut returns)
+        }
+        Step::TotalEquity(p) => port::tc_total_equity(&account, &priced(p), &mut [0; layout::WORD_SIZE]),
+        Step::CurrentWeights(p) => port::tc_current_weights(&account, &priced(p), &mut [0; layout::WEIGHTS_SIZE]),
+        Step::UnpricedHolding(p) => port::tc_unpriced_holding(&account, &priced(p), &mut [0; layout::ENTRY_SIZE]),
+        Step::Position(s) => port::tc_position(&account, u64::from_be_bytes(s.0), &mut [0; layout::POSITION_SIZE]),
+        Step::Snapshot(p) => {
+            let (mut figures, mut weights) = ([0; layout::SNAPSHOT_SIZE], [0; layout::WEIGHTS_SIZE]);
+            port::tc_snapshot(&account, &priced(p), &mut figures, &mut weights)
+        }
+    })
+}
+
+/// Targets as the C interface takes them.
+pub fn weighed(targets: &Targets) -> Vec<u8> {
+    targets.iter().flat_map(|(s, weight)| [s.0, weight.to_le_bytes()].concat()).collect()
+}
+
+/// Prices as it takes them.
+pub fn priced(prices: &Prices) -> Vec<u8> {
+    prices.iter().flat_map(|(s, price)| [s.0, price.to_le_bytes()].concat()).collect()
 }
 
 /// A call that may fill, with the records that it wrote.

@@ -10,6 +10,7 @@ mod text;
 pub use bench::bench;
 pub use text::emit;
 
+use crate::place::{Answer, Place};
 use crate::port::Port;
 use reference::Fault;
 use scenario::{Outcome, Random, Scenario, Step, View, play, scenario, written};
@@ -35,7 +36,8 @@ pub fn run(seed: u64, count: u64) -> bool {
         wrong.held(theirs == Ok(positive), || "the second program reads what it wrote".into());
         if random.one_in(256) {
             beginnings += file.len();
-            wrong.held((0..file.len()).all(|n| loaded(&file[..n]) == Err(16)), || "a beginning".into());
+            let ends = |n: usize| Err(Answer::at(16, Place::Byte(n)).word());
+            wrong.held((0..file.len()).all(|n| loaded(&file[..n]) == ends(n)), || "a beginning".into());
         }
         bytes += file.len();
         let seen = Seen { account: &account, file: &file, room };
@@ -61,8 +63,8 @@ pub fn run_damage(seed: u64, count: u64) -> bool {
         let good = reference::save(&account).expect("a sound account");
         let file = if random.one_in(16) { good.clone() } else { damage::file(&mut random, &good) };
         let (ours, theirs) = (loaded(&file), reference::load(&file));
-        *faults.entry(theirs.as_ref().err().copied()).or_insert(0u64) += 1;
-        let expected = theirs.map(|(account, _)| account).map_err(Fault::number);
+        *faults.entry(theirs.as_ref().err().map(|refused| refused.fault)).or_insert(0u64) += 1;
+        let expected = theirs.map(|(account, _)| account).map_err(|refused| refused.answer.word());
         wrong
             .held(ours == expected, || format!("a load: {:?}, not {:?}", ours.as_ref().err(), expected.as_ref().err()));
         if let Ok(account) = &ours {
@@ -85,6 +87,15 @@ pub fn run_damage(seed: u64, count: u64) -> bool {
         "saved-damage: seed {seed}, {count} files and {count} accounts, {wrong}; files {}; saves {}",
         said.join(", "),
         given.join(", ")
+    );
+    let of = |number: u64| faults.iter().filter(|(f, _)| f.is_some_and(|f| f.number() == number)).map(|(_, n)| n).sum();
+    let told: [u64; 3] = [16, 17, 18].map(of);
+    println!(
+        "saved-damage: {} refusals told a place: 16 at the end {}, 17 at a number {}, 18 after the last {}",
+        told.iter().sum::<u64>(),
+        told[0],
+        told[1],
+        told[2]
     );
     let missed: Vec<String> = Fault::ALL
         .iter()

@@ -7,6 +7,7 @@ pub use ceiling::emit;
 
 use crate::fills::next;
 use crate::leaf::{are_good, costs_of, draw_costs, draw_symbol, is_sound, largest, need, notional, paid};
+use crate::place::{Answer, DONE};
 use oracle::{Ask, Filled, Single};
 use scenario::{Context, Costs, Kind, Random, Record, Symbol};
 use threshcoil_sys as port;
@@ -320,28 +321,28 @@ impl Spoiled {
     }
 
     /// "Check order where several apply: 11, 1, .. 4, 8"
-    fn refusal(&self) -> u64 {
-        let &[cash, _, quantity, average, realized, total] = &self.money[..] else { return 11 };
+    fn refusal(&self) -> Answer {
+        let &[cash, _, quantity, average, realized, total] = &self.money[..] else { return Answer::plain(11) };
         if self.tallies.len() != 2 || cash < 0 || !is_sound(self.symbol, [quantity, average, realized, total]) {
-            return 11;
+            return Answer::plain(11);
         }
         if !are_good(self.ask.costs) || self.ask.quantity_step < 1 || self.kind > 1 {
-            return 1;
+            return Answer::plain(1);
         }
         match (self.ask.price < 1, self.words.len() < 4 || self.ints.len() < 8) {
-            (true, _) => 4,
-            (false, true) => 8,
-            (false, false) => 0,
+            (true, _) => Answer::alone(4),
+            (false, true) => Answer::plain(8),
+            (false, false) => DONE,
         }
     }
 
-    /// Whether the port answers with that number and leaves all as found.
-    fn is_refused_with(&self, fill: Fill, expected: u64) -> bool {
+    /// Whether the port answers with that number and place and leaves all as found.
+    fn is_refused_with(&self, fill: Fill, expected: Answer) -> bool {
         let (mut money, mut tallies) = (self.money.clone(), self.tallies.clone());
         let (mut words, mut ints) = (self.words.clone(), self.ints.clone());
         let answer = fill(&self.ask, self.kind, self.symbol, (&mut money, &mut tallies, &mut words, &mut ints));
         let left = money == self.money && tallies == self.tallies && words == self.words && ints == self.ints;
-        answer == expected && left
+        answer == expected.word() && left
     }
 }
 
@@ -352,9 +353,9 @@ fn refusals(run: &str, fill: Fill, draw: fn(&mut Random) -> Spoiled, seed: u64, 
     for _ in 0..count {
         let spoiled = draw(&mut random);
         let expected = spoiled.refusal();
-        if expected > 0 {
+        if expected != DONE {
             wrong += u64::from(!spoiled.is_refused_with(fill, expected));
-            met.iter_mut().filter(|(answer, _)| *answer == expected).for_each(|(_, n)| *n += 1);
+            met.iter_mut().filter(|(answer, _)| *answer == expected.number).for_each(|(_, n)| *n += 1);
         }
     }
     let said: Vec<String> = met.iter().map(|(answer, n)| format!("{answer}: {n}")).collect();

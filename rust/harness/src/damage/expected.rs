@@ -1,21 +1,23 @@
-//! The answer that document 01's table gives, read from the bytes as they are lent: nothing here calls the port.
+//! The answer that document 01's table gives, with the place of document 02's request 9, read from the bytes as they are lent: nothing here
+//! calls the port.
 
 use super::{Entry, Entry::*, Given};
+use crate::place::{Answer, DONE, Pair, Place, earliest, twice};
 use threshcoil_sys::layout::{self, Column, Kind, Setting, Word};
 
 /// The first that holds of 11, 1, 6, 2, 3, 5, 4, 8, 7, 9, 10, 12.
-pub fn expected(entry: Entry, g: &Given) -> u64 {
+pub fn expected(entry: Entry, g: &Given) -> Answer {
     match entry {
         Open => first(&[
-            (11, g.account.len() != layout::ACCOUNT_SIZE),
-            (1, g.settings.len() != layout::SETTINGS_SIZE || g.number < 0 || !good_settings(&words(&g.settings))),
-            (10, g.equities.is_empty()),
+            plain(11, g.account.len() != layout::ACCOUNT_SIZE),
+            plain(1, g.settings.len() != layout::SETTINGS_SIZE || g.number < 0 || !good_settings(&words(&g.settings))),
+            plain(10, g.equities.is_empty()),
         ]),
         Figures => first(&[
-            (6, g.rates.len() != 6 || g.counts.len() != 3 || g.returns.len() > 4_096),
-            (12, g.returns.is_empty() || g.returns.iter().any(|x| !x.is_finite())),
+            plain(6, g.rates.len() != 6 || g.counts.len() != 3 || g.returns.len() > 4_096),
+            plain(12, g.returns.is_empty() || g.returns.iter().any(|x| !x.is_finite())),
         ]),
-        _ => Book::of(&g.account).map_or(11, |book| of_account(entry, g, &book)),
+        _ => Book::of(&g.account).map_or(Answer::plain(11), |book| of_account(entry, g, &book)),
     }
 }
 
@@ -24,23 +26,38 @@ pub fn sound(account: &[u8]) -> bool {
     Book::of(account).is_some()
 }
 
-fn first(checks: &[(u64, bool)]) -> u64 {
-    checks.iter().find(|(_, holds)| *holds).map_or(0, |(number, _)| *number)
+/// What a check finds; None where it does not hold.
+type Found = Option<Answer>;
+
+fn first(checks: &[Found]) -> Answer {
+    checks.iter().find_map(|found| *found).unwrap_or(DONE)
 }
 
-fn of_account(entry: Entry, g: &Given, book: &Book) -> u64 {
+fn plain(number: u64, holds: bool) -> Found {
+    holds.then_some(Answer::plain(number))
+}
+
+fn alone(number: u64, holds: bool) -> Found {
+    holds.then_some(Answer::alone(number))
+}
+
+fn at(number: u64, place: Option<Place>) -> Found {
+    place.map(|place| Answer::at(number, place))
+}
+
+fn of_account(entry: Entry, g: &Given, book: &Book) -> Answer {
     let priced = |lengths: bool| {
         let list = pairs(&g.prices);
         [
-            (6, !whole(&g.prices, 128) || lengths),
-            (2, list.iter().any(|(s, _)| !good_symbol(*s))),
-            (3, twice(&list)),
-            (4, list.iter().any(|(_, p)| (*p as i64) < 1)),
+            plain(6, !whole(&g.prices, 128) || lengths),
+            at(2, bad_symbol(&list).map(Place::Price)),
+            at(3, twice(&list).map(Place::Price)),
+            at(4, bad_price(&list).map(Place::Price)),
         ]
     };
     let set = |setting: Setting, words: &[u64]| {
         let rows = &layout::SETTINGS[setting as usize..][..words.len()];
-        first(&[(1, !are_good(words, rows))])
+        first(&[plain(1, !are_good(words, rows))])
     };
     let another = g.out.len() != entry.out_size();
     match entry {
@@ -52,41 +69,40 @@ fn of_account(entry: Entry, g: &Given, book: &Book) -> u64 {
         MaxTrades => set(Setting::CapMark, &[g.mark, g.count]),
         Recording => set(Setting::Recording, &[g.mark]),
         CashFirst => set(Setting::CashFirst, &[g.mark]),
-        Cash | Settings | Counters | Series | PositionAt => first(&[(6, another)]),
-        Position => first(&[(6, another), (2, !good_symbol(g.symbol))]),
+        Cash | Settings | Counters | Series | PositionAt => first(&[plain(6, another)]),
+        Position => first(&[plain(6, another), alone(2, !good_symbol(g.symbol))]),
         TotalEquity | UnpricedHolding => first(&priced(another)),
         CurrentWeights => first(&priced(g.weights.len() != layout::WEIGHTS_SIZE)),
         Snapshot => first(&priced(another || g.weights.len() != layout::WEIGHTS_SIZE)),
         Rebalance => rebalance(g, book),
         Close => first(&[
-            (1, g.kind > 1),
-            (6, g.records.len() % layout::RECORD_SIZE != 0),
-            (2, !good_symbol(g.symbol)),
-            (4, g.number < 1),
-            (8, book.recording && g.records.len() < layout::RECORD_SIZE),
-            (9, !book.held.iter().any(|(s, quantity)| *s == g.symbol && *quantity != 0)),
+            plain(1, g.kind > 1),
+            plain(6, g.records.len() % layout::RECORD_SIZE != 0),
+            alone(2, !good_symbol(g.symbol)),
+            alone(4, g.number < 1),
+            plain(8, book.recording && g.records.len() < layout::RECORD_SIZE),
+            plain(9, !book.held.iter().any(|(s, quantity)| *s == g.symbol && *quantity != 0)),
         ]),
         RecordReturn => {
             let full = g.equities.len() as u64 <= book.equities || g.returns.len() as u64 <= book.returns;
-            first(&[&priced(false)[..], &[(10, full)]].concat())
+            first(&[&priced(false)[..], &[plain(10, full)]].concat())
         }
-        Open | Figures => 0,
+        Open | Figures => DONE,
     }
 }
 
-fn rebalance(g: &Given, book: &Book) -> u64 {
+fn rebalance(g: &Given, book: &Book) -> Answer {
     let (targets, prices) = (pairs(&g.targets), pairs(&g.prices));
-    let bad = |list: &[(u64, u64)]| list.iter().any(|(s, _)| !good_symbol(*s));
     let new = targets.iter().filter(|(s, _)| !book.held.iter().any(|(held, _)| held == s)).count();
     first(&[
-        (1, g.kind > 1),
-        (6, !whole(&g.targets, 64) || !whole(&g.prices, 128) || g.records.len() % layout::RECORD_SIZE != 0),
-        (2, bad(&targets) || bad(&prices)),
-        (3, twice(&targets) || twice(&prices)),
-        (5, targets.iter().any(|(_, w)| !f64::from_bits(*w).is_finite())),
-        (4, prices.iter().any(|(_, p)| (*p as i64) < 1)),
-        (8, book.recording && g.records.len() < 64 * layout::RECORD_SIZE),
-        (7, book.held.len() + new > 64),
+        plain(1, g.kind > 1),
+        plain(6, !whole(&g.targets, 64) || !whole(&g.prices, 128) || g.records.len() % layout::RECORD_SIZE != 0),
+        at(2, earliest(&targets, &prices, bad_symbol)),
+        at(3, earliest(&targets, &prices, twice)),
+        plain(5, targets.iter().any(|(_, w)| !f64::from_bits(*w).is_finite())),
+        at(4, bad_price(&prices).map(Place::Price)),
+        plain(8, book.recording && g.records.len() < 64 * layout::RECORD_SIZE),
+        plain(7, book.held.len() + new > 64),
     ])
 }
 
@@ -157,7 +173,7 @@ fn are_good(words: &[u64], rows: &[Word]) -> bool {
     })
 }
 
-fn good_symbol(symbol: u64) -> bool {
+pub fn good_symbol(symbol: u64) -> bool {
     let bytes = symbol.to_be_bytes();
     let length = bytes.iter().position(|b| *b == 0).unwrap_or(8);
     length > 0 && bytes[..length].iter().all(|b| (33..=126).contains(b)) && bytes[length..].iter().all(|b| *b == 0)
@@ -171,13 +187,14 @@ fn whole(list: &[u8], bound: usize) -> bool {
     list.len() % 16 == 0 && list.len() / 16 <= bound
 }
 
-/// The entries of a list: a symbol's number and a word.
-fn pairs(list: &[u8]) -> Vec<(u64, u64)> {
+pub fn pairs(list: &[u8]) -> Vec<Pair> {
     words(list).chunks_exact(2).map(|pair| (pair[0].swap_bytes(), pair[1])).collect()
 }
 
-fn twice(list: &[(u64, u64)]) -> bool {
-    let mut symbols: Vec<u64> = list.iter().map(|(s, _)| *s).collect();
-    symbols.sort_unstable();
-    symbols.windows(2).any(|pair| pair[0] == pair[1])
+fn bad_symbol(list: &[Pair]) -> Option<usize> {
+    list.iter().position(|(symbol, _)| !good_symbol(*symbol))
+}
+
+fn bad_price(list: &[Pair]) -> Option<usize> {
+    list.iter().position(|(_, price)| (*price as i64) < 1)
 }

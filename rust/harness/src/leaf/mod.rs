@@ -114,9 +114,9 @@ pub fn sampled() -> impl Iterator<Item = &'static Leaf> {
         .flatten()
 }
 
-/// Every leaf: after those of the sample the ones that take a ceiling, which the Rust lacks.
+/// Every leaf: after those of the sample the ones that take a ceiling, and the place that a refusal tells, which the Rust lacks.
 pub fn all() -> impl Iterator<Item = &'static Leaf> {
-    sampled().chain(ceilings::LEAVES)
+    sampled().chain(ceilings::LEAVES).chain(positions::PLACES)
 }
 
 pub const CLAMPED: &[Class] = &[

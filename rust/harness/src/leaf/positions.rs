@@ -2,6 +2,7 @@
 
 use super::Kind::{Bool, I64, U64};
 use super::{CLAMPED, Class, Inputs, Kind, Leaf, PLAIN, padded};
+use crate::place::{Answer, DONE};
 use oracle::Leaves;
 use scenario::Random;
 use threshcoil_sys as port;
@@ -31,12 +32,12 @@ pub fn is_sound(symbol: u64, [quantity, average, _, total]: Numbers) -> bool {
     is_good(symbol) && sound
 }
 
-/// The number that a fill by itself is refused with; 0 where it is not.
-pub fn refusal(symbol: u64, numbers: Numbers, price: i64) -> u64 {
+/// What a fill by itself is refused with; 0 where it is not.
+pub fn refusal(symbol: u64, numbers: Numbers, price: i64) -> Answer {
     match (is_sound(symbol, numbers), price < 0) {
-        (false, _) => 11,
-        (true, true) => 4,
-        (true, false) => 0,
+        (false, _) => Answer::plain(11),
+        (true, true) => Answer::alone(4),
+        (true, false) => DONE,
     }
 }
 
@@ -83,10 +84,15 @@ fn ours(i: &Inputs) -> (u64, Numbers) {
     (port::tc_apply_fill(i[0], &mut after, i[5] as i64, i[6] as i64), after)
 }
 
+/// What a fill is refused with; 0 where it is not.
+fn refused(i: &Inputs) -> Answer {
+    refusal(i[0], numbers(i), i[6] as i64)
+}
+
 /// What nanobook makes of a fill that is not refused; a refusal leaves the numbers as found.
-fn theirs(nanobook: &Leaves, i: &Inputs) -> (u64, Numbers) {
-    match refusal(i[0], numbers(i), i[6] as i64) {
-        0 => (0, (nanobook.apply_fill)(numbers(i), i[5] as i64, i[6] as i64)),
+fn theirs(nanobook: &Leaves, i: &Inputs) -> (Answer, Numbers) {
+    match refused(i) {
+        DONE => (DONE, (nanobook.apply_fill)(numbers(i), i[5] as i64, i[6] as i64)),
         refused => (refused, numbers(i)),
     }
 }
@@ -98,12 +104,12 @@ const BRANCHES: &[Class] = &[
     ("grows", |i, _| done(i) && side(i[1]) * side(i[5]) > 0),
     ("closes or covers", |i, _| done(i) && side(i[1]) * side(i[5]) < 0),
     ("fill of 0", |i, _| done(i) && i[5] == 0),
-    ("unsound", |i, _| refusal(i[0], numbers(i), 0) == 11),
-    ("price below 0", |i, _| refusal(i[0], numbers(i), i[6] as i64) == 4),
+    ("unsound", |i, _| refused(i).number == 11),
+    ("price below 0", |i, _| refused(i).number == 4),
 ];
 
 fn done(i: &Inputs) -> bool {
-    refusal(i[0], numbers(i), i[6] as i64) == 0
+    refused(i) == DONE
 }
 
 fn side(n: u64) -> i64 {
@@ -198,8 +204,8 @@ pub const LEAVES: &[Leaf] = &[
         takes: FILLED,
         gives: U64,
         draw: Some(draw),
-        port: |i| ours(i).0,
-        nanobook: Some(|n, i| theirs(n, i).0),
+        port: |i| ours(i).0 % 256,
+        nanobook: Some(|n, i| theirs(n, i).0.number),
         classes: BRANCHES,
         ..PLAIN
     },
@@ -208,3 +214,15 @@ pub const LEAVES: &[Leaf] = &[
     after!("tc_apply_fill realized", 58, 2),
     after!("tc_apply_fill total", 59, 3),
 ];
+
+/// The place that a refused fill tells: document 02's, so that it stands outside the sample.
+pub const PLACES: &[Leaf] = &[Leaf {
+    name: "tc_apply_fill place",
+    takes: FILLED,
+    gives: U64,
+    draw: Some(draw),
+    port: |i| ours(i).0 / 256,
+    rust: Some(|i| refused(i).word() / 256),
+    classes: BRANCHES,
+    ..PLAIN
+}];

@@ -1,7 +1,8 @@
-//! Document 02's request 5 as a second program, by tables and in wide numbers; it calls nothing of the port. An account is its bytes of the C
-//! interface.
+//! Document 02's request 5, with request 9's places in a file, as a second program, by tables and in wide numbers; it calls nothing of the port.
+//! An account is its bytes of the C interface.
 
 use crate::damage::sound;
+use crate::place::{Answer, Place};
 use std::ops::Range;
 use threshcoil_sys::layout::{self, ACCOUNT_SIZE, Column, Counter, PLACES, Series, Setting};
 
@@ -176,6 +177,24 @@ impl Fault {
     }
 }
 
+/// What a file is refused for, and the answer: "the byte place for 16, 17 and 18: the end of the file, the number's first byte, and the first byte
+/// left over".
+#[derive(Clone, Copy, Debug, PartialEq, Eq)]
+pub struct Refused {
+    pub fault: Fault,
+    pub answer: Answer,
+}
+
+impl Refused {
+    fn plain(fault: Fault) -> Refused {
+        Refused { fault, answer: Answer::plain(fault.number()) }
+    }
+
+    fn at(fault: Fault, byte: usize) -> Refused {
+        Refused { fault, answer: Answer::at(fault.number(), Place::Byte(byte)) }
+    }
+}
+
 /// A file that is read from its beginning.
 struct Reading<'a> {
     file: &'a [u8],
@@ -191,24 +210,24 @@ struct Reading<'a> {
 pub type Parts = Vec<(Part, Range<usize>)>;
 
 /// The account of a file, and its parts.
-pub fn load(file: &[u8]) -> Result<(Vec<u8>, Parts), Fault> {
+pub fn load(file: &[u8]) -> Result<(Vec<u8>, Parts), Refused> {
     let account = vec![0; ACCOUNT_SIZE];
     let mut reading = Reading { file, place: 0, account, padded: false, bad: false, parts: Vec::new() };
     reading.all()?;
     let Reading { place, account, padded, bad, parts, .. } = reading;
     let good = !padded && !bad && sound(&account);
     match (place < file.len(), good) {
-        (true, true) => Err(Fault::LeftOver),
-        (true, false) => Err(Fault::LeftOverUnsound),
+        (true, true) => Err(Refused::at(Fault::LeftOver, place)),
+        (true, false) => Err(Refused::at(Fault::LeftOverUnsound, place)),
         (false, true) => Ok((account, parts)),
-        (false, false) if bad => Err(Fault::SymbolBad),
-        (false, false) if padded => Err(Fault::SymbolPadded),
-        (false, false) => Err(Fault::Unsound),
+        (false, false) if bad => Err(Refused::plain(Fault::SymbolBad)),
+        (false, false) if padded => Err(Refused::plain(Fault::SymbolPadded)),
+        (false, false) => Err(Refused::plain(Fault::Unsound)),
     }
 }
 
 impl Reading<'_> {
-    fn all(&mut self) -> Result<(), Fault> {
+    fn all(&mut self) -> Result<(), Refused> {
         self.number(Form)?;
         for (place, part) in HEAD {
             let n = self.number(part)?;
@@ -221,10 +240,11 @@ impl Reading<'_> {
         (0..word(&self.account, layout::POSITIONS) as usize).try_for_each(|k| self.position(k))
     }
 
-    fn position(&mut self, k: usize) -> Result<(), Fault> {
+    fn position(&mut self, k: usize) -> Result<(), Refused> {
         let length = self.number(Length)? as usize;
         let text = self.place..self.place + length;
-        let bytes = self.file.get(text.clone()).ok_or(Fault::EndsInSymbol)?;
+        let ends = Refused::at(Fault::EndsInSymbol, self.file.len());
+        let bytes = self.file.get(text.clone()).ok_or(ends)?;
         let named = bytes.iter().rposition(|byte| *byte != 0).map_or(0, |last| last + 1);
         self.padded |= named < length;
         self.bad |= named == 0 || bytes[..named].iter().any(|byte| !(33..=126).contains(byte));
@@ -240,34 +260,35 @@ impl Reading<'_> {
     }
 
     /// A number as it stands, then what is asked of one that stands there.
-    fn number(&mut self, part: Part) -> Result<u64, Fault> {
+    fn number(&mut self, part: Part) -> Result<u64, Refused> {
         let from = self.place;
         let rest = &self.file[from..];
         let ended = rest.iter().take(10).position(|group| *group < 0x80);
         let length = match ended {
             Some(last) => last + 1,
-            None if rest.len() >= 10 => return Err(Fault::TenthGroupContinues),
+            None if rest.len() >= 10 => return Err(Refused::at(Fault::TenthGroupContinues, from)),
             None => return Err(self.ends(rest.len())),
         };
         let sum = rest[..length].iter().rev().fold(0u128, |sum, group| sum << 7 | u128::from(group & 0x7f));
         if length == 10 && rest[9] > 1 {
-            return Err(Fault::TenthGroup);
+            return Err(Refused::at(Fault::TenthGroup, from));
         }
         let n = u64::try_from(sum).expect("ten groups, the tenth at most 1");
         if length > 1 && rest[length - 1] == 0 {
-            return Err(if part == Form { Fault::FormNotShortest } else { Fault::NotShortest });
+            return Err(Refused::at(if part == Form { Fault::FormNotShortest } else { Fault::NotShortest }, from));
         }
         self.place += length;
         self.parts.push((part, from..self.place));
-        self.met(part, n).map_or(Ok(n), Err)
+        self.met(part, n).map_or(Ok(n), |fault| Err(Refused::plain(fault)))
     }
 
-    fn ends(&self, groups: usize) -> Fault {
-        match groups {
+    fn ends(&self, groups: usize) -> Refused {
+        let fault = match groups {
             0 => Fault::EndsBetween,
             9 => Fault::EndsAfterNine,
             _ => Fault::EndsWithin,
-        }
+        };
+        Refused::at(fault, self.file.len())
     }
 
     /// "11 for an unknown form, a flag or cap mark above 1, a negative zero, over 64 positions or a symbol length outside 1 to 8, as the bytes

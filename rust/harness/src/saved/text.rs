@@ -52,11 +52,11 @@ fn saved(account: &[u8], room: usize) -> String {
     let answer = port::tc_save(account, &mut file);
     let lines = text::account(&view(account));
     let lines: Vec<&str> = lines.lines().map(|line| line.trim_start_matches("< ")).collect();
-    let length = (answer / 256) as usize;
+    let length = if answer % 256 == 0 { (answer / 256) as usize } else { 0 };
     let kept = file[length..].iter().all(|byte| *byte == FOUND);
     let told = match (answer % 256, kept) {
         (0, true) => format!("< answer 0\n< file {}\n", hex(&file[..length])),
-        (answer, true) => format!("< answer {answer}\n"),
+        (_, true) => format!("< answer {answer}\n"),
         (_, false) => format!("< answer {TOUCHED}\n"),
     };
     format!("> save {room}|{}\n{told}", lines.join("|"))

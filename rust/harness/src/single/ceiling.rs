@@ -1,7 +1,7 @@
 //! Single fills under a ceiling: beside the Rust, which has none and yet makes each such fill; and written as text for the model to
 //! play (tools/model/fills.py).
 
-use super::{Case, Class, Run, Spoiled, ours, places, refusals, with_ceiling};
+use super::{Case, Class, Run, Spoiled, done, ours, places, refusals, with_ceiling};
 use crate::leaf::{are_good, charged, draw_ceiling, flat_fee, free, need, notional, paid};
 use oracle::{Ask, Filled, Single};
 use scenario::{Context, Costs, Kind, Random, Record, Symbol, text};
@@ -132,14 +132,14 @@ pub fn refused(seed: u64, count: u64) -> bool {
     let mut random = Random::new(!seed);
     let alone = (0..count).map(|_| draw(&mut random)).filter(|spoiled| {
         let costs = spoiled.ask.costs;
-        spoiled.refusal() == 1 && !are_good(costs) && are_good(free(costs))
+        spoiled.refusal().number == 1 && !are_good(costs) && are_good(free(costs))
     });
     let alone = alone.count();
     println!("single under a ceiling: refused with 1 for the ceiling: {alone}");
     refusals("single under a ceiling", with_ceiling, draw, seed, count) && alone > 0
 }
 
-/// Writes `count` fills as text, each with the port's answer, what it left and its record.
+/// Writes `count` fills as text, some of them at a price below 1, each with the port's answer, what it left and its record.
 pub fn emit(seed: u64, count: u64, out: &mut dyn Write) -> bool {
     let mut random = Random::new(seed);
     let (mut sort, mut account) = (0, Single::default());
@@ -150,6 +150,9 @@ pub fn emit(seed: u64, count: u64, out: &mut dyn Write) -> bool {
         let (mut ask, before) = draw(&mut random, sort, account);
         // A plan has no order of 0, and the model is not asked of one.
         ask.quantity += i64::from(ask.quantity == 0);
+        if random.one_in(64) {
+            ask.price = -(random.u64() as i64 & i64::MAX);
+        }
         let (answer, after, record) = told(&ask, before);
         account = after;
         let left = format!("< answer {answer}\n< left {}\n", single(&after));
@@ -161,7 +164,7 @@ pub fn emit(seed: u64, count: u64, out: &mut dyn Write) -> bool {
 /// What a lent place that should have stayed as found and did not gives, and nothing else.
 const TOUCHED: u64 = 255;
 
-/// The answer's number, the account after it and the record.
+/// The number of a fill that is done, or a refusal with its place, the account after it and the record.
 fn told(ask: &Ask, before: Single) -> (u64, Single, Option<Record>) {
     let (answer, after, words, ints) = ours(with_ceiling, ask, before);
     let [sequence, period, kind, symbol, _] = words;
@@ -179,8 +182,9 @@ fn told(ask: &Ask, before: Single) -> (u64, Single, Option<Record>) {
         cash_delta,
         cash_after,
     };
-    let record = (answer >> 8 == 1).then_some(record);
-    (if places(record) == (words, ints) { answer % 256 } else { TOUCHED }, after, record)
+    let record = (answer == done(true)).then_some(record);
+    let told = if answer % 256 == 0 { 0 } else { answer };
+    (if places(record) == (words, ints) { told } else { TOUCHED }, after, record)
 }
 
 fn asked(ask: &Ask) -> String {
