@@ -97,7 +97,7 @@ fn full() -> bool {
     let figures = series::run(SEED + 1, 1_000_000);
     let house = house::run(SEED + 1, 1_000_000);
     let accounts = account::run(SEED + 1, 90_000);
-    let damage = damage::run(SEED + 1, 400_000);
+    let damage = damage::run(SEED + 1, 600_000);
     let saved = saved::run(SEED + 1, 1_000_000) && saved::run_damage(SEED + 1, 1_000_000);
     let spoiled = model::plays(&["compare.py", "spoiled"], account::emit_spoiled, SEED + 1, 100_000);
     let ceiling = model::plays(&["compare.py", "ceiling"], account::emit_ceiling, SEED + 1, 25_000);
