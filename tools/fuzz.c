@@ -1,5 +1,5 @@
-/* One file to the proved reader, as libFuzzer calls it: an answer of document 02's, at a place in the file, and all as found where it is a refusal, and
- * the same file again from what was read where it is none. What is lent ends at a page that can't be touched, and begins after one in every other
+/* One file to the proved reader, as libFuzzer calls it: an answer of document 02's, at the place where it belongs, and all as found where it is a refusal,
+ * and the same file again from what was read where it is none. What is lent ends at a page that can't be touched, and begins after one in every other
  * call, so that a byte read or written beside it ends the run. */
 #define _DEFAULT_SOURCE
 #include "threshcoil.h"
@@ -58,6 +58,32 @@ static void saved_again(const uint8_t *account, const uint8_t *file, size_t coun
     must(memcmp(again, file, count) == 0, "the same file");
 }
 
+/* The place of a refusal: the end of the file, the first byte of a number that is looked for there, the first byte after a whole file. */
+static void placed(uint64_t answer, const uint8_t *file, size_t count)
+{
+    uint64_t place = TC_PLACE(answer);
+    uint8_t account[TC_ACCOUNT_BYTES];
+    switch (TC_ANSWER(answer)) {
+    case TC_UNSOUND:
+        must(place == 0, "11 without a place");
+        break;
+    case TC_ENDS_EARLY:
+        must(place == count, "16 at the end");
+        break;
+    case TC_BAD_NUMBER:
+        must(place < count, "17 within the file");
+        must(tc_load(file, place, account, sizeof account) == TC_ENDS_EARLY + 256 * place, "17 where a number is looked for");
+        break;
+    case TC_LEFT_OVER:
+        must(place < count, "18 within the file");
+        answer = tc_load(file, place, account, sizeof account);
+        must(answer == TC_DONE || answer == TC_UNSOUND, "18 after a whole file");
+        break;
+    default:
+        must(0, "an answer of a file");
+    }
+}
+
 int LLVMFuzzerTestOneInput(const uint8_t *data, size_t count)
 {
     static struct lent files, accounts, rooms;
@@ -80,10 +106,8 @@ int LLVMFuzzerTestOneInput(const uint8_t *data, size_t count)
         must(tc_cash(account, TC_ACCOUNT_BYTES, cash, sizeof cash) == TC_DONE, "a sound account");
         saved_again(account, file, count, bytes(rooms, count, at_end));
     } else {
-        uint64_t number = TC_ANSWER(answer), byte = TC_BYTE(answer);
-        must(number == TC_UNSOUND || number == TC_ENDS_EARLY || number == TC_BAD_NUMBER || number == TC_LEFT_OVER, "an answer of a file");
-        must(number == TC_UNSOUND ? byte == 0 : number == TC_ENDS_EARLY ? byte == count : byte < count, "its place in the file");
         must(untouched(account, TC_ACCOUNT_BYTES), "the account as found after a refusal");
+        placed(answer, file, count);
     }
     return 0;
 }

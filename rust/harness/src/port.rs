@@ -4,7 +4,7 @@
 use scenario::{
     Context, Costs, Held, Kind, Opening, Outcome, Prices, Record, Reply, Setting, Settings, Step, Symbol, Targets, View,
 };
-use threshcoil::{Account, CostModel, ExecutionKind, ExecutionRecord, Position, Price, Refusal, Target, Weight};
+use threshcoil::{Account, CostModel, ExecutionKind, ExecutionRecord, List, Position, Price, Refusal, Target, Weight};
 use threshcoil_sys as port;
 use threshcoil_sys::layout;
 
@@ -65,11 +65,14 @@ impl Port {
         }
     }
 
-    /// What the C interface returns for a call that the safe crate told as refused: its place above that refusal's number.
+    /// What the C interface returns for a call that the safe crate told as refused, with its number, its place and the symbol there.
     fn refused(&self, step: &Step, refusal: Refusal) -> u64 {
         let word = self.account.as_ref().and_then(|account| returned(account.as_bytes(), step));
         let word = word.unwrap_or(refusal.number());
-        if word % 256 == refusal.number() { word } else { TOUCHED }
+        let Some(entry) = refusal.entry() else { return if word == refusal.number() { word } else { TOUCHED } };
+        let above = 2 * entry.index() as u64 + u64::from(entry.list() == List::Prices);
+        let named = symbol_at(step, entry.list(), entry.index()).is_some_and(|s| entry.symbol() == symbol(&s));
+        if word == refusal.number() + 256 * above && named { word } else { TOUCHED }
     }
 
     /// None where a lent place was touched that was to stay as found.
@@ -119,6 +122,20 @@ impl Port {
             return Ok(None);
         }
         told.map(|()| Some(Reply::Recorded { equity: equity[at], gain }))
+    }
+}
+
+/// The symbol at a place of a call's lists; the only one of a call that has one.
+fn symbol_at(step: &Step, list: List, index: usize) -> Option<Symbol> {
+    match step {
+        Step::Set(_) => None,
+        Step::Close { symbol, .. } | Step::Position(symbol) => Some(*symbol),
+        Step::Rebalance { targets, .. } if list == List::Targets => targets.get(index).map(|(s, _)| *s),
+        Step::Rebalance { prices, .. } | Step::RecordReturn { prices, .. } => prices.get(index).map(|(s, _)| *s),
+        Step::TotalEquity(prices)
+        | Step::CurrentWeights(prices)
+        | Step::UnpricedHolding(prices)
+        | Step::Snapshot(prices) => prices.get(index).map(|(s, _)| *s),
     }
 }
 

@@ -15,6 +15,7 @@ use crate::port::Port;
 use reference::Fault;
 use scenario::{Outcome, Random, Scenario, Step, View, play, scenario, written};
 use std::collections::BTreeMap;
+use threshcoil::{Account, Refusal};
 use threshcoil_sys as port;
 use threshcoil_sys::layout::{self, ACCOUNT_SIZE, FILE_SIZE, Kind};
 
@@ -67,6 +68,7 @@ pub fn run_damage(seed: u64, count: u64) -> bool {
         let expected = theirs.map(|(account, _)| account).map_err(|refused| refused.answer.word());
         wrong
             .held(ours == expected, || format!("a load: {:?}, not {:?}", ours.as_ref().err(), expected.as_ref().err()));
+        wrong.held(loaded_by_the_crate(&file) == expected, || "a load by the safe crate".into());
         if let Ok(account) = &ours {
             wrong.held(saved(account, FILE_SIZE) == expected_save(Ok(&file), FILE_SIZE), || "an accepted file".into());
         }
@@ -183,6 +185,12 @@ fn loaded_into(file: &[u8], length: usize) -> Result<Vec<u8>, u64> {
         answer if account.iter().all(|byte| *byte == FOUND) => Err(answer),
         _ => Err(255),
     }
+}
+
+/// The same by the safe crate, whose refusal has the place that the C interface returns above its number.
+fn loaded_by_the_crate(file: &[u8]) -> Result<Vec<u8>, u64> {
+    let word = |refusal: Refusal| refusal.number() + 256 * refusal.byte().unwrap_or(0) as u64;
+    Account::load(file).map(|account| account.as_bytes().to_vec()).map_err(word)
 }
 
 /// With zero rates of positive sign.
