@@ -102,7 +102,8 @@ pub fn run(start: Start, plan: &Plan, stop: bool, mut told: impl FnMut(usize, &T
                 now.refused.extend(unpriced(&account, period));
             }
             Some(Err(refusal)) => {
-                let line = told_line(period, refusal).or_else(|| bad_prices(&account, period)).unwrap_or(period.line);
+                let by_itself = || bad_prices(&account, period, refusal);
+                let line = told_line(period, refusal).or_else(by_itself).unwrap_or(period.line);
                 now.refused.push(Refused { line, what: "the period's return".into(), why: Why::Library(refusal) });
             }
         }
@@ -155,7 +156,7 @@ fn trade(account: &mut Account, index: u64, period: &Period, now: &mut Told) {
         Ok(filled) => now.fills.extend(&records[..filled]),
         Err(refusal) => {
             let first = lines.first().map_or(period.line, |said| said.line);
-            let by_itself = || bad_targets(account, lines).or_else(|| bad_prices(account, period));
+            let by_itself = || bad_targets(account, lines, refusal).or_else(|| bad_prices(account, period, refusal));
             let line = told_line(period, refusal).or_else(by_itself).unwrap_or(first);
             now.refused.push(Refused { line, what: "the rebalance".into(), why: Why::Library(refusal) });
         }
@@ -176,18 +177,20 @@ fn told_line(period: &Period, refusal: Refusal) -> Option<usize> {
     refusal.entry().and_then(|entry| period.line_at(entry.list(), entry.index()))
 }
 
-/// Of a refusal that tells no entry, the first line whose prices are refused by themselves; none where the fault is between lines.
-fn bad_prices(account: &Account, period: &Period) -> Option<usize> {
-    let refused = |prices: &[Price]| account.total_equity(prices).is_err();
+/// Of a refusal that tells no entry, the first line whose prices are refused so by themselves; none where the fault is between lines.
+/// A line that is refused for something else is not what the whole was refused for.
+fn bad_prices(account: &Account, period: &Period, refusal: Refusal) -> Option<usize> {
+    let refused = |prices: &[Price]| account.total_equity(prices).is_err_and(|told| told == refusal);
     period.prices.iter().find(|said| refused(&said.what)).map(|said| said.line)
 }
 
 /// The same of targets, asked of a copy of the account without prices, which plans nothing.
-fn bad_targets(account: &Account, lines: &[Said<Vec<Target>>]) -> Option<usize> {
+fn bad_targets(account: &Account, lines: &[Said<Vec<Target>>], refusal: Refusal) -> Option<usize> {
     let context = Context { period_index: 0, kind: ExecutionKind::Rebalance };
     let mut records = [ExecutionRecord::EMPTY; 64];
-    let mut refused =
-        |targets: &[Target]| account.clone().rebalance_simple(targets, &[], context, &mut records).is_err();
+    let mut refused = |targets: &[Target]| {
+        account.clone().rebalance_simple(targets, &[], context, &mut records).is_err_and(|told| told == refusal)
+    };
     lines.iter().find(|said| refused(&said.what)).map(|said| said.line)
 }
 

@@ -113,6 +113,37 @@ fn a_refused_entry_is_told_on_its_line() {
     }
 }
 
+/// A refusal that tells no entry stands at a line that is refused for the same by itself, whatever a line before it would be refused for.
+#[test]
+fn a_refusal_without_an_entry_is_told_at_a_line_of_its_kind() {
+    let many = |word: &str, from: usize, to: usize| {
+        (from..to)
+            .fold(word.to_string(), |line, k| format!("{line} S{k} {}", if word == "prices" { "1.00" } else { "0.01" }))
+    };
+    let opened = |lines: &[&str]| format!("cash 100.00\nperiod one\n{}\n", lines.join("\n"));
+    let [all, half, rest] = [(0, 66), (0, 33), (33, 66)].map(|(from, to)| many("targets", from, to));
+    let [much, a, b, c] = [(0, 129), (0, 43), (43, 86), (86, 129)].map(|(from, to)| many("prices", from, to));
+    let zero = a.replacen("1.00", "0.00", 1);
+    let (rebalance, both) = ("the rebalance", "the period's return");
+    for (name, lines, told) in [
+        ("targets", &["prices A 1.00 B 0.00", &half, &rest][..], &[(4, 6, rebalance), (3, 4, both)][..]),
+        ("one-line", &["prices A 1.00 B 0.00", "targets A 0.5", &all], &[(5, 6, rebalance), (3, 4, both)]),
+        ("prices", &[&zero, &b, &c, "targets A 0.5"], &[(6, 6, rebalance), (2, 6, both)]),
+        ("all-prices", &[&zero, &much, "targets A 0.5"], &[(4, 6, rebalance), (4, 6, both)]),
+        ("weight", &["prices A 1.00 B 0.00", "targets A 0.5", "targets B inf"], &[(5, 5, rebalance), (3, 4, both)]),
+    ] {
+        let (out, _) = model(&format!("kind-{name}"), Some(&opened(lines)), &[]);
+        assert_eq!(out.status.code(), Some(1), "{name}");
+        let said = said(&out);
+        let lines: Vec<&str> = said.lines().filter(|l| l.contains(".txt:")).collect();
+        assert_eq!(lines.len(), told.len(), "{name}: {said}");
+        for (line, (at, number, what)) in lines.iter().zip(told) {
+            let refused = format!("{what} was refused, {number}");
+            assert!(line.contains(&format!(".txt:{at}: ")) && line.contains(&refused), "{name}: {line}");
+        }
+    }
+}
+
 #[test]
 fn a_period_is_not_half_read() {
     let text = "cash 100.00\nperiod one\nprices A 1.00\nprices B 1.00\ntargets A 0.5\ntargets B 0.5\n\
