@@ -190,7 +190,7 @@ fn pairs<T>(rest: &str, entry: impl Fn(Symbol, &str) -> Result<T, String>) -> Re
     words.chunks_exact(2).map(|pair| entry(symbol(pair[0])?, pair[1])).collect()
 }
 
-/// Any text of one to eight bytes: whether it is a good symbol is the library's to say.
+/// Any text of one to eight bytes that padding does not change: whether it is a good symbol is the library's to say.
 fn symbol(text: &str) -> Result<Symbol, String> {
     let bytes = text.as_bytes();
     if bytes.len() > 8 {
@@ -198,7 +198,11 @@ fn symbol(text: &str) -> Result<Symbol, String> {
     }
     let mut padded = [0; 8];
     padded[..bytes.len()].copy_from_slice(bytes);
-    Ok(Symbol::from_padded(padded))
+    let symbol = Symbol::from_padded(padded);
+    if symbol.as_bytes() != bytes {
+        return Err(format!("'{text}' ends in a zero byte, and no symbol does"));
+    }
+    Ok(symbol)
 }
 
 fn number(text: &str) -> Result<f64, String> {
@@ -235,6 +239,19 @@ mod tests {
         assert_eq!(plan.periods[0].all_targets().len(), 1);
         assert!(plan.periods[0].all_prices().is_empty());
         assert!(unread.iter().all(|u| !u.opening));
+    }
+
+    #[test]
+    fn a_zero_is_not_taken_for_padding() {
+        for bad in ["prices B\0 1.00", "prices A 1.00 \0 1.00", "targets B\0\0 0.5", "close B\0", "close B\0 1.00"] {
+            let (plan, unread) = read(&format!("period one\n{bad}\n"));
+            assert_eq!(unread.iter().map(|u| u.line).collect::<Vec<_>>(), [2], "{bad:?}");
+            assert!(unread[0].why.contains("ends in a zero byte"), "{bad:?}: {}", unread[0].why);
+            let period = &plan.periods[0];
+            assert!(period.prices.is_empty() && period.targets.is_none() && period.closes.is_empty(), "{bad:?}");
+        }
+        let (plan, unread) = read("period one\nprices A\0B 1.00\n");
+        assert!(unread.is_empty() && !plan.periods[0].all_prices()[0].symbol.is_good(), "that one the library refuses");
     }
 
     #[test]
