@@ -16,6 +16,23 @@ pub fn lines(text: &str) -> impl Iterator<Item = (usize, &str, &str)> {
     })
 }
 
+/// The text as it is, with escapes for what can't be shown, as a symbol has them: no word of a file is a command to the terminal or turns
+/// round what a page says. Spaces, and what joins a letter, stay.
+pub fn shown(text: &str) -> String {
+    let space = |c: char| c == '\t' || c.is_whitespace() && !c.is_control();
+    let joins = |c: char| matches!(c, '\u{200c}' | '\u{200d}');
+    let mut out = String::new();
+    for c in text.chars() {
+        if c.is_ascii_graphic() || space(c) || joins(c) {
+            out.push(c);
+        } else {
+            // An accent by itself would be escaped; after a letter it is not.
+            out.extend(format!("a{c}").escape_debug().skip(1));
+        }
+    }
+    out
+}
+
 pub fn cents(text: &str) -> Result<i64, String> {
     scaled(text, 2)
 }
@@ -51,6 +68,21 @@ mod tests {
         for far in ["92233720368547758.08", "-92233720368547758.09", "100000000000000000000"] {
             assert_eq!(cents(far), Err(format!("'{far}' is out of range")));
         }
+    }
+
+    #[test]
+    fn what_cannot_be_shown_is_escaped() {
+        for plain in
+            ["A&B\"'\\ <x>\t1", "Z\u{fc}rich", "e\u{301}", "1\u{a0}000", "\u{928}\u{93f}", "\u{645}\u{200c}\u{647}"]
+        {
+            assert_eq!(shown(plain), plain);
+        }
+        assert_eq!(shown("\u{1b}[1m\0\r\u{7f}\u{9b}1m"), "\\u{1b}[1m\\0\\r\\u{7f}\\u{9b}1m");
+        for turned in ["\u{202a}", "\u{202e}", "\u{2066}", "\u{2069}", "\u{200e}", "\u{200f}", "\u{61c}", "\u{feff}"] {
+            assert_eq!(shown(turned), turned.escape_unicode().to_string());
+        }
+        let once = shown("\u{1b}\u{202e}");
+        assert_eq!(shown(&once), once);
     }
 
     #[test]

@@ -1,6 +1,6 @@
 //! A model portfolio as a text file has it: the opening, the settings, and what each period asks for.
 
-use crate::lines::{Said, cents, lines, scaled};
+use crate::lines::{Said, cents, lines, scaled, shown};
 use threshcoil::{CostModel, List, Price, Settings, Shares, Symbol, Target};
 
 #[derive(Clone, Debug)]
@@ -99,7 +99,7 @@ fn read_into(mut plan: Plan, text: &str) -> (Plan, Vec<Unread>) {
     let mut unread = Vec::new();
     for (line, word, rest) in lines(text) {
         if let Err(why) = take(&mut plan, line, word, rest) {
-            unread.push(Unread { line, why, opening: plan.periods.is_empty() || is_setting(word) });
+            unread.push(Unread { line, why: shown(&why), opening: plan.periods.is_empty() || is_setting(word) });
         }
     }
     (plan, unread)
@@ -108,7 +108,7 @@ fn read_into(mut plan: Plan, text: &str) -> (Plan, Vec<Unread>) {
 fn take(plan: &mut Plan, line: usize, word: &str, rest: &str) -> Result<(), String> {
     if word == "period" {
         // Without a label it still begins here: its lines are not those of the period before.
-        let label = if rest.is_empty() { format!("line {line}") } else { rest.into() };
+        let label = if rest.is_empty() { format!("line {line}") } else { shown(rest) };
         plan.periods.push(Period::new(line, label));
         return if rest.is_empty() { Err("a period has a label".into()) } else { Ok(()) };
     }
@@ -136,7 +136,7 @@ fn is_setting(word: &str) -> bool {
 fn take_setting(plan: &mut Plan, word: &str, rest: &str) -> Result<bool, String> {
     let Opening { cash, settings } = &mut plan.opening;
     match word {
-        "name" => plan.name = rest.into(),
+        "name" => plan.name = shown(rest),
         "cash" => *cash = cents(rest)?,
         "commission_bps" => settings.cost_model.commission_bps = number(rest)?,
         "slippage_bps" => settings.cost_model.slippage_bps = number(rest)?,

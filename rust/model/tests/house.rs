@@ -312,6 +312,20 @@ fn names_are_shown_as_they_are() {
 }
 
 #[test]
+fn no_word_of_a_file_is_a_command_to_the_terminal() {
+    let hidden = ['\u{1b}', '\u{202e}'];
+    let text = "name N\u{202e}\naccounts A\u{1b}[1m B\npart one\u{1b}[2J\nA\u{1b}[1m 1.00 2.00\nB 1.00 -\n";
+    let (out, page) = house("command", Some(text), &[]);
+    let (said, page) = (said(&out), page.unwrap());
+    assert!(out.status.success() && !said.contains(hidden) && !page.contains(hidden), "{}", said.escape_debug());
+    for shown in ["N\\u{202e}", "A\\u{1b}[1m", "one\\u{1b}[2J"] {
+        assert!(said.contains(shown) && page.contains(shown), "{shown}: {said}");
+    }
+    let bad = refused("command-bad", &format!("{text}\u{1b}c 1.00 2.00\nB\u{202e} 1.00 1.00\nA\u{1b}[1m 1.00\n"));
+    assert!(!bad.contains(hidden) && bad.contains(":6: '\\u{1b}c' is neither part"), "{}", bad.escape_debug());
+}
+
+#[test]
 fn words_are_those_of_the_house() {
     for word in ["--help", "-h"] {
         let (out, page) = house("help", None, &[word]);

@@ -291,6 +291,36 @@ fn a_symbol_is_shown_as_it_is() {
     }
 }
 
+/// Of a symbol that is too long for the library, of every other word that is told, of labels and of the name.
+#[test]
+fn no_word_of_a_file_is_a_command_to_the_terminal() {
+    let hidden = ['\u{1b}', '\u{202e}', '\u{2066}', '\0'];
+    let words = "name N\u{202e}\ncash 10.00\nperiod one\u{1b}[2J\nprices LONG\u{1b}[1mNAME 1.00\nprices A \u{202e}1.00\n\
+                 targets \u{2066}LONGNAME 0.5\ntargets A x\u{1b}\ntargets A 1 B\u{1b}\nclose B\0\nclose \u{1b}[1mLONGER\n\u{1b}c A\n";
+    let (out, page) = model("command", Some(words), &[]);
+    assert_eq!(out.status.code(), Some(1));
+    let (said, page) = (said(&out), page.unwrap());
+    assert!(!said.contains(hidden) && !page.contains(hidden), "{}", said.escape_debug());
+    for (line, shown) in [
+        (4, "'LONG\\u{1b}[1mNAME' has more than the eight bytes"),
+        (5, "'\\u{202e}1.00' is no number"),
+        (6, "'\\u{2066}LONGNAME' has more"),
+        (7, "'x\\u{1b}' is no number"),
+        (8, "'B\\u{1b}' stands without"),
+        (9, "'B\\0' ends in a zero byte"),
+        (10, "'\\u{1b}[1mLONGER' has more"),
+        (11, "'\\u{1b}c' is neither"),
+    ] {
+        assert!(said.contains(&format!(".txt:{line}: {shown}")), "{shown}: {said}");
+        assert!(page.contains(&format!("<li>line {line}: {shown}")), "{shown}: {page}");
+    }
+    assert!(said.contains("one\\u{1b}[2J\n") && said.contains("N\\u{202e}: 1 periods"), "{said}");
+    for opening in ["cash \u{1b}[1m", "\u{1b}[1m 1", "max_trades \u{202e}", "cash_first \u{202e}"] {
+        let (out, _) = model("command-opening", Some(opening), &[]);
+        assert!(out.status.code() == Some(1) && !command::said(&out).contains(hidden), "{}", opening.escape_debug());
+    }
+}
+
 #[test]
 fn the_page_is_written_though_nobody_reads_the_output() {
     let (_, page) = model("heard", None, &[]);

@@ -1,6 +1,6 @@
 //! A group of accounts as a text file has it: who is in it, and what each was worth at both ends of each part.
 
-use crate::lines::{Said, cents, lines};
+use crate::lines::{Said, cents, lines, shown};
 use std::ops::Range;
 
 /// What an account was worth at the ends of a part, none where it was absent.
@@ -72,6 +72,8 @@ pub fn read(text: &str) -> (House, Vec<Said<String>>) {
     let mut house = House { name: "House".into(), named: None, accounts: Vec::new(), parts: Vec::new() };
     let mut unread = Vec::new();
     for (line, word, rest) in lines(text) {
+        // No word here is more than told or compared.
+        let (word, rest) = (&shown(word), &shown(rest));
         unread.extend(take(&mut house, line, word, rest).err().map(|what| Said { line, what }));
     }
     (house, unread)
