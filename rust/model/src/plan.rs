@@ -193,6 +193,10 @@ fn pairs<T>(rest: &str, entry: impl Fn(Symbol, &str) -> Result<T, String>) -> Re
 /// Any text of one to eight bytes that padding does not change: whether it is a good symbol is the library's to say.
 fn symbol(text: &str) -> Result<Symbol, String> {
     let bytes = text.as_bytes();
+    // The mark has three bytes, where one may have been lost: nothing is said of the length.
+    if text.contains(char::REPLACEMENT_CHARACTER) {
+        return Err(format!("'{text}' has \u{fffd} in the place of bytes that are no UTF-8 text"));
+    }
     if bytes.len() > 8 {
         return Err(format!("'{text}' has more than the eight bytes of a symbol"));
     }

@@ -321,6 +321,26 @@ fn no_word_of_a_file_is_a_command_to_the_terminal() {
     }
 }
 
+/// A file in Latin-1: its lines are told as such, and nothing of them is run; a label and what stands after # need no reading.
+#[test]
+fn bytes_that_are_no_text_are_told_as_such() {
+    let text = b"cash 10.00\nperiod Z\xfcrich\nprices A 1.00 \xdc\xdc\xdc\xdc\xdc\xdc\xdc\xdc 1.00\ntargets A 0.5\n\
+                 period two # \xfc\nprices A 1.00\ntargets A 0.5 \xdc 0.5\nclose B\xfc 1.00\n";
+    let (file, page) = (place("latin.txt"), place("latin.html"));
+    let _ = std::fs::remove_file(&page);
+    std::fs::write(&file, text).unwrap();
+    let out = Command::new(env!("CARGO_BIN_EXE_model")).arg(file).arg("--page").arg(&page).output().unwrap();
+    assert_eq!(out.status.code(), Some(1));
+    let (said, page) = (said(&out), std::fs::read_to_string(page).unwrap());
+    let lost = "in the place of bytes that are no UTF-8 text";
+    for (line, shown) in [(3, "\u{fffd}".repeat(8)), (7, "\u{fffd}".into()), (8, "B\u{fffd}".into())] {
+        let told = format!("{line}: '{shown}' has \u{fffd} {lost}");
+        assert!(said.contains(&format!(".txt:{told}")) && page.contains(&format!("<li>line {told}")), "{told}: {said}");
+    }
+    assert!(!said.contains("more than the eight bytes") && !said.contains("  buy "), "{said}");
+    assert!(said.contains("Z\u{fffd}rich\n  no equity for this period\ntwo\n  equity 10.00"), "{said}");
+}
+
 #[test]
 fn the_page_is_written_though_nobody_reads_the_output() {
     let (_, page) = model("heard", None, &[]);
