@@ -113,8 +113,8 @@ impl Drop for New {
     }
 }
 
-/// More bytes than any numbers take that a saved account could be read from, sound or not: a file is refused for them, at its place in
-/// them, as it would be for all of its bytes.
+/// More bytes than any numbers and symbols take that a saved account could be read from, sound or not: a file is refused for them, at
+/// its place in them, as it would be for all of its bytes.
 const FRONT: u64 = 4_096;
 
 fn front(file: &Path) -> io::Result<Vec<u8>> {
