@@ -46,10 +46,7 @@ enum tc_settings_word {
     TC_SETTINGS_WORDS = 15
 };
 
-/* The words of the counters that tc_counters tells. TC_OPEN_COUNT_AT is how many positions are open, their quantity not 0: what a
- * list of holdings shows, without prices. An account in which that count is wrong is not sound, so account bytes of an older
- * library, which have 0 there, answer TC_UNSOUND once a position is open: what moves an account to another version is its file
- * (tc_save, tc_load). The last word is spare: 0. */
+/* The words of the counters that tc_counters tells. The last two are spare: 0. */
 enum tc_counters_word {
     TC_ORDER_COUNT_AT = 0,
     TC_LAST_NOTIONAL_AT = 1,
@@ -113,7 +110,7 @@ enum tc_answer {
     TC_NO_RECORD_ROOM = 8,  /* recording is on and the record buffer has too few places */
     TC_NOT_HELD = 9,        /* a close names an absent or flat position */
     TC_BUFFER_FULL = 10,    /* the equity or return buffer has no free place */
-    TC_UNSOUND = 11,        /* the account is not sound, as where its count of open positions is wrong, or its bytes have another length; a file has an unknown form, a flag or cap mark above 1, a negative zero, over 64 positions, a symbol length outside 1 to 8 or no sound account */
+    TC_UNSOUND = 11,        /* the account is not sound, or its bytes have another length; a file has an unknown form, a flag or cap mark above 1, a negative zero, over 64 positions, a symbol length outside 1 to 8 or no sound account */
     TC_BAD_SERIES = 12,     /* a return series is empty or has a non-finite member */
     TC_BAD_GROUP = 13,      /* a group is empty or over TC_MAX_ACCOUNTS */
     TC_NO_FIRST_SUM = 14,   /* a part's first sum is not positive */
@@ -155,8 +152,7 @@ uint64_t tc_set_max_rebalance_notional(uint8_t *account, size_t account_bytes, i
 uint64_t tc_set_recording(uint8_t *account, size_t account_bytes, uint64_t flag);
 uint64_t tc_set_cash_first(uint8_t *account, size_t account_bytes, uint64_t flag);
 
-/* Queries: out has exactly the bytes of what is told. A symbol is a number here, as tc_good_symbol takes it. How many positions are
- * open is told by tc_counters without prices, and by tc_snapshot with them. */
+/* Queries: out has exactly the bytes of what is told. A symbol is a number here, as tc_good_symbol takes it. */
 uint64_t tc_cash(const uint8_t *account, size_t account_bytes, uint8_t *out, size_t out_bytes);
 uint64_t tc_settings(const uint8_t *account, size_t account_bytes, uint8_t *out, size_t out_bytes);
 uint64_t tc_counters(const uint8_t *account, size_t account_bytes, uint8_t *out, size_t out_bytes);

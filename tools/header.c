@@ -1,6 +1,5 @@
 /* Compiled with the header and linked with the archive: some of document 01's cases, document 02's of request 1, a ceiling of
- * its request 3, a group of its request 2, a saved account of its request 5, the open positions of its request 7 and the places of its
- * request 9, asked from C. */
+ * its request 3, a group of its request 2, a saved account of its request 5 and the places of its request 9, asked from C. */
 #include "threshcoil.h"
 
 #include <stdio.h>
@@ -85,7 +84,6 @@ static void case_d(void)
     held("d, counters query", (int64_t)tc_counters(account, sizeof account, counters, sizeof counters), TC_DONE);
     held("d, trimmed", (int64_t)word(counters, TC_TRIMMED_COUNT_AT), 1);
     held("d, shortfall", (int64_t)word(counters, TC_SHORTFALL_AT), 1000);
-    held("d, open positions", (int64_t)word(counters, TC_OPEN_COUNT_AT), 1);
 
     r = tc_rebalance_simple(account, sizeof account, target, sizeof target, price, sizeof price, 0, 2, records,
                             sizeof records);
@@ -187,43 +185,6 @@ static void ceiling_of_an_account(void)
     put(account + 8 * TC_SETTINGS_AT, TC_MAX_COMMISSION_AT, 49);
     r = tc_position(account, sizeof account, 0, told, sizeof told);
     held("ceiling, an account with a bad one", (int64_t)r, TC_UNSOUND);
-}
-
-/* Two symbols bought, then one closed by a call and the other flipped through 0: without prices the counters tell how many are open. */
-static void open_positions(void)
-{
-    uint8_t settings[TC_SETTINGS_BYTES] = {0}, account[TC_ACCOUNT_BYTES], counters[TC_COUNTERS_BYTES], figures[TC_SNAPSHOT_BYTES];
-    uint8_t targets[2 * TC_TARGET_BYTES] = {0}, prices[2 * TC_PRICE_BYTES] = {0};
-    static uint8_t weights[TC_WEIGHT_PLACES * TC_WEIGHT_BYTES];
-    int64_t equities[1];
-    put(settings, TC_STEP_AT, TC_SCALE);
-    uint64_t r = tc_open(100000, settings, sizeof settings, account, sizeof account, equities, 1);
-    held("open, opening", (int64_t)r, TC_DONE);
-    held("open, none", (int64_t)word(account, TC_COUNTERS_AT + TC_OPEN_COUNT_AT), 0);
-    for (size_t i = 0; i < 2; i++) {
-        targets[i * TC_TARGET_BYTES] = prices[i * TC_PRICE_BYTES] = (uint8_t)('A' + i);
-        put_double(targets, 2 * i + 1, 0.25);
-        put(prices, 2 * i + 1, 1000);
-    }
-    r = tc_rebalance_simple(account, sizeof account, targets, sizeof targets, prices, sizeof prices, 0, TC_REBALANCE, weights, 0);
-    held("open, bought", (int64_t)r, TC_DONE);
-    held("open, counters", (int64_t)tc_counters(account, sizeof account, counters, sizeof counters), TC_DONE);
-    held("open, two", (int64_t)word(counters, TC_OPEN_COUNT_AT), 2);
-    r = tc_close_position_at(account, sizeof account, (uint64_t)'A' << 56, 1000, 0, TC_STOP_EXIT, weights, 0);
-    held("open, closed", (int64_t)r, TC_DONE);
-    put_double(targets, 3, -0.25);
-    r = tc_rebalance_simple(account, sizeof account, targets + TC_TARGET_BYTES, TC_TARGET_BYTES, prices, sizeof prices, 0, TC_REBALANCE,
-                            weights, 0);
-    held("open, flipped", (int64_t)r, TC_DONE);
-    held("open, counters again", (int64_t)tc_counters(account, sizeof account, counters, sizeof counters), TC_DONE);
-    held("open, one", (int64_t)word(counters, TC_OPEN_COUNT_AT), 1);
-    held("open, in use", (int64_t)word(account, TC_COUNT_AT), 2);
-    r = tc_snapshot(account, sizeof account, prices, sizeof prices, figures, sizeof figures, weights, sizeof weights);
-    held("open, snapshot", (int64_t)TC_ANSWER(r), TC_DONE);
-    held("open, by the snapshot", (int64_t)word(figures, 2), 1);
-    put(account + 8 * TC_COUNTERS_AT, TC_OPEN_COUNT_AT, 0);
-    r = tc_counters(account, sizeof account, counters, sizeof counters);
-    held("open, a wrong count", (int64_t)r, TC_UNSOUND);
 }
 
 /* Two accounts over two parts. The first: 100 to 150 and 300 to 350, so 100 over 400. The second: 500 to 375, and one that is
@@ -353,7 +314,6 @@ int main(void)
     case_of_cash_first();
     ceiling_of_a_fill();
     ceiling_of_an_account();
-    open_positions();
     house_return();
     saved_account();
     places();

@@ -10,8 +10,8 @@ MOST = 2**64 - 1
 
 # Document 01's case d, recorded, as docs/LAYOUT.md has it in bytes.
 CASE_D = Account(900, Settings(Costs(10.0, 0.0, 100), recording=True), {AAPL: Position(99 * SCALE, 1_000, 0, 99_000)},
-                 last_order_count=1, last_notional=100_000, trimmed_count=1, trimmed_shortfall=1_000, record_count=1, open_count=1,
-                 equity_count=1, previous_equity=100_000)
+                 last_order_count=1, last_notional=100_000, trimmed_count=1, trimmed_shortfall=1_000, record_count=1, equity_count=1,
+                 previous_equity=100_000)
 CASE_D_FILE = """01 880e  c801 00 00 00 80897a  80808080808080 9240 00 00  00  00 01 00  01 c09a0c 01 d00f  01  01 00  c09a0c
                  01  04 4141504c 80fbb45e d00f 00 f08a0c"""
 
@@ -52,7 +52,7 @@ def full():
     settings = Settings(costs, TOP, TOP, TOP, 1e300, MOST, TOP, True, True)
     names = [b"SYMBOL%02d" % k for k in range(64)]
     held = {int.from_bytes(name, "big"): Position(TOP, TOP, TOP, TOP) for name in names}
-    return Account(TOP, settings, held, MOST, TOP, MOST, TOP, MOST, 64, MOST, MOST, TOP)
+    return Account(TOP, settings, held, MOST, TOP, MOST, TOP, MOST, MOST, MOST, TOP)
 
 
 def negative_zeros(a):

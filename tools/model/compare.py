@@ -1,8 +1,7 @@
 """Plays the scenarios on standard input on the model and holds its answers to those written beside them.
 
 usage: harness scenarios SEED COUNT | python3 tools/model/compare.py                  the Rust's answers
-       harness spoiled SEED COUNT | python3 tools/model/compare.py spoiled            the port's, cash-first mode among them, the places of refusals,
-                                                                                      and what moves the count of open positions
+       harness spoiled SEED COUNT | python3 tools/model/compare.py spoiled            the port's, cash-first mode among them, and the places of refusals
        harness cash-first SEED COUNT | python3 tools/model/compare.py cash-first      the port's in cash-first mode, and what they meet
        harness ceiling SEED COUNT | python3 tools/model/compare.py ceiling            the port's under a commission ceiling, and what they meet
 
@@ -16,7 +15,6 @@ from collections import Counter
 
 import met
 import met_ceiling
-import met_open
 import met_places
 import model
 from model import Costs
@@ -59,7 +57,7 @@ def settings_line(s):
 
 
 def account_lines(a):
-    counters = f"{a.last_order_count} {a.last_notional} {a.trimmed_count} {a.trimmed_shortfall} {a.record_count} {a.open_count}"
+    counters = f"{a.last_order_count} {a.last_notional} {a.trimmed_count} {a.trimmed_shortfall} {a.record_count}"
     yield f"account {a.cash} {counters} {a.equity_count} {a.return_count} {a.previous_equity}"
     yield settings_line(a.settings)
     for symbol, p in a.held():
@@ -162,7 +160,7 @@ def exchanges(lines):
         yield name, asked, answers
 
 
-def met_in_mode(account, line, answer, _):
+def met_in_mode(account, line, answer):
     """What a call met, where it is a rebalance of an account in cash-first mode."""
     if not line.startswith("rebalance ") or answer.number != model.DONE or not account.settings.cash_first:
         return {}
@@ -170,7 +168,7 @@ def met_in_mode(account, line, answer, _):
     return met.rebalance(account, targets, dict(prices))
 
 
-def met_under_ceiling(account, line, answer, _):
+def met_under_ceiling(account, line, answer):
     """What a call met, where it is an opening with a ceiling, or fills under one."""
     verb, *words = line.split()
     if verb == "open":
@@ -183,17 +181,7 @@ def met_under_ceiling(account, line, answer, _):
     return met_ceiling.close(account, int(words[3], 16), int(words[4])) if verb == "close" else {}
 
 
-def met_spoiled(account, line, answer, after):
-    """What a call met of the places of refusals and of the count of open positions."""
-    found = Counter(met_refused(line, answer))
-    if line.startswith("rebalance "):
-        found.update(met_open.rebalance(account, after, answer.number))
-    elif line.startswith("close "):
-        found.update(met_open.close(account, after, int(line.split()[4], 16), answer.number))
-    return found
-
-
-def met_refused(line, answer):
+def met_refused(account, line, answer):
     """What a call met, where it is refused at an entry."""
     verb, *words = line.split()
     if answer.place is None:
@@ -206,7 +194,7 @@ def met_refused(line, answer):
 
 # What a run must meet, how a call is looked at for it, and how often in 1,000 scenarios it must be met.
 RUNS = {
-    "spoiled": (met_places.ENTRIES + met_open.ALL, met_spoiled, ("once", 1)),
+    "spoiled": (met_places.ENTRIES, met_refused, ("once", 1)),
     "cash-first": (met.ALL, met_in_mode, ("ten times", 10)),
     "ceiling": (met_ceiling.ALL, met_under_ceiling, ("ten times", 10)),
 }
@@ -227,7 +215,7 @@ def main():
         before, (account, answer, lines) = account, played(account, asked)
         answers[answer.number] += 1
         if run:
-            found.update(met_by(before, asked, answer, account))
+            found.update(met_by(before, asked, answer))
         compared += len(expected) > 0
         placed += answer.place is not None
         if expected and lines != expected:

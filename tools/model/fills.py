@@ -27,7 +27,7 @@ def read(line):
     order = Order(int(symbol, 16), int(quantity), int(price), 0.0)
     positions = {order.symbol: Position(*numbers)} if any(numbers) else {}
     account = Account(cash, Settings(costs, int(step), recording=True), positions, trimmed_count=trimmed,
-                      trimmed_shortfall=shortfall, record_count=records, open_count=model.open_positions(positions))
+                      trimmed_shortfall=shortfall, record_count=records)
     return account, order, int(period), kind
 
 

@@ -1,10 +1,9 @@
 """What saved accounts and files met, worked out on the model: no answer comes from here, only what a run says that it met. A run must
 meet each once in 1,000 calls."""
 from collections import Counter
-from dataclasses import replace
 from math import copysign
 
-from model import BOTTOM, MOST_COUNT, TOP, open_positions
+from model import BOTTOM, MOST_COUNT, TOP
 
 LONGEST = 3_328
 
@@ -26,22 +25,9 @@ def lengths(a):
     return {len(symbol.to_bytes(8, "big").rstrip(b"\0")) for symbol in a.positions}
 
 
-def miscounted(a):
-    """Whether the count of open positions alone makes it unsound."""
-    return not a.sound() and replace(a, open_count=open_positions(a.positions)).sound()
-
-
-def counted_less(a):
-    return a.open_count < open_positions(a.positions)
-
-
 ACCOUNTS = {
     "accounts without positions": lambda a: not a.positions,
     "with 64": lambda a: len(a.positions) == 64,
-    "with flat ones beside open ones": lambda a: a.sound() and 0 < a.open_count < len(a.positions),
-    "with flat ones alone": lambda a: a.sound() and a.open_count == 0 < len(a.positions),
-    "with a count too small alone": lambda a: miscounted(a) and counted_less(a),
-    "with a count too large alone": lambda a: miscounted(a) and not counted_less(a),
     "with symbols of 1 and of 8 bytes": lambda a: {1, 8} <= lengths(a),
     "with a negative zero": lambda a: any(x == 0.0 and copysign(1.0, x) < 0.0 for x in rates(a)),
     "without a cap": lambda a: a.settings.max_trades_per_rebalance is None,

@@ -1,4 +1,4 @@
-"""Document 01, and requests 1, 3, 7 and 9 of document 02, as a plain program: each rule once, in the paper's words. It knows nothing
+"""Document 01, and requests 1, 3 and 9 of document 02, as a plain program: each rule once, in the paper's words. It knows nothing
 of the Rust nor of the port.
 
 Python's int is exact and its float is binary64. A call takes the account as it was and returns a new one; a refusal
@@ -122,11 +122,6 @@ class Position:
         return self.average >= 0 and covered
 
 
-def open_positions(positions):
-    """The count of open positions, by a walk: those whose quantity is not 0."""
-    return sum(1 for p in positions.values() if p.quantity != 0)
-
-
 @dataclass(frozen=True)
 class Account:
     cash: int
@@ -137,7 +132,6 @@ class Account:
     trimmed_count: int = 0
     trimmed_shortfall: int = 0
     record_count: int = 0
-    open_count: int = 0
     equity_count: int = 0
     return_count: int = 0
     previous_equity: int = 0
@@ -147,10 +141,8 @@ class Account:
         return sorted(self.positions.items())
 
     def sound(self):
-        """'The count joins what makes an account sound.'"""
         return (self.settings.good() and self.cash >= 0 and len(self.positions) <= MOST_POSITIONS
-                and all(good_symbol(s) and p.sound() for s, p in self.positions.items())
-                and self.open_count == open_positions(self.positions))
+                and all(good_symbol(s) and p.sound() for s, p in self.positions.items()))
 
 
 # 'all zeros from a refused opening'; its step of 0 makes it unsound.
@@ -268,7 +260,7 @@ def opened(cash, costs, equity_places=1):
     answer = first((BAD_SETTING, lambda: cash < 0 or not settings.good()), (NO_SERIES_ROOM, lambda: equity_places < 1))
     if answer.number != DONE:
         return answer, ZEROS
-    return answer, Account(cash, settings, open_count=0, equity_count=1, previous_equity=cash)
+    return answer, Account(cash, settings, equity_count=1, previous_equity=cash)
 
 
 def with_setting(account, **change):
@@ -314,12 +306,13 @@ def unpriced_holding(account, prices):
 
 
 def snapshot(account, prices):
-    """Cash, equity, the stored count of open positions, realized profit, weights. '`snapshot` adds profits in that order.'"""
+    """Cash, equity, open positions, realized profit, weights. '`snapshot` adds profits in that order.'"""
     def query(a, priced):
         realized = 0
         for _, p in a.held():
             realized = clamp(realized + p.realized)
-        return a.cash, equity_of(a, priced), a.open_count, realized, weights_of(a, priced)
+        count = sum(1 for _, p in a.held() if p.quantity)
+        return a.cash, equity_of(a, priced), count, realized, weights_of(a, priced)
     return asked(account, prices, query)
 
 
@@ -494,7 +487,7 @@ def filled(account, order, period, kind):
         return account, None
     held = account.positions.get(order.symbol, Position())
     positions = {**account.positions, order.symbol: after_fill(held, quantity, price)}
-    after = replace(account, cash=cash, positions=positions, open_count=open_positions(positions))
+    after = replace(account, cash=cash, positions=positions)
     if not settings.recording:
         return after, None
     record = Record(account.record_count, period, kind, order.symbol, quantity, price, order.price, amount,

@@ -1,5 +1,5 @@
-"""Request 5 of document 02, the saved form of an account, with request 7's count and request 9's places in a file, as a plain program that
-knows nothing of the port. Run, it saves and loads what is on standard input and holds what that gives to what is written beside it.
+"""Request 5 of document 02, the saved form of an account, with request 9's places in a file, as a plain program that knows nothing of the
+port. Run, it saves and loads what is on standard input and holds what that gives to what is written beside it.
 
 usage: harness saved-files SEED COUNT | python3 tools/model/saved.py     the port's answers, and what the files meet
 
@@ -15,7 +15,7 @@ import compare
 import met
 import met_places
 import met_saved
-from model import DONE, MOST_POSITIONS, NOT_SOUND, Account, Answer, Costs, Position, Settings, open_positions
+from model import DONE, MOST_POSITIONS, NOT_SOUND, Account, Answer, Costs, Position, Settings
 
 ENDS_EARLY, BAD_NUMBER, LEFT_OVER, NO_FILE_ROOM = 16, 17, 18, 19
 FORM = 1
@@ -171,7 +171,7 @@ class Reader:
         positions = [self.position() for _ in range(self.within(0, MOST_POSITIONS, "the position count"))]
         if self.place < len(self.file):
             raise Fault(Answer(LEFT_OVER, self.place), "bytes left over")
-        return Account(cash, settings, {}, *counters, 0, *series), positions
+        return Account(cash, settings, {}, *counters, *series), positions
 
 
 def read(file):
@@ -182,9 +182,7 @@ def read(file):
         raise Fault(Answer(NOT_SOUND), "a symbol is bad")
     if not all(a < b for a, b in zip(names, names[1:])):
         raise Fault(Answer(NOT_SOUND), "symbols don't ascend")
-    held = {int.from_bytes(name.ljust(8, b"\0"), "big"): p for name, p in positions}
-    # 'It isn't written to the saved file; loading works it out.'
-    loaded = replace(account, positions=held, open_count=open_positions(held))
+    loaded = replace(account, positions={int.from_bytes(name.ljust(8, b"\0"), "big"): p for name, p in positions})
     if not loaded.sound():
         raise Fault(Answer(NOT_SOUND), "another fault of the account")
     return loaded

@@ -1,26 +1,23 @@
 -- Laws of soundness: what a sound account has, what makes one, and that opening and setters do. Other crates cite these and never unfold
 -- `sound_account`, so that a clause which joins it is paid here.
 use Prim.Native.Nat.{ℕ, ◌≤◌, ◌<◌}
-use mathlib.Core.Path.{◌≡◌, refl, sym, ◌∙◌}
+use mathlib.Core.Path.{◌≡◌, refl}
 use mathlib.Core.Bool.{Bool, true, false}
-use lib.Dec.{eqb}
 use lib.IntN.{ℤ, pos}
-use borrow.Author.Tests.{eqb-true, eq-eqb}
 use Rattle.answer.specs.declared.Answer.TheVariants.{Done, BadSetting}
 use Rattle.cost_model.specs.Costs.{free, good_costs}
 use Rattle.position.specs.Fills.{sound}
 use Rattle.table.specs.declared.table.Table.{Table}
 use Rattle.table.specs.Keyed.{pick}
-use Rattle.table.specs.Rows.{columns_of, row_at, empty_table, is_zero, unused, ordered, open_among, open_of, Full}
+use Rattle.table.specs.Rows.{columns_of, row_at, empty_table, is_zero, unused, ordered, Full}
 use Rattle.table.specs.Inner.Rows.{Ordered}
 use Rattle.table.proofs.Keyed.{both_true, both_false}
-use Rattle.table.proofs.Opens.{open_rows}
 use Rattle.account.specs.declared.settings.Settings.{Settings}
 use Rattle.account.specs.declared.account.Account.{Account}
 use Rattle.account.specs.declared.account.Counters.{Counters}
 use Rattle.account.specs.declared.account.Series.{Series}
 use Rattle.account.specs.Settings.{is_at_least, good_rules, good_settings, of_costs, zero_settings}
-use Rattle.account.specs.Account.{sound_places, sound_columns, held_in, sound_table, sound_scalars, open_in, sound_account, with_settings, with_series}
+use Rattle.account.specs.Account.{sound_places, sound_columns, held_in, sound_table, sound_scalars, sound_account, with_settings, with_series}
 use Rattle.account.specs.Calls.{empty_account, zero_account, answered, changed}
 use Rattle.account.proofs.Columns.{all_sound, ordered-small, sound-orders, sound-rows, sound_at}
 use Rattle.account.proofs.Changes.{rules_costs, good_parts}
@@ -44,12 +41,7 @@ module _ (a : Account) (e : sound_account a ≡ true) where
 
   pub account-table : sound_table a.positions ≡ true
   unfolding sound_account
-  account-table = (both_true (sound_table a.positions) _ (both_true (sound_scalars a.cash a.settings) _ e).1).0
-
-  -- the count is that of the open positions
-  pub account-opens : a.counters.open_count ≡ open_in a.positions
-  unfolding sound_account
-  account-opens = sym (eqb-true _ _ (both_true (sound_table a.positions) _ (both_true (sound_scalars a.cash a.settings) _ e).1).1)
+  account-table = (both_true (sound_scalars a.cash a.settings) _ e).1
 
   -- whatever the lengths of its columns
   pub account-small : a.positions.count ≤ 64
@@ -61,9 +53,6 @@ module _ (a : Account) (e : sound_account a ≡ true) where
     pub account-ordered : Ordered a.positions.count (columns_of a.positions)
     account-ordered = sound-orders a.positions.count (columns_of a.positions) f account-table
 
-    pub account_open : a.counters.open_count ≡ open_of (held_in a.positions)
-    account_open = account-opens ∙ sym (open_rows a.positions.count (columns_of a.positions) f)
-
     pub account_positions : all_sound (held_in a.positions) ≡ true
     account_positions = sound-rows a.positions.count (columns_of a.positions) f account-table
 
@@ -71,14 +60,13 @@ module _ (a : Account) (e : sound_account a ≡ true) where
     account-position = sound_at a.positions.count (columns_of a.positions) f account-table
 
 -- ---- what makes one
-pub account-sound : (a : Account) → sound_scalars a.cash a.settings ≡ true → sound_table a.positions ≡ true → a.counters.open_count ≡ open_in a.positions → sound_account a ≡ true
+pub account-sound : (a : Account) → sound_scalars a.cash a.settings ≡ true → sound_table a.positions ≡ true → sound_account a ≡ true
 unfolding sound_account
-account-sound a c t n = simp (c, t, eq-eqb (open_in a.positions) a.counters.open_count (sym n))
+account-sound a c t = simp (c, t)
 
-pub parts_account : (a : Account) → is_at_least 0 a.cash ≡ true → good_settings a.settings ≡ true → sound_table a.positions ≡ true → a.counters.open_count ≡ open_in a.positions
-    → sound_account a ≡ true
+pub parts_account : (a : Account) → is_at_least 0 a.cash ≡ true → good_settings a.settings ≡ true → sound_table a.positions ≡ true → sound_account a ≡ true
 unfolding sound_scalars
-parts_account a c g t n = account-sound a (simp (c, g)) t n
+parts_account a c g t = account-sound a (simp (c, g)) t
 
 -- a sound one with one part changed
 abbrev pub with_cash : ℤ → Account → Account
@@ -92,22 +80,21 @@ with_positions t a = record { cash = a.cash; settings = a.settings; counters = a
 
 module _ (a : Account) (e : sound_account a ≡ true) where
   pub cash_keeps_sound : (cash : ℤ) → is_at_least 0 cash ≡ true → sound_account (with_cash cash a) ≡ true
-  cash_keeps_sound cash c = parts_account (with_cash cash a) c (account-settings a e) (account-table a e) (account-opens a e)
+  cash_keeps_sound cash c = parts_account (with_cash cash a) c (account-settings a e) (account-table a e)
 
   pub settings-keep-sound : (s : Settings) → good_settings s ≡ true → sound_account (with_settings s a) ≡ true
-  settings-keep-sound s g = parts_account (with_settings s a) (account-cash a e) g (account-table a e) (account-opens a e)
+  settings-keep-sound s g = parts_account (with_settings s a) (account-cash a e) g (account-table a e)
 
-  -- other counters, with the same count of open positions
-  pub counters_keep-sound : (k : Counters) → k.open_count ≡ a.counters.open_count → sound_account (with_counters k a) ≡ true
-  counters_keep-sound k n = account-sound (with_counters k a) (account_scalars a e) (account-table a e) (n ∙ account-opens a e)
+  pub counters_keep-sound : (k : Counters) → sound_account (with_counters k a) ≡ true
+  unfolding sound_account
+  counters_keep-sound k = e
 
   pub series-keep-sound : (s : Series) → sound_account (with_series s a) ≡ true
   unfolding sound_account
   series-keep-sound s = e
 
-  -- another table, with as many open positions
-  pub positions_keep-sound : (t : Table) → sound_table t ≡ true → open_in t ≡ open_in a.positions → sound_account (with_positions t a) ≡ true
-  positions_keep-sound t h n = account-sound (with_positions t a) (account_scalars a e) h (account-opens a e ∙ sym n)
+  pub positions_keep-sound : (t : Table) → sound_table t ≡ true → sound_account (with_positions t a) ≡ true
+  positions_keep-sound t h = account-sound (with_positions t a) (account_scalars a e) h
 
 -- ---- the account of zeros is none
 -- "`quantity_step` at least 1": its settings have 0
@@ -139,5 +126,4 @@ unfolding sound_columns sound_places ordered unused is_zero
 empty-sound = refl
 
 pub opened-sound : (cash : ℤ) (s : Settings) (x : Series) → sound_scalars cash s ≡ true → sound_account (empty_account cash s x) ≡ true
-unfolding open_among
-opened-sound cash s x e = account-sound (empty_account cash s x) e empty-sound refl
+opened-sound cash s x e = account-sound (empty_account cash s x) e empty-sound

@@ -1,11 +1,11 @@
 -- When an account is sound, and the table that holds a list of positions.
-use Rattle.std.specs.Prelude.{ℕ, zero, suc, Bool, true, List, map, eqb, length, take, ℤ, pos}
+use Rattle.std.specs.Prelude.{ℕ, zero, suc, Bool, true, List, map, length, ℤ, pos}
 use Rattle.position.specs.declared.position.Position.{Position}
 use Rattle.position.specs.Rows.{key_of, held, avg, realized, total}
 use Rattle.position.specs.Fills.{sound}
 use Rattle.table.specs.declared.table.Table.{Table}
 use Rattle.table.specs.Keyed.{both}
-use Rattle.table.specs.Rows.{Cols, columns_of, rows, row_at, ordered, open_among, padded_column}
+use Rattle.table.specs.Rows.{Cols, columns_of, rows, row_at, ordered, padded_column}
 use Rattle.account.specs.declared.settings.Settings.{Settings}
 use Rattle.account.specs.declared.account.Account.{Account}
 use Rattle.account.specs.declared.account.Series.{Series}
@@ -31,16 +31,9 @@ sound_table t = sound_columns t.count (columns_of t)
 unfoldable pub sound_scalars : ℤ → Settings → Bool
 sound_scalars cash s = both (is_at_least 0 cash) (good_settings s)
 
--- document 02, 7: how many positions of a table are open
-abbrev pub open_in : Table → ℕ
-open_in t = open_among (take t.count t.quantity)
-
--- "A sound account has good settings, cash at least 0, positions [..]"; document 02, 7: "The count joins what makes an account sound."
+-- "A sound account has good settings, cash at least 0, positions [..]"
 unfoldable pub sound_account : Account → Bool
-sound_account a =
-    both (sound_scalars a.cash a.settings)
-    (both (sound_table a.positions)
-    (eqb (open_in a.positions) a.counters.open_count))
+sound_account a = both (sound_scalars a.cash a.settings) (sound_table a.positions)
 
 -- ---- the table that holds a list of positions, "unused places zero"
 unfoldable pub table_of : List Position → Table

@@ -17,7 +17,6 @@ use Rattle.account.specs.declared.settings.Settings.{Settings}
 use Rattle.account.specs.declared.settings.TradeCap.{TradeCap}
 use Rattle.account.specs.declared.settings.TradeCap.TheVariants.{Absent as Uncapped}
 use Rattle.account.specs.declared.account.Account.{Account}
-use Rattle.account.specs.declared.account.Counters.{Counters}
 use Rattle.account.specs.declared.account.Series.{Series}
 use Rattle.account.specs.declared.change.Changed.{Changed}
 use Rattle.account.specs.declared.query.Cents.{Cents}
@@ -38,15 +37,11 @@ abbrev pub series : ℕ → ℕ → ℤ → Series
 series equities returns equity = record { equity_count = equities; return_count = returns; prev_equity = equity }
 
 -- ---- opening
--- nothing counted but so many open positions
-abbrev pub counted_open : ℕ → Counters
-counted_open n = record { last_rebalance_order_count = 0; last_rebalance_notional = pos 0; trimmed_fill_count = 0; trimmed_shortfall_cents = pos 0; record_count = 0; open_count = n }
-
 abbrev pub empty_account : ℤ → Settings → Series → Account
 empty_account cash s x = record {
   cash = cash;
   settings = s;
-  counters = counted_open 0;
+  counters = record { last_rebalance_order_count = 0; last_rebalance_notional = pos 0; trimmed_fill_count = 0; trimmed_shortfall_cents = pos 0; record_count = 0 };
   series = x;
   positions = empty_table;
 }

@@ -3,7 +3,7 @@ ghost use Rattle.std.specs.Prelude.{◌≡◌};
 ghost use Rattle.account.specs.Account.{sound_account};
 
 use crate::settings::Settings;
-use crate::soundness::{sound_counted, sound_scalars};
+use crate::soundness::{sound_columns, sound_scalars};
 use table::Table;
 
 // What calls report beside the positions.
@@ -15,8 +15,6 @@ pub struct Counters {
     pub trimmed_shortfall_cents: i64,
     // Fills recorded so far, while recording was on.
     pub record_count: u64,
-    // Positions whose quantity is not 0.
-    pub open_count: u64,
 }
 
 // How far the lent equity and return buffers are filled.
@@ -49,8 +47,8 @@ pub struct Ledger {
 }
 
 impl Account {
-    // "A sound account has good settings, cash at least 0, positions with good symbols, strictly ascending, unused places zero", and the count of
-    // those that are open. Nothing is asked of the other counters and of series.
+    // "A sound account has good settings, cash at least 0, positions with good symbols, strictly ascending, unused places zero." Nothing is asked of
+    // counters and series.
     pub fn is_sound(self) -> bool
         ensures { result ≡ sound_account self }
     {
@@ -58,8 +56,7 @@ impl Account {
             return false;
         }
         let t = self.positions;
-        sound_counted(
-            self.counters.open_count,
+        sound_columns(
             &t.symbol,
             &t.quantity,
             &t.avg_entry_price,

@@ -40,7 +40,6 @@ fn empty_account(cash: i64, settings: Settings, series: Series) -> Account
         trimmed_fill_count: 0,
         trimmed_shortfall_cents: 0,
         record_count: 0,
-        open_count: 0,
     };
     let positions = Table::empty();
     Account {

@@ -245,13 +245,6 @@ impl Account {
         self.told_count(self.series.return_count)
     }
 
-    // How many positions are open: no prices are asked for, and no position is looked at but to see that the account is sound.
-    pub fn open_count(self) -> Count
-        ensures { result ≡ told_count (sound_account self) self.counters.open_count }
-    {
-        self.told_count(self.counters.open_count)
-    }
-
     // Flat positions count too.
     pub fn position_count(self) -> Count
         ensures { result ≡ told_count (sound_account self) self.positions.count }

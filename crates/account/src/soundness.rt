@@ -1,13 +1,12 @@
-// Whether an account is sound: its columns, its scalars, and the count of its open positions.
-ghost use Rattle.std.specs.Prelude.{◌≡◌, ◌≤◌, eqb, take};
-ghost use Rattle.table.specs.Keyed.{both};
-ghost use Rattle.table.specs.Rows.{cols, open_among};
+// Whether an account is sound: its columns, and its scalars.
+ghost use Rattle.std.specs.Prelude.{◌≡◌, ◌≤◌};
+ghost use Rattle.table.specs.Rows.{cols};
 ghost use Rattle.account.specs.Account.{sound_places, sound_columns, sound_scalars, sound_account};
 ghost use Rattle.account.specs.Inner.Account.{account_with};
 
 use crate::account::Ledger;
 use crate::settings::Settings;
-use table::{Found, count_open, held, is_ordered};
+use table::{Found, held, is_ordered};
 
 // Whether each of the first n positions is sound.
 fn sound_positions<'a>(
@@ -61,25 +60,6 @@ pub fn sound_scalars(cash: i64, s: Settings) -> bool
     s.is_good()
 }
 
-// Whether the columns are sound, and so many of their positions open.
-pub(crate) fn sound_counted<'a>(
-    open_count: u64,
-    symbol: &'a [u64; 64],
-    quantity: &'a [i64; 64],
-    average: &'a [i64; 64],
-    realized: &'a [i64; 64],
-    total: &'a [i64; 64],
-    n: usize,
-) -> bool
-    ensures { let c = cols symbol.now quantity.now average.now realized.now total.now in
-        result ≡ both (sound_columns n c) (eqb (open_among (take n c.quantity)) open_count) }
-{
-    if !sound_columns(symbol, quantity, average, realized, total, n) {
-        return false;
-    }
-    count_open(&quantity[..], n) == open_count
-}
-
 // Whether the account of a ledger and five columns is sound.
 pub fn sound_account<'a>(
     h: Ledger,
@@ -95,8 +75,5 @@ pub fn sound_account<'a>(
     if !sound_scalars(h.cash, h.settings) {
         return false;
     }
-    let open_count = h.counters.open_count;
-    sound_counted(
-        open_count, symbol, quantity, average, realized, total, h.count,
-    )
+    sound_columns(symbol, quantity, average, realized, total, h.count)
 }

@@ -22,7 +22,7 @@ use Rattle.word_bytes.specs.Words.{words_in, words_of, bytes_of, turned}
 use Rattle.word_bytes.specs.Numbers.{signed_of, unsigned_of}
 use Rattle.word_bytes.proofs.Words.{Words, Octets, length-words, words-bytes, length-bytes, words_fit, bytes-words}
 use Rattle.word_bytes.proofs.Numbers.{signed_unsigned, unsigned_signed, unsigned_lt}
-use Rattle.account_bytes.specs.Sizes.{settings_size, settings_from, counters_size, counters_from, last_notional_at, shortfall_at, closed_total_at, series_from, prev_equity_at, counts_size, column_size, symbols_from, quantities_from, averages_from, realized_from, totals_from, account_size, account_length}
+use Rattle.account_bytes.specs.Sizes.{settings_size, settings_from, counters_size, counters_from, last_notional_at, shortfall_at, open_count_at, closed_total_at, series_from, prev_equity_at, counts_size, column_size, symbols_from, quantities_from, averages_from, realized_from, totals_from, account_size, account_length}
 use Rattle.account_bytes.specs.Settings.{settings_words, settings_at, are_settings}
 use Rattle.account_bytes.specs.Account.{count_words, counters_of, spare_counters, series_words, series_of, column_words, symbols_at, numbers_at, table_from, account_words_of, account_of, got_account, no_account, hold_account, read_account, written_account, written_series}
 use Rattle.account_bytes.proofs.Writing.{length-account, bytes_are}
@@ -45,7 +45,6 @@ pub record KeptCounts (k : Counters) (s : Series) : Type 0 where
   pub trimmed : k.trimmed_fill_count < 2 ^ 64
   pub shortfall : SFits w64 k.trimmed_shortfall_cents
   pub records : k.record_count < 2 ^ 64
-  pub opens : k.open_count < 2 ^ 64
   pub equities : s.equity_count < 2 ^ 64
   pub returns : s.return_count < 2 ^ 64
   pub previous : SFits w64 s.prev_equity
@@ -179,15 +178,20 @@ account_back a k =
     )
 
 -- ---- from words to an account and back
--- the word that stands for no counter
-spare : (ws : List ℕ) → spare_counters ws ≡ true → get_or ws closed_total_at 0 ≡ 0
-spare ws e = eqb-true _ 0 e
+-- two words that stand for no counter
+record Spare (ws : List ℕ) : Type 0 where
+  open_count_lem : get_or ws open_count_at 0 ≡ 0
+  closed-total : get_or ws closed_total_at 0 ≡ 0
+
+spare : (ws : List ℕ) → spare_counters ws ≡ true → Spare ws
+spare ws e = let b = both_true _ _ e in record { open_count_lem = eqb-true _ 0 b.0; closed-total = eqb-true _ 0 b.1 }
 
 -- with another series three of the words are others
 counted : (s : Series) (ws : List ℕ) → Words ws → spare_counters ws ≡ true → count_words (counters_of ws) s (table_from ws).count ≡ sets (run counts_size counters_from ws) counters_size (series_words s)
 unfolding count_words table_from
 counted s ws o e =
-    simp (unsigned_signed (get_or ws last_notional_at 0) (word_lt ws last_notional_at o), unsigned_signed (get_or ws shortfall_at 0) (word_lt ws shortfall_at o), spare ws e)
+    let z = spare ws e in
+    simp (unsigned_signed (get_or ws last_notional_at 0) (word_lt ws last_notional_at o), unsigned_signed (get_or ws shortfall_at 0) (word_lt ws shortfall_at o), z.open_count_lem, z.closed-total)
 
 -- one column, written back, and the words after it
 number-column : (from next : ℕ) (ws : List ℕ) → Words ws → next ≡ from + column_size → map unsigned_of (numbers_at from ws) ++ drop next ws ≡ drop from ws

@@ -22,7 +22,7 @@ counter_words k =
     ∷ k.trimmed_fill_count
     ∷ unsigned_of k.trimmed_shortfall_cents
     ∷ k.record_count
-    ∷ k.open_count
+    ∷ 0
     ∷ 0
     ∷ []
 
@@ -39,11 +39,10 @@ counters_of ws = record {
   trimmed_fill_count = get_or ws trimmed_count_at 0;
   trimmed_shortfall_cents = signed_of (get_or ws shortfall_at 0);
   record_count = get_or ws record_count_at 0;
-  open_count = get_or ws open_count_at 0;
 }
 
 abbrev pub spare_counters : List ℕ → Bool
-spare_counters ws = is_spare (get_or ws closed_total_at 0)
+spare_counters ws = both (is_spare (get_or ws open_count_at 0)) (is_spare (get_or ws closed_total_at 0))
 
 abbrev pub series_of : List ℕ → Series
 series_of ws = series (get_or ws equity_count_at 0) (get_or ws return_count_at 0) (signed_of (get_or ws prev_equity_at 0))

@@ -84,10 +84,10 @@ shortfall_at = counters_from + 3
 abbrev pub record_count_at : ℕ
 record_count_at = counters_from + 4
 
+-- two words that stand for no counter: 0
 abbrev pub open_count_at : ℕ
 open_count_at = counters_from + 5
 
--- a word that stands for no counter: 0
 abbrev pub closed_total_at : ℕ
 closed_total_at = counters_from + 6
 

@@ -34,15 +34,16 @@ fn counters_of(bytes: &[u8]) -> Counters
         trimmed_fill_count: word_at(bytes, TRIMMED_COUNT_AT),
         trimmed_shortfall_cents: number_at(bytes, SHORTFALL_AT),
         record_count: word_at(bytes, RECORD_COUNT_AT),
-        open_count: word_at(bytes, OPEN_COUNT_AT),
     }
 }
 
-// A word that stands for no counter.
+// Two words that stand for no counter.
 fn spare_counters(bytes: &[u8]) -> bool
     ensures { result ≡ spare_counters (words_of bytes.now) }
 {
-    is_spare(word_at(bytes, CLOSED_TOTAL_AT))
+    let open_count = is_spare(word_at(bytes, OPEN_COUNT_AT));
+    let closed_total = is_spare(word_at(bytes, CLOSED_TOTAL_AT));
+    both(open_count, closed_total)
 }
 
 fn series_of(bytes: &[u8]) -> Series
@@ -121,7 +122,7 @@ pub fn counter_words(k: Counters) -> [u64; COUNTER_WORDS]
         k.trimmed_fill_count,
         unsigned(k.trimmed_shortfall_cents),
         k.record_count,
-        k.open_count,
+        0,
         0,
     ]
 }

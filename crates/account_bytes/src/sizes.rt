@@ -57,9 +57,9 @@ pub const TRIMMED_COUNT_AT: usize = 18;
 pub const SHORTFALL_AT: usize = 19;
 
 pub const RECORD_COUNT_AT: usize = 20;
-
+// Two words that stand for no counter: 0.
 pub const OPEN_COUNT_AT: usize = 21;
-// A word that stands for no counter: 0.
+
 pub const CLOSED_TOTAL_AT: usize = 22;
 
 pub const SERIES_WORDS: usize = 3;

@@ -60,7 +60,7 @@ entered-holds p t e = subst (HoldsPositions (held_of p)) (sym e) (entered_by p (
 
 -- ---- the fill on it
 abbrev pub with_count : ℕ → Book → Book
-with_count n b = record { cash = b.cash; count = n; open_count = b.open_count; trimmed = b.trimmed; shortfall = b.shortfall; sequence = b.sequence; written = b.written; hint = b.hint }
+with_count n b = record { cash = b.cash; count = n; trimmed = b.trimmed; shortfall = b.shortfall; sequence = b.sequence; written = b.written; hint = b.hint }
 
 module _ (a : Ask) (b : Book) (p : Position) (n : ℕ) (c d : Cols) (f : Filled) (h : HoldsPositions (held_of p) (counted_cols n c))
     (hf : Ordered n c → Fills (asked_terms a) (asked_order a) (with_count n b) c f d) where

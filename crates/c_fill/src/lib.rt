@@ -47,7 +47,7 @@ fn terms_of(a: Ask) -> Terms
     }
 }
 
-// The scalars of an account, before its position is entered. No count of open positions is told here, and none is kept.
+// The scalars of an account, before its position is entered.
 fn book_of(money: &[i64], tallies: &[u64]) -> Book
     requires { (length money.now ≡ 6) × (length tallies.now ≡ 2) }
     ensures { result ≡ book_of money.now tallies.now }
@@ -59,7 +59,6 @@ fn book_of(money: &[i64], tallies: &[u64]) -> Book
     Book {
         cash,
         count: 0,
-        open_count: 0,
         trimmed,
         shortfall,
         sequence,

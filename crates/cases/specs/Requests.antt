@@ -1,25 +1,23 @@
 -- Cases of document 02's requests, each with its words.
-use Rattle.std.specs.Prelude.{ℕ, zero as none, suc, Bool, true, false, cond, ℤ, pos, negsuc, neg_ℤ, take, replicate, Float}
+use Rattle.std.specs.Prelude.{ℕ, Bool, true, false, cond, ℤ, pos, negsuc, neg_ℤ, take, replicate, Float}
 use mathlib.Core.List.{List, [], ◌∷◌, ◌++◌, map, foldr}
 use Rattle.std.specs.Float.{nan, inf, fin, binary64}
 use Rattle.std.specs.Float.Ieee.{add, div}
 use Rattle.answer.specs.Numbers.{number_of}
-use Rattle.position.specs.declared.position.Position.{Position}
 use Rattle.position.specs.Rows.{row, held}
 use Rattle.cost_model.specs.declared.CostModel.{CostModel}
 use Rattle.cost_model.specs.Costs.{model, with_ceiling, zero, free, cost, good_costs}
-use Rattle.fills.specs.declared.record.ExecutionKind.TheVariants.{Rebalance, StopExit}
+use Rattle.fills.specs.declared.record.ExecutionKind.TheVariants.{Rebalance}
 use Rattle.fills.specs.Orders.{cash_only, order}
 use Rattle.fills.specs.Fill.{fill}
 use Rattle.account.specs.declared.account.Account.{Account}
 use Rattle.account.specs.Settings.{of_costs, opening_settings, with_recording, with_cash_first}
 use Rattle.account.specs.Account.{held_in, table_of}
-use Rattle.account.specs.Calls.{counted_open, zero_account}
+use Rattle.account.specs.Calls.{zero_account}
 use Rattle.wanted.specs.declared.planned.PlannedOrder.{PlannedOrder}
 use Rattle.wanted.specs.Plan.{planned}
 use Rattle.admission.specs.Running.{cash_first_of}
-use Rattle.portfolio.specs.Rebalance.{Outcome, terms_of, state_of, account_after, rebalanced}
-use Rattle.portfolio.specs.Close.{position_closed}
+use Rattle.portfolio.specs.Rebalance.{Outcome, rebalanced}
 use Rattle.portfolio.specs.Returns.{return_of}
 use Rattle.house.specs.declared.House.{House}
 use Rattle.house.specs.Group.{Equity, given, absent, Ends}
@@ -43,7 +41,7 @@ abbrev pub holds_both : Bool → Account
 holds_both mode = record {
   cash = pos 0;
   settings = with_cash_first mode (with_recording true (opening_settings (of_costs floor15) (whole (pos 1))));
-  counters = counted_open 2;
+  counters = zero_account.counters;
   series = zero_account.series;
   positions = table_of (row name_a (whole (pos 1)) (pos 10) (pos 0) (pos 10) ∷ row name_b (whole (pos 1)) (pos 25) (pos 0) (pos 25) ∷ []);
 }
@@ -240,74 +238,9 @@ good_under ceiling = one_if (good_costs (with_ceiling ceiling ten_bps))
 abbrev pub case_3_good : Row
 case_3_good = says (good_under (pos 0) ∷ good_under (pos 99) ∷ good_under (pos 100) ∷ good_under (negsuc 0) ∷ []) (pos 1 ∷ pos 0 ∷ pos 1 ∷ pos 0 ∷ [])
 
--- ---- 7, the count of open positions
--- cash 100, no costs, one holding, and a count
-abbrev pub holds_one : ℕ → Position → Account
-holds_one opens p = record {
-  cash = pos 100;
-  settings = opening_settings (of_costs free) (whole (pos 1));
-  counters = counted_open opens;
-  series = zero_account.series;
-  positions = table_of (p ∷ []);
-}
-
-abbrev pub long_a : Position
-long_a = row name_a (whole (pos 1)) (pos 10) (pos 0) (pos 10)
-
-abbrev pub flat_a : Position
-flat_a = row name_a (pos 0) (pos 0) (pos 5) (pos 0)
-
--- answer, the count, and what is held
-abbrev pub open_by : Outcome → List ℤ
-open_by o = pos (number_of o.answer) ∷ pos o.account.counters.open_count ∷ map held (held_in o.account.positions)
-
-abbrev pub to_weight : Float → Account → Outcome
-to_weight w a = rebalanced a (name_a ∷ []) (w ∷ []) (name_a ∷ []) (pos 10 ∷ []) 0 Rebalance 64
-
--- a long of one share to a short of eleven, at equity 110: one open position before and after
-abbrev pub case_7_flip : Row
-case_7_flip = says (open_by (to_weight (fin true 1 (pos 0)) (holds_one 1 long_a))) (pos 0 ∷ pos 1 ∷ whole (negsuc 10) ∷ [])
-
--- an entry that was flat is open again, once
-abbrev pub case_7_reopened : Row
-case_7_reopened = says (open_by (to_weight (fin false 1 (pos 0)) (holds_one 0 flat_a))) (pos 0 ∷ pos 1 ∷ whole (pos 10) ∷ [])
-
--- closed, by a rebalance to a weight of 0 and by a close
-abbrev pub case_7_closed : Row
-case_7_closed =
-    says (open_by (to_weight zero (holds_one 1 long_a)) ++ open_by (position_closed (holds_one 1 long_a) name_a (pos 10) 0 StopExit 64))
-    (pos 0 ∷ pos 0 ∷ pos 0 ∷ pos 0 ∷ pos 0 ∷ pos 0 ∷ [])
-
--- "11 also when the count is wrong": too low, too high, and of a flat entry
-abbrev pub case_7_wrong : Row
-case_7_wrong =
-    says (open_by (to_weight zero (holds_one 0 long_a)) ++ (open_by (to_weight zero (holds_one 2 long_a)) ++ open_by (to_weight zero (holds_one 1 flat_a))))
-    (pos 11 ∷ pos 0 ∷ whole (pos 1) ∷ pos 11 ∷ pos 2 ∷ whole (pos 1) ∷ pos 11 ∷ pos 1 ∷ pos 0 ∷ [])
-
--- a full table takes in no new symbol, and counts none; a sale of all of its first position lowers the count
-abbrev pub shares64 : ℕ → ℕ → List Position
-shares64 none s = []
-shares64 (suc n) s = row s (whole (pos 1)) (pos 10) (pos 0) (pos 10) ∷ shares64 n (suc s)
-
-abbrev pub holds_all : Account
-holds_all = record {
-  cash = pos 100;
-  settings = opening_settings (of_costs free) (whole (pos 1));
-  counters = counted_open 64;
-  series = zero_account.series;
-  positions = table_of (shares64 64 name_a);
-}
-
-abbrev pub open_after : ℕ → ℤ → ℤ
-open_after s q = pos (account_after holds_all (fill (terms_of holds_all 0 Rebalance) (order s q (pos 10)) (state_of holds_all)) 0 (pos 0)).counters.open_count
-
-abbrev pub case_7_full : Row
-case_7_full = says (open_after name_b (whole (pos 1)) ∷ open_after name_a (whole (pos 1)) ∷ open_after name_a (whole (negsuc 0)) ∷ []) (pos 64 ∷ pos 64 ∷ pos 63 ∷ [])
-
 abbrev pub requests : List Row
 requests =
     case_1 ∷ case_1_as_planned ∷ case_1_buy_of_0 ∷ case_1_sale_for_0
     ∷ case_2 ∷ case_2_columns ∷ case_2_trial ∷ case_2_one-end ∷ case_2_partial ∷ case_2_partial_change ∷ case_2_partial_account
     ∷ case_2_accounts ∷ case_2_parts ∷ case_2_lists ∷ case_2_range ∷ case_2_no_first-sum ∷ case_2_order
-    ∷ case_3_flat ∷ case_3_trimmed ∷ case_3_whole ∷ case_3_skipped ∷ case_3_sold ∷ case_3_good
-    ∷ case_7_flip ∷ case_7_reopened ∷ case_7_closed ∷ case_7_wrong ∷ case_7_full ∷ []
+    ∷ case_3_flat ∷ case_3_trimmed ∷ case_3_whole ∷ case_3_skipped ∷ case_3_sold ∷ case_3_good ∷ []

@@ -38,7 +38,6 @@ module _ (d : Deal) (b : Book) where
   pub counted-once : d.trimmed ≡ true → counted_in d b ≡ record {
     cash = b.cash;
     count = b.count;
-    open_count = b.open_count;
     trimmed = next_count b.trimmed;
     shortfall = sat_add b.shortfall d.lost;
     sequence = b.sequence;

@@ -1,5 +1,5 @@
 -- One fill: it is what the deal says, and what the code does on columns is it.
-use Prim.Native.Nat.{ℕ, ◌-◌}
+use Prim.Native.Nat.{ℕ}
 use mathlib.Core.Path.{◌≡◌, refl, sym, ap, ◌∙◌, subst}
 use mathlib.Core.Bool.{Bool, true, false}
 use mathlib.Core.List.{List, [], ◌∷◌, ◌++◌, append-nil}
@@ -9,7 +9,7 @@ use lib.ListN.{take}
 use lib.Signed.{le_z}
 use Rattle.sums.specs.Sums.{sat_sub, notional}
 use Rattle.position.specs.declared.position.Position.{Position}
-use Rattle.position.specs.Rows.{fresh, key_of, held}
+use Rattle.position.specs.Rows.{fresh, key_of}
 use Rattle.position.specs.Shares.{is_zero}
 use Rattle.position.specs.Fills.{applied}
 use Rattle.position.proofs.Fills.{applied_keeps_symbol}
@@ -19,20 +19,20 @@ use Rattle.table.specs.declared.found.Found.{Found}
 use Rattle.table.specs.Keyed.{pick, or_else, seek, put64}
 use Rattle.table.specs.Inner.Places.{Finds, found}
 use Rattle.table.specs.Rows.{Cols, rows, holding}
-use Rattle.table.specs.Inner.Rows.{CountedCols, counted_cols, Ordered, Puts, held_at, posted, stands_in}
+use Rattle.table.specs.Inner.Rows.{CountedCols, counted_cols, Ordered, Puts, held_at, posted}
 use Rattle.table.proofs.Keyed.{seek_key}
-use Rattle.table.proofs.Posting.{held_is_holding, posted_puts, posted-holds}
+use Rattle.table.proofs.Posting.{held_is_holding, posted_puts}
 use Rattle.fills.specs.declared.deal.Deal.{Deal}
 use Rattle.fills.specs.declared.fill.Filled.{Filled}
 use Rattle.fills.specs.declared.terms.Book.{Book}
 use Rattle.fills.specs.declared.terms.Order.{Order}
 use Rattle.fills.specs.declared.terms.Terms.{Terms}
 use Rattle.fills.specs.declared.record.ExecutionRecord.{ExecutionRecord}
-use Rattle.fills.specs.Orders.{State, buys, paid, next_count}
+use Rattle.fills.specs.Orders.{State, buys, paid}
 use Rattle.fills.specs.Records.{record_of}
 use Rattle.fills.specs.Fill.{fills_whole, made, counted, settled, trimmed_fill, fill}
 use Rattle.fills.specs.Inner.Deal.{dealt, no_deal, trimmed_to, buy_deal, sale_deal, deal_of, record_by, counted_by, settled_by, after_deal}
-use Rattle.fills.specs.Inner.Runs.{state, counted_in, sequence_after, moved_by, settled_in, records_of, Fills}
+use Rattle.fills.specs.Inner.Runs.{state, counted_in, sequence_after, settled_in, records_of, Fills}
 
 -- ---- a fill is what its deal says
 module _ (t : Terms) (o : Order) (s : State) where
@@ -93,15 +93,6 @@ named s ps = go (seek key_of s ps) refl
     go none e = refl
     go (some p) e = seek_key key_of s ps p e
 
--- where nothing moves, the count of open positions stays
-unmoved : (n : ℕ) (q : ℤ) → n ≡ moved_by n q q
-unfolding moved_by
-unmoved n q = go (is_zero q)
-  where
-    go : (z : Bool) → n ≡ pick z (pick z n (next_count n)) (pick z (n - 1) n)
-    go true = refl
-    go false = refl
-
 -- ---- what the code does on columns
 abbrev state_of_lem : ℤ → List Position → ℕ → ℤ → ℕ → List ExecutionRecord → State
 state_of_lem x l n y m rs = record { cash = x; held = l; trimmed = n; shortfall = y; sequence = m; records = rs }
@@ -142,16 +133,11 @@ module _ (t : Terms) (o : Order) (b : Book) (c : Cols) (d : Deal) (e : d ≡ dea
         written = ap (λ x. x.written) hb;
         recorded = hr ∙ sym (ap (λ x. pick x false t.recording) y);
         made = record_is;
-        opens =
-            ap (λ x. x.open_count) hb
-            ∙ unmoved b.open_count (held (holding o.symbol.0 (rows b.count c)))
-            ∙ ap (λ n. moved_by b.open_count (held (holding o.symbol.0 (rows b.count c))) (held (holding o.symbol.0 (rows n c)))) (sym (ap (λ x. x.count) hb));
       }
 
-  module _ (z : is_zero d.quantity.0 ≡ false) (f : Found) (p w : Position) (m h n : ℕ) (c' : Cols)
+  module _ (z : is_zero d.quantity.0 ≡ false) (f : Found) (p w : Position) (m h : ℕ) (c' : Cols)
       (hf : Finds o.symbol.0 (take b.count c.symbol) f) (hp : p ≡ held_at f o.symbol.0 c) (hw : w ≡ applied p d.quantity.0 d.price)
-      (hn : counted_cols m c' ≡ posted f w (counted_cols b.count c))
-      (ho : n ≡ moved_by b.open_count (held p) (pick (stands_in f b.count m) (held w) (pos 0))) where
+      (hn : counted_cols m c' ≡ posted f w (counted_cols b.count c)) where
     found-is : f ≡ found o.symbol.0 (take b.count c.symbol)
     found-is = hf.settled s.rising
 
@@ -168,20 +154,7 @@ module _ (t : Terms) (o : Order) (b : Book) (c : Cols) (d : Deal) (e : d ≡ dea
     rows_are : rows m c' ≡ put64 key_of (applied (holding o.symbol.0 (rows b.count c)) d.quantity.0 d.price) (rows b.count c)
     rows_are = puts.same ∙ ap (λ x. put64 key_of x (rows b.count c)) (hw ∙ ap (λ x. applied x d.quantity.0 d.price) held-is)
 
-    -- the position that stands then, flat where none was taken in
-    stands-as : held (holding o.symbol.0 (rows m c')) ≡ pick (stands_in f b.count m) (held w) (pos 0)
-    stands-as =
-        ap (λ k. held (holding k (rows m c'))) (sym symbol-is)
-        ∙ ap (λ l. held (holding (key_of w) l)) puts.same
-        ∙ ap held (posted-holds b.count c f w s (found-is ∙ ap (λ k. found k (take b.count c.symbol)) (sym symbol-is)))
-        ∙ ap (λ k. held (pick (stands_in f b.count k) w (fresh (key_of w)))) (sym (ap (λ (x : CountedCols). x.count) hn))
-        ∙ go (stands_in f b.count m)
-      where
-        go : (x : Bool) → held (pick x w (fresh (key_of w))) ≡ pick x (held w) (pos 0)
-        go true = refl
-        go false = refl
-
-    pub one_filled : r.book ≡ settled_in d.cash_after m n t.recording h (counted_in d b) → r.recorded ≡ t.recording → Fills t o b c r c'
+    pub one_filled : r.book ≡ settled_in d.cash_after m t.recording h (counted_in d b) → r.recorded ≡ t.recording → Fills t o b c r c'
     unfolding settled_in counted_in counted_by settled_by sequence_after
     one_filled hb hr =
         let y : is_zero (deal_of t o b.cash).quantity.0 ≡ false = ap (λ x. is_zero x.quantity.0) (sym e) ∙ z in
@@ -195,10 +168,4 @@ module _ (t : Terms) (o : Order) (b : Book) (c : Cols) (d : Deal) (e : d ≡ dea
           written = ap (λ x. x.written) hb;
           recorded = hr ∙ sym (ap (λ x. pick x false t.recording) y);
           made = record_is;
-          opens =
-              ap (λ x. x.open_count) hb
-              ∙ ho
-              ∙ ap (λ x. moved_by b.open_count (held x) (pick (stands_in f b.count m) (held w) (pos 0))) held-is
-              ∙ ap (moved_by b.open_count (held (holding o.symbol.0 (rows b.count c)))) (sym stands-as)
-              ∙ ap (λ k. moved_by b.open_count (held (holding o.symbol.0 (rows b.count c))) (held (holding o.symbol.0 (rows k c')))) (sym (ap (λ x. x.count) hb));
         }

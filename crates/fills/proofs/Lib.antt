@@ -5,5 +5,4 @@ pub mod Filling
 pub mod Running
 pub mod Cash
 pub mod Soundness
-pub mod Opens
 pub mod Fronts

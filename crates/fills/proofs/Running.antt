@@ -9,7 +9,7 @@ use lib.IntN.{ℤ, pos}
 use lib.ListN.{length, take, drop, get_or, length-take, drop_of_length-le}
 use lib.Seq.{drop-cons, get_or-take, length-sets}
 use Rattle.table.specs.Keyed.{pick}
-use Rattle.table.specs.Rows.{zip2, give, Cols, rows, open_of}
+use Rattle.table.specs.Rows.{zip2, give, Cols}
 use Rattle.table.specs.Inner.Rows.{Ordered}
 use Rattle.table.proofs.Columns.{zip_length, zip_get_d}
 use Rattle.fills.specs.declared.fill.Filled.{Filled}
@@ -21,7 +21,6 @@ use Rattle.fills.specs.Records.{words_of_record, ints_of_record, Buffers, buffer
 use Rattle.fills.specs.Fill.{fill_all}
 use Rattle.fills.specs.Orders.{order}
 use Rattle.fills.specs.Inner.Runs.{orders, state, kept_in, records_of, Fills, Runs, Given}
-use Rattle.fills.proofs.Opens.{fill_counts}
 
 -- ---- records in the lent slices
 pub stored-append : (rs qs : List ExecutionRecord) (l : Buffers) → stored_all (rs ++ qs) l ≡ stored_all qs (stored_all rs l)
@@ -83,7 +82,6 @@ pub record Running (t : Terms) (os : List Order) (b₀ : Book) (c₀ : Cols) (l�
   pub ordered : Ordered b.count c
   pub same : fill_all t (drop k os) (state b c made) ≡ fill_all t os (state b₀ c₀ [])
   pub kept : l ≡ stored_all made l₀
-  pub opens : b₀.open_count ≡ open_of (rows b₀.count c₀) → b.open_count ≡ open_of (rows b.count c)
 
 -- of any columns, the lengths of the slices; of given ones, the run
 pub record Going (t : Terms) (m : ℕ) (os : List ℕ) (oq op : List ℤ) (b₀ : Book) (c₀ : Cols) (l₀ : Buffers) (b : Book) (c : Cols) (l : Buffers) (k : ℕ) : Type 0 where
@@ -93,7 +91,7 @@ pub record Going (t : Terms) (m : ℕ) (os : List ℕ) (oq op : List ℤ) (b₀ 
 module _ (t : Terms) (m : ℕ) (os : List ℕ) (oq op : List ℤ) (b₀ : Book) (c₀ : Cols) (l₀ : Buffers) where
   pub going_first : Going t m os oq op b₀ c₀ l₀ b₀ c₀ l₀ 0
   unfolding stored_all
-  going_first = record { long = record { words = refl; ints = refl }; run = λ g. record { made = []; ordered = g.ordered; same = refl; kept = refl; opens = λ e. e } }
+  going_first = record { long = record { words = refl; ints = refl }; run = λ g. record { made = []; ordered = g.ordered; same = refl; kept = refl } }
 
   module _ (b : Book) (c : Cols) (ws : List ℕ) (is : List ℤ) (k : ℕ) (h : Going t m os oq op b₀ c₀ l₀ b c (buffers ws is b.written) k) where
     pub going_on : (f : Filled) (r : Book) (c' : Cols) (ws' : List ℕ) (is' : List ℤ) → k < min m 64
@@ -122,10 +120,6 @@ module _ (t : Terms) (m : ℕ) (os : List ℕ) (oq op : List ℤ) (b₀ : Book) 
                     ∙ ap (λ x. stored_all (records_of f) (buffers ws is x)) d.written
                     ∙ ap (stored_all (records_of f)) w.kept
                     ∙ sym (stored-append w.made (records_of f) l₀);
-                opens = λ e.
-                    ap (λ x. x.open_count) hr
-                    ∙ fill_counts t (order (get_or os k 0) (get_or oq k (pos 0)) (get_or op k (pos 0))) b c f c' w.ordered d (w.opens e)
-                    ∙ ap (λ (x : Book). open_of (rows x.count c')) (sym hr);
               };
         }
 
@@ -140,5 +134,4 @@ module _ (t : Terms) (m : ℕ) (os : List ℕ) (oq op : List ℤ) (b₀ : Book) 
           ordered = w.ordered;
           done = ap (state b c) (sym g) ∙ e;
           kept = w.kept ∙ ap (λ x. stored_all x l₀) g;
-          opens = w.opens;
         }

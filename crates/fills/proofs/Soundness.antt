@@ -84,7 +84,7 @@ fills-keep-sound t good (o ∷ os) l s h = fills-keep-sound t good os l.1 (fill 
 
 -- ---- "Symbols with no fill keep their positions to the last field"
 module _ (t : Terms) (o : Order) where
-  pub made-symbol : (q : ℤ) (ps : List Position) → key_of (made t o q (seek key_of o.symbol.0 ps)) ≡ o.symbol.0
+  made-symbol : (q : ℤ) (ps : List Position) → key_of (made t o q (seek key_of o.symbol.0 ps)) ≡ o.symbol.0
   unfolding made
   made-symbol q ps = applied_keeps_symbol (or_else (fresh o.symbol.0) (seek key_of o.symbol.0 ps)) q (paid t o) ∙ go (seek key_of o.symbol.0 ps) refl
     where

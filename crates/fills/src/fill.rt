@@ -1,12 +1,10 @@
 // Filling orders on lent columns.
-ghost use Rattle.std.specs.Prelude.{◌≡◌, ◌<◌, ◌-◌, pos, get_or};
-ghost use Rattle.position.specs.Rows.{shares};
-ghost use Rattle.table.specs.Keyed.{pick};
+ghost use Rattle.std.specs.Prelude.{◌≡◌, ◌<◌, pos, get_or};
 ghost use Rattle.table.specs.Rows.{cols};
-ghost use Rattle.table.specs.Inner.Rows.{Ordered, stands_in};
+ghost use Rattle.table.specs.Inner.Rows.{Ordered};
 ghost use Rattle.fills.specs.Orders.{order, next_count};
 ghost use Rattle.fills.specs.Records.{buffers, stored_all};
-ghost use Rattle.fills.specs.Inner.Runs.{orders, sequence_after, moved_by, settled_in, counted_in, records_of, kept_in, Fills, Given, Runs};
+ghost use Rattle.fills.specs.Inner.Runs.{orders, sequence_after, settled_in, counted_in, records_of, kept_in, Fills, Given, Runs};
 
 use crate::deal::{Deal, deal_of};
 use crate::record::{ExecutionRecord, record_of, store};
@@ -27,13 +25,6 @@ fn next_count(n: u64) -> u64
     ensures { result ≡ next_count n }
 {
     if n < 0xffff_ffff_ffff_ffff { n + 1 } else { n }
-}
-
-// One less, and 0 at 0.
-fn last_count(n: u64) -> u64
-    ensures { result ≡ n - 1 }
-{
-    if 0 < n { n - 1 } else { 0 }
 }
 
 // "The trimmed count and the lost notional rise even when nothing remains."
@@ -59,59 +50,18 @@ fn sequence_after(n: u64, recording: bool) -> u64
     if recording { next_count(n) } else { n }
 }
 
-// The scalars after a fill that leaves this cash, this count of positions and this count of open ones.
-fn settled_in(
-    b: Book,
-    cash: i64,
-    count: usize,
-    open_count: u64,
-    recorded: bool,
-    hint: usize,
-) -> Book
-    ensures { result ≡ settled_in cash count open_count recorded hint b }
+// The scalars after a fill that leaves this cash and this count of positions.
+fn settled_in(b: Book, cash: i64, count: usize, recorded: bool, hint: usize) -> Book
+    ensures { result ≡ settled_in cash count recorded hint b }
 {
     let sequence = sequence_after(b.sequence, recorded);
     Book {
         cash,
         count,
-        open_count,
         sequence,
         hint,
         ..b
     }
-}
-
-// The quantity that stands at a symbol after its position was posted: none where a full table took in no new symbol.
-fn standing(f: Found, before: usize, after: usize, quantity: Shares) -> Shares
-    ensures { result ≡ shares (pick (stands_in f before after) quantity.0 (pos 0)) }
-{
-    match f {
-        Found::At(_) => quantity,
-        Found::Absent(_) => {
-            if before < after {
-                quantity
-            } else {
-                Shares::ZERO
-            }
-        }
-    }
-}
-
-// The count of open positions after one of them goes from a quantity to another: one more where it was flat and is open, one
-// less where it was open and is flat.
-fn moved(open_count: u64, before: Shares, after: Shares) -> u64
-    ensures { result ≡ moved_by open_count before.0 after.0 }
-{
-    if before.is_zero() {
-        if after.is_zero() {
-            return open_count;
-        }
-        return next_count(open_count);
-    }
-    if after.is_zero() {
-        return last_count(open_count);
-    }
-    open_count
 }
 
 // The place after the one that was found: where the next symbol is looked for first.
@@ -152,9 +102,8 @@ pub fn fill_one(
     let p = table::held(symbol, quantity, average, realized, total, f, o.symbol.0);
     let z = p.fill(d.quantity, d.price);
     let count = table::post(symbol, quantity, average, realized, total, n, f, z);
-    let open_count = moved(b.open_count, p.quantity, standing(f, n, count, z.quantity));
     let recorded = t.recording;
-    let book = settled_in(c, d.cash_after, count, open_count, recorded, place_after(f));
+    let book = settled_in(c, d.cash_after, count, recorded, place_after(f));
     Filled {
         book,
         recorded,

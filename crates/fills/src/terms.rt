@@ -26,8 +26,6 @@ pub struct Terms {
 pub struct Book {
     pub cash: i64,
     pub count: usize,
-    // How many of the positions are open.
-    pub open_count: u64,
     pub trimmed: u64,
     pub shortfall: i64,
     pub sequence: u64,

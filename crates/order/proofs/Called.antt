@@ -14,14 +14,14 @@ use Rattle.position.specs.Fills.{sound_numbers, sound, applied, same_side, close
 use Rattle.cost_model.specs.Costs.{model, zero, cost, commission, at_least, uncapped, at_most, slippage_factor, slipped, effective, good_rate, good_ceiling, good_costs}
 use Rattle.sizing.specs.Sizing.{above, drift}
 use Rattle.sizing.specs.Cash.{cash_taken, cash_change}
-use Rattle.table.specs.Rows.{zipped, unused, ordered, open_among}
+use Rattle.table.specs.Rows.{zipped, unused, ordered}
 use Rattle.fills.specs.declared.record.ExecutionKind.TheVariants.{Rebalance}
 use Rattle.fills.specs.Orders.{paid}
 use Rattle.fills.specs.Records.{record_of}
 use Rattle.fills.specs.Fill.{fills_whole, made, settled, fill, fill_all}
 use Rattle.account.specs.Settings.{of_costs, opening_settings, with_recording, with_cash_first, good_rules, good_settings}
 use Rattle.account.specs.Account.{sound_account, sound_scalars, sound_columns, sound_places, table_of}
-use Rattle.account.specs.Calls.{counted_open, zero_account}
+use Rattle.account.specs.Calls.{zero_account}
 use Rattle.call_lists.specs.Lists.{among, all_good, distinct, all_priced, price_of}
 use Rattle.call_lists.specs.Checks.{short_enough, lists_answer}
 use Rattle.wanted.specs.Plan.{within_band, under_maximum, limited, allowed_order, planned_close, closing, closings, targetings, wanted}
@@ -48,7 +48,7 @@ case = record {
   account = record {
     cash = pos 0;
     settings = with_cash_first true (with_recording true (opening_settings (of_costs (model zero zero (pos 15))) (pos 1000000)));
-    counters = counted_open 2;
+    counters = zero_account.counters;
     series = zero_account.series;
     positions = table_of (row A (pos 1000000) (pos 10) (pos 0) (pos 10) ∷ row B (pos 1000000) (pos 25) (pos 0) (pos 25) ∷ []);
   };
@@ -62,7 +62,7 @@ case = record {
 }
 
 pub asked : InCashFirst case
-unfolding total cash_raised above admitted_plan rebalance_answer has_room_of not_held sound_account open_among sound_scalars sound_columns sound_places table_of good_rules good_settings good_ceiling good_costs good_rate zipped unused ordered good_symbol bytes_from leading padded sound_numbers sound short_enough lists_answer among all_good distinct all_finite all_priced price_of worth_from equity_of plan_of wanted closings closing planned_close allowed_order within_band under_maximum limited targetings drift capped insert_by added added_all admitted_from admitted cash_change cash_taken cost commission at_least uncapped at_most effective slipped slippage_factor value notional clamp64 sat_add sat_sub sat_neg sat_abs round_away add mul div lt le of_int to_signed is_zero
+unfolding total cash_raised above admitted_plan rebalance_answer has_room_of not_held sound_account sound_scalars sound_columns sound_places table_of good_rules good_settings good_ceiling good_costs good_rate zipped unused ordered good_symbol bytes_from leading padded sound_numbers sound short_enough lists_answer among all_good distinct all_finite all_priced price_of worth_from equity_of plan_of wanted closings closing planned_close allowed_order within_band under_maximum limited targetings drift capped insert_by added added_all admitted_from admitted cash_change cash_taken cost commission at_least uncapped at_most effective slipped slippage_factor value notional clamp64 sat_add sat_sub sat_neg sat_abs round_away add mul div lt le of_int to_signed is_zero
 asked = record {
   columns = record { symbol = refl; quantity = refl; average = refl; realized = refl; total = refl };
   mode = refl;

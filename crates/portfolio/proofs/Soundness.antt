@@ -1,7 +1,7 @@
 -- A call on a sound account leaves it sound, done or refused.
 -- Numbers of the code fit 64 bits, and a table's columns have 64 places; the laws take both as given.
 use Prim.Native.Nat.{ℕ}
-use mathlib.Core.Path.{◌≡◌, refl}
+use mathlib.Core.Path.{◌≡◌}
 use mathlib.Core.Bool.{true, false}
 use mathlib.Core.List.{List, [], ◌∷◌, map}
 use native.Mathlib.Omega.{arith}
@@ -93,7 +93,7 @@ module _ (a : Account) (f : Full (columns_of a.positions)) (e : sound_account a 
 
   after-sound : (s : State) (n : ℕ) (v : ℤ) → Sound s → sound_account (account_after a s n v) ≡ true
   unfolding account_after
-  after-sound s n v h = parts_account (account_after a s n v) h.cash (account-settings a e) (table-sound s.held h.room (rising_ascends (map key_of s.held) h.rising) h.positions) refl
+  after-sound s n v h = parts_account (account_after a s n v) h.cash (account-settings a e) (table-sound s.held h.room (rising_ascends (map key_of s.held) h.rising) h.positions)
 
   run_sound : (os : List Order) (period : ℕ) (kind : ExecutionKind) → AllListed os → Sound (fill_all (terms_of a period kind) os (state_of a))
   run_sound os period kind l = fills-keep-sound (terms_of a period kind) (account-costs a e) os l (state_of a) state-sound

@@ -9,8 +9,7 @@ use lib.ListN.{length, length-take, set, replicate}
 use lib.IntN.{ℤ, pos}
 use borrow.Author.Tests.{leb-true}
 use Rattle.answer.specs.declared.Answer.TheVariants.{Done}
-use Rattle.table.specs.Rows.{Cols, rows, holding, open_of}
-use Rattle.table.proofs.Opens.{open_rows}
+use Rattle.table.specs.Rows.{Cols, holding}
 use Rattle.fills.specs.declared.terms.Book.{Book}
 use Rattle.fills.specs.declared.terms.Order.{Order}
 use Rattle.fills.specs.declared.record.ExecutionKind.{ExecutionKind}
@@ -22,9 +21,9 @@ use Rattle.fills.specs.Fill.{fill_all}
 use Rattle.fills.proofs.Fronts.{run_fronts, unrecorded, unrecorded-run}
 use Rattle.account.specs.declared.account.Account.{Account}
 use Rattle.account.specs.declared.account.Ledger.{Ledger}
-use Rattle.account.specs.Account.{held_in, open_in}
+use Rattle.account.specs.Account.{held_in}
 use Rattle.account.specs.Inner.Account.{account_with}
-use Rattle.account.proofs.SoundAccounts.{with_counters, with_positions}
+use Rattle.account.proofs.SoundAccounts.{with_positions}
 use Rattle.account.proofs.Tables.{ordered-table}
 use Rattle.portfolio.specs.Answers.{is_done, record_places, has_room_of, close_answer}
 use Rattle.portfolio.specs.Rebalance.{Outcome, terms_by, terms_of, state_of, account_after}
@@ -43,24 +42,12 @@ room-recorded m w i e =
     let h : m ≤ min (w / 4) (i / 8) = leb-true _ _ e in
     (omega arith, omega arith)
 
--- the same account with another count of open positions
-abbrev with_open : ℕ → Account → Account
-with_open n a = let k = a.counters in with_counters (record {
-  last_rebalance_order_count = k.last_rebalance_order_count;
-  last_rebalance_notional = k.last_rebalance_notional;
-  trimmed_fill_count = k.trimmed_fill_count;
-  trimmed_shortfall_cents = k.trimmed_shortfall_cents;
-  record_count = k.record_count;
-  open_count = n;
-}) a
-
 abbrev pub filing : Account → Buffers → Filed
 filing x b = record { answer = Done; account = x; records = b.written; words = b.words; ints = b.ints }
 
 module _ (h : Ledger) (c : Cols) (os : List Order) (period : ℕ) (kind : ExecutionKind) (ws : List ℕ) (is : List ℤ) (r : Book) (d : Cols) (ws' : List ℕ) (is' : List ℤ)
     (m : ℕ) (few : length os ≤ m) (room : has_room_of (account_with h c) m (record_places (length ws) (length is)) ≡ true)
-    (g : Runs (terms_by h.settings period kind) os (book_of_ledger h) c (buffers ws is 0) r d (buffers ws' is' r.written))
-    (counts : h.counters.open_count ≡ open_of (rows h.count c)) where
+    (g : Runs (terms_by h.settings period kind) os (book_of_ledger h) c (buffers ws is 0) r d (buffers ws' is' r.written)) where
   abbrev a : Account
   a = account_with h c
 
@@ -87,10 +74,7 @@ module _ (h : Ledger) (c : Cols) (os : List Order) (period : ℕ) (kind : Execut
 
   account-put : (n : ℕ) (traded : ℤ) → account_with (ledger_from h r n traded) d ≡ account_after a (state_after a os period kind) n traded
   unfolding account_after
-  account-put n traded =
-      ap (λ k. with_open k (account_with (ledger_from h r n traded) d)) (g.opens counts ∙ open_rows r.count d g.ordered.full)
-      ∙ ap (λ t. with_open (open_in t) (with_positions t (account_with (ledger_from h r n traded) d))) (sym (ordered-table r.count d g.ordered))
-      ∙ ap (λ s. account_after a s n traded) g.done
+  account-put n traded = ap (λ t. with_positions t (account_with (ledger_from h r n traded) d)) (sym (ordered-table r.count d g.ordered)) ∙ ap (λ s. account_after a s n traded) g.done
 
   pub run-filed : (n : ℕ) (traded : ℤ) → filing (account_with (ledger_from h r n traded) d) (buffers ws' is' r.written) ≡ filed (after_orders a os period kind n traded) ws is
   run-filed n traded = ap (λ x. filing x (buffers ws' is' r.written)) (account-put n traded) ∙ ap (filing (account_after a (state_after a os period kind) n traded)) records-filed

@@ -13,7 +13,7 @@ use Rattle.fills.specs.Orders.{State}
 use Rattle.fills.specs.Fill.{fill_all}
 use Rattle.account.specs.declared.account.Account.{Account}
 use Rattle.account.specs.declared.settings.Settings.{Settings}
-use Rattle.account.specs.Account.{held_in, table_of, open_in}
+use Rattle.account.specs.Account.{held_in, table_of}
 use Rattle.wanted.specs.declared.planned.PlannedOrder.{PlannedOrder}
 use Rattle.wanted.specs.Equity.{equity_of}
 use Rattle.admission.specs.Running.{plan_of, in_running_order, notional_from}
@@ -43,7 +43,7 @@ state_of a = record {
   records = [];
 }
 
--- the account after fills, with the two last-rebalance figures; document 02, 7: "keep it true through opening, fills, closing and loading"
+-- the account after fills, with the two last-rebalance figures
 unfoldable pub account_after : Account → State → ℕ → ℤ → Account
 account_after a s orders traded = record {
   cash = s.cash;
@@ -54,7 +54,6 @@ account_after a s orders traded = record {
     trimmed_fill_count = s.trimmed;
     trimmed_shortfall_cents = s.shortfall;
     record_count = s.sequence;
-    open_count = open_in (table_of s.held);
   };
   series = a.series;
   positions = table_of s.held;

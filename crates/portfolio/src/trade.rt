@@ -121,7 +121,6 @@ fn book_of(h: Ledger) -> Book
     Book {
         cash: h.cash,
         count: h.count,
-        open_count: h.counters.open_count,
         trimmed: h.counters.trimmed_fill_count,
         shortfall: h.counters.trimmed_shortfall_cents,
         sequence: h.counters.record_count,
@@ -142,7 +141,6 @@ fn put_together(h: Ledger, b: Book, orders: u64, traded: i64) -> Ledger
         trimmed_fill_count: b.trimmed,
         trimmed_shortfall_cents: b.shortfall,
         record_count: b.sequence,
-        open_count: b.open_count,
     };
     Ledger {
         cash: b.cash,

@@ -1,37 +1,30 @@
 -- A snapshot put together from the walks over an account, and the weights that it has.
-use Prim.Native.Nat.{ℕ, ◌+◌}
+use Prim.Native.Nat.{ℕ}
 use mathlib.Core.Path.{◌≡◌, refl, ap, ◌∙◌}
 use mathlib.Core.Bool.{Bool, true, false}
-use mathlib.Core.List.{List, [], ◌∷◌}
-use native.Mathlib.Omega.{arith}
+use mathlib.Core.List.{List, []}
 use lib.IntN.{ℤ, pos}
-use lib.ListN.{length}
 use Rattle.answer.specs.declared.Answer.TheVariants.{Done}
 use Rattle.sums.specs.Sums.{sat_add}
-use Rattle.position.specs.declared.position.Position.{Position}
 use Rattle.table.specs.Keyed.{pick}
-use Rattle.table.specs.Rows.{is_zero, columns_of, open_among, open_of, Full}
 use Rattle.call_lists.specs.Lists.{price_of}
 use Rattle.account.specs.declared.account.Account.{Account}
 use Rattle.account.specs.Account.{held_in}
-use Rattle.account.proofs.SoundAccounts.{account_open}
 use Rattle.wanted.specs.Equity.{equity_of}
 use Rattle.portfolio.specs.Answers.{is_done, query_answer}
 use Rattle.portfolio.specs.Queries.{answered_cents, told_equity}
-use Rattle.portfolio.proofs.Refusals.{query_done}
 use Rattle.queries.specs.declared.answered.Weighed.{Weighed}
 use Rattle.queries.specs.declared.answered.Snapshot.{Snapshot}
 use Rattle.queries.specs.declared.sum.Sums.{Sums}
-use Rattle.queries.specs.Queries.{open_ones}
 use Rattle.queries.specs.Answers.{weighed, snapshot_of, no_snapshot, told_snapshot, answered_weights, weights_now, told_weights}
 use Rattle.queries.specs.Inner.Places.{PositionPrices, AddsUp, WeighsAt}
 
-abbrev pub snapshot_by : ℤ → ℕ → Sums → ℤ → Weighed → Snapshot
-snapshot_by cash opens r equity w = record {
+abbrev pub snapshot_by : ℤ → Sums → ℤ → Weighed → Snapshot
+snapshot_by cash r equity w = record {
   answer = Done;
   cash = cash;
   equity = equity;
-  num_positions = opens;
+  num_positions = r.open_count;
   total_realized_pnl = r.profit;
   weights = w;
 }
@@ -41,25 +34,9 @@ module _ (price : ℕ → ℤ) (a : Account) (ls : List ℤ) (listed : PositionP
   unfolding equity_of
   is_equity = e ∙ ap (sat_add a.cash) (sums.worth price listed)
 
-  pub snapshot-made : snapshot_by a.cash a.counters.open_count r equity w ≡ snapshot_of price a
+  pub snapshot-made : snapshot_by a.cash r equity w ≡ snapshot_of price a
   unfolding snapshot_of
-  snapshot-made = simp (sums.profit, weights.settled price listed, is_equity)
-
--- ---- document 02, 7: the count that is told is that of a walk over the positions
-open_ones_lem : (ps : List Position) → open_of ps ≡ length (open_ones ps)
-unfolding open_among open_ones
-open_ones_lem [] = refl
-open_ones_lem (p ∷ ps) = go (is_zero p.quantity.0) (open_ones_lem ps)
-  where
-    go : (z : Bool) → open_of ps ≡ length (open_ones ps) → pick z 0 1 + open_of ps ≡ length (pick z (open_ones ps) (p ∷ open_ones ps))
-    go true ih = omega (arith, ih)
-    go false ih = omega (arith, ih)
-
--- wherever it is told at all; the columns of every account in the code have 64 places
-pub snapshot_counts : (a : Account) → Full (columns_of a.positions) → (ps : List ℕ) (vs : List ℤ) → is_done (query_answer a ps vs) ≡ true
-    → (told_snapshot a ps vs).num_positions ≡ length (open_ones (held_in a.positions))
-unfolding told_snapshot snapshot_of
-snapshot_counts a f ps vs d = rw d (account_open a (query_done a ps vs d).sound f ∙ open_ones_lem (held_in a.positions))
+  snapshot-made = simp (sums.opens, sums.profit, weights.settled price listed, is_equity)
 
 -- the weights of a snapshot are the weights alone
 pub weights-told : (a : Account) (ps : List ℕ) (vs : List ℤ) → answered_weights (told_snapshot a ps vs).answer (told_snapshot a ps vs).weights ≡ told_weights a ps vs

@@ -19,7 +19,7 @@ use Rattle.table.specs.Inner.Rows.{Ordered}
 use Rattle.call_lists.proofs.Lists.{from_place, from_end}
 use Rattle.account.proofs.Columns.{rows-length, row_of}
 use Rattle.wanted.specs.Equity.{worth, worth_from}
-use Rattle.queries.specs.Queries.{unpriced, first_unpriced, profit_from}
+use Rattle.queries.specs.Queries.{open_ones, unpriced, first_unpriced, profit_from}
 use Rattle.queries.specs.Inner.Places.{PricesOf, PositionPrices}
 
 -- ---- the position at place i, and those after it
@@ -31,6 +31,14 @@ module _ (ps : List Position) (i : ℕ) (h : i < length ps) where
   pub profit_at : (sum : ℤ) → profit_from sum (drop i ps) ≡ profit_from (sat_add sum (get_or ps i (fresh 0)).realized_pnl) (drop (i + 1) ps)
   unfolding profit_from
   profit_at sum = from_place (profit_from sum) ps i (fresh 0) h
+
+  pub open_at : length (open_ones (drop i ps)) ≡ pick (is_zero (get_or ps i (fresh 0)).quantity.0) 0 1 + length (open_ones (drop (i + 1) ps))
+  unfolding open_ones
+  open_at = from_place (λ l. length (open_ones l)) ps i (fresh 0) h ∙ go (is_zero (get_or ps i (fresh 0)).quantity.0)
+    where
+      go : (z : Bool) → length (pick z (open_ones (drop (i + 1) ps)) (get_or ps i (fresh 0) ∷ open_ones (drop (i + 1) ps))) ≡ pick z 0 1 + length (open_ones (drop (i + 1) ps))
+      go true = omega arith
+      go false = omega arith
 
   pub first_at : (price : ℕ → ℤ) → let p = get_or ps i (fresh 0) in
       first_unpriced price (drop i ps) ≡ pick (unpriced p.quantity.0 (price (key_of p))) (some (key_of p)) (first_unpriced price (drop (i + 1) ps))
@@ -45,6 +53,9 @@ module _ (ps : List Position) (ls : List ℤ) (i : ℕ) (h : i < length ps) (p :
   pub profit_on : (sum : ℤ) → profit_from (sat_add sum p.realized_pnl) (drop (i + 1) ps) ≡ profit_from sum (drop i ps)
   profit_on sum = rw e (sym (profit_at ps i h sum))
 
+  pub open_on : pick (is_zero p.quantity.0) 0 1 + length (open_ones (drop (i + 1) ps)) ≡ length (open_ones (drop i ps))
+  open_on = rw e (sym (open_at ps i h))
+
   same_test : (price : ℕ → ℤ) → PositionPrices price ps ls → let q = get_or ps i (fresh 0) in unpriced q.quantity.0 (price (key_of q)) ≡ unpriced p.quantity.0 (get_or ls i (pos 0))
   same_test price listed = ap (unpriced (get_or ps i (fresh 0)).quantity.0) (sym (listed i h)) ∙ ap (λ q. unpriced q.quantity.0 (get_or ls i (pos 0))) (sym e)
 
@@ -53,6 +64,10 @@ module _ (ps : List Position) (ls : List ℤ) (i : ℕ) (h : i < length ps) (p :
 
   pub first_passed : (price : ℕ → ℤ) → PositionPrices price ps ls → unpriced p.quantity.0 (get_or ls i (pos 0)) ≡ false → first_unpriced price (drop (i + 1) ps) ≡ first_unpriced price (drop i ps)
   first_passed price listed t = sym (first_at ps i h price ∙ rw (same_test price listed ∙ t))
+
+pub one-most : (z : Bool) → pick z 0 1 ≤ 1
+one-most true = omega arith
+one-most false = omega arith
 
 -- ---- after the last
 module _ (ps : List Position) (i : ℕ) (h : length ps ≤ i) where
@@ -63,6 +78,10 @@ module _ (ps : List Position) (i : ℕ) (h : length ps ≤ i) where
   pub profit-end : (sum : ℤ) → profit_from sum (drop i ps) ≡ sum
   unfolding profit_from
   profit-end sum = from_end (profit_from sum) ps i h
+
+  pub open_end : length (open_ones (drop i ps)) ≡ 0
+  unfolding open_ones
+  open_end = from_end (λ l. length (open_ones l)) ps i h
 
   pub first-end : (price : ℕ → ℤ) → first_unpriced price (drop i ps) ≡ none
   unfolding first_unpriced

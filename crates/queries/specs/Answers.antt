@@ -25,7 +25,7 @@ weighed l = record {
   weight = padded_column 64 zero (map (λ (w : Weight). w.weight) l);
 }
 
--- ---- a snapshot; document 02, 7: the count of open positions is the one that the account stores
+-- ---- a snapshot
 unfoldable pub snapshot_of : (ℕ → ℤ) → Account → Snapshot
 snapshot_of price a =
     let held = held_in a.positions in
@@ -34,7 +34,7 @@ snapshot_of price a =
       answer = Done;
       cash = a.cash;
       equity = equity;
-      num_positions = a.counters.open_count;
+      num_positions = length (open_ones held);
       total_realized_pnl = profit_from (pos 0) held;
       weights = weighed (weights_of price equity held);
     }

@@ -45,7 +45,7 @@ fn snapshot_of(a: Account, symbols: &[u64], prices: &[i64]) -> Snapshot
         answer: Answer::Done,
         cash: a.cash,
         equity,
-        num_positions: a.counters.open_count,
+        num_positions: sums.open_count,
         total_realized_pnl: sums.profit,
         weights,
     }

@@ -99,12 +99,6 @@ fn settings_of(told: &[u8], opened: Settings) -> Settings {
     }
 }
 
-// How many of the told positions are open: the Rust keeps no such number beside them.
-fn open_count_of(told: &[u8]) -> u64 {
-    let quantity = numbers_of(told, 22);
-    table::count_open(&quantity[..], 64)
-}
-
 fn counters_of(told: &[u8], opened: Counters) -> Counters {
     Counters {
         last_rebalance_order_count: word_at(told, ORDER_COUNT_AT),
@@ -112,7 +106,6 @@ fn counters_of(told: &[u8], opened: Counters) -> Counters {
         trimmed_fill_count: word_at(told, TRIMMED_COUNT_AT),
         trimmed_shortfall_cents: number(told, SHORTFALL_AT),
         record_count: word_at(told, RECORD_COUNT_AT),
-        open_count: open_count_of(told),
         ..opened
     }
 }
@@ -222,7 +215,6 @@ fn same_counts(told: &[u8], k: Counters, s: Series) -> bool {
         && word_at(told, TRIMMED_COUNT_AT) == k.trimmed_fill_count
         && word_at(told, SHORTFALL_AT) == unsigned(k.trimmed_shortfall_cents)
         && word_at(told, RECORD_COUNT_AT) == k.record_count
-        && open_count_of(told) == k.open_count
         && word_at(told, EQUITY_COUNT_AT) == s.equity_count
         && word_at(told, RETURN_COUNT_AT) == s.return_count
         && word_at(told, PREV_EQUITY_AT) == unsigned(s.prev_equity)

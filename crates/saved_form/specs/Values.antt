@@ -8,7 +8,6 @@ use Rattle.account.specs.declared.account.Ledger.{Ledger}
 use Rattle.account.specs.declared.account.Counters.{Counters}
 use Rattle.account.specs.declared.account.Series.{Series}
 use Rattle.account.specs.declared.settings.Settings.{Settings}
-use Rattle.account.specs.Account.{open_in}
 use Rattle.account.specs.Settings.{settings, of_costs}
 use Rattle.account.specs.Calls.{series}
 use Rattle.account_bytes.specs.Settings.{costs_of, cap_mark, cap_count, cap_of, flag_word, flag_of}
@@ -80,19 +79,18 @@ settings_of vs =
     (flag_of (get_or vs 12 0))
     (flag_of (get_or vs 13 0))
 
-unfoldable pub counters_of : List ℕ → ℕ → Counters
-counters_of vs opens = record {
+unfoldable pub counters_of : List ℕ → Counters
+counters_of vs = record {
   last_rebalance_order_count = get_or vs 14 0;
   last_rebalance_notional = number_in vs 15;
   trimmed_fill_count = get_or vs 16 0;
   trimmed_shortfall_cents = number_in vs 17;
   record_count = get_or vs 18 0;
-  open_count = opens;
 }
 
 unfoldable pub series_of : List ℕ → Series
 series_of vs = series (get_or vs 19 0) (get_or vs 20 0) (number_in vs 21)
 
--- the account of numbers and a table of positions; document 02, 7: the count of open positions "isn't written to the saved file; loading works it out"
+-- the account of numbers and a table of positions
 unfoldable pub account_of : List ℕ → Table → Account
-account_of vs t = record { cash = number_in vs 0; settings = settings_of vs; counters = counters_of vs (open_in t); series = series_of vs; positions = t }
+account_of vs t = record { cash = number_in vs 0; settings = settings_of vs; counters = counters_of vs; series = series_of vs; positions = t }

@@ -7,7 +7,7 @@ use account::{Account, Counters, Ledger, Rules, Series, Settings};
 use account_bytes::{cap_count, cap_mark, cap_of, flag_word};
 use cost_model::CostModel;
 use seven_bit::{folded, unfolded};
-use table::{Table, count_open};
+use table::Table;
 use word_bytes::{float, pattern};
 
 // "Floating zero settings are written with positive sign."
@@ -77,8 +77,8 @@ fn settings_of(v: [u64; HEAD_FIELDS]) -> Settings
     }
 }
 
-fn counters_of(v: [u64; HEAD_FIELDS], open_count: u64) -> Counters
-    ensures { result ≡ counters_of v open_count }
+fn counters_of(v: [u64; HEAD_FIELDS]) -> Counters
+    ensures { result ≡ counters_of v }
 {
     Counters {
         last_rebalance_order_count: v[14],
@@ -86,7 +86,6 @@ fn counters_of(v: [u64; HEAD_FIELDS], open_count: u64) -> Counters
         trimmed_fill_count: v[16],
         trimmed_shortfall_cents: unfolded(v[17]),
         record_count: v[18],
-        open_count,
     }
 }
 
@@ -100,20 +99,18 @@ fn series_of(v: [u64; HEAD_FIELDS]) -> Series
     }
 }
 
-// The account of the numbers before its positions, and of these. The count of those that are open "isn't written to the saved file; loading works it out".
+// The account of the numbers before its positions, and of these.
 pub fn account_of(v: [u64; HEAD_FIELDS], positions: Table) -> Account
     ensures { result ≡ account_of v positions }
 {
     let settings = settings_of(v);
-    let counters = counters_of(v, 0);
+    let counters = counters_of(v);
     let series = series_of(v);
-    let mut a = Account {
+    Account {
         cash: unfolded(v[0]),
         settings,
         counters,
         series,
         positions,
-    };
-    a.counters.open_count = count_open(&a.positions.quantity[..], a.positions.count);
-    a
+    }
 }

@@ -8,7 +8,7 @@ use Rattle.seven_bit.specs.Placed.{told}
 use Rattle.position.specs.Symbols.{bytes_from, leading, padded, good_symbol}
 use Rattle.position.specs.Shares.{is_zero}
 use Rattle.position.specs.Fills.{sound_numbers, sound}
-use Rattle.table.specs.Rows.{unused, ordered, open_among}
+use Rattle.table.specs.Rows.{unused, ordered}
 use lib.Ieee.{of_bits, lt, eq, le}
 use Rattle.cost_model.specs.Costs.{good_rate, good_ceiling, good_costs}
 use Rattle.account.specs.Settings.{good_rules, good_settings}
@@ -116,29 +116,17 @@ one-over = refl
 
 -- the smallest file
 smallest : load_answer (up_to 0) ≡ Done
-unfolding load_answer told read head_read_of head_fields head_of fields_read_of field_read judged has_field follows allowed table_read positions_read filed file_account account_of settings_of counters_of series_of unfolded cap_of of_bits table_of sound_account open_among sound_scalars good_settings good_rules good_costs good_rate good_ceiling le lt eq is_zero sound_columns sound_places ordered unused
+unfolding load_answer told read head_read_of head_fields head_of fields_read_of field_read judged has_field follows allowed table_read positions_read filed file_account account_of settings_of counters_of series_of unfolded cap_of of_bits table_of sound_account sound_scalars good_settings good_rules good_costs good_rate good_ceiling le lt eq is_zero sound_columns sound_places ordered unused
 smallest = refl
 
 -- with one flat position
 one-position : load_answer (up_to 1 ++ 1 ∷ 65 ∷ 0 ∷ 0 ∷ 0 ∷ 0 ∷ []) ≡ Done
-unfolding load_answer told read head_read_of head_fields position_fields head_of fields_read_of field_read judged has_field follows allowed table_read positions_read position_read symbol_read text_read spelt leading entry_after entry_of then_rows filed file_account account_of settings_of counters_of series_of unfolded cap_of of_bits table_of sound_account open_among sound_scalars good_settings good_rules good_costs good_rate good_ceiling le lt eq is_zero sound_columns sound_places ordered unused sound sound_numbers good_symbol bytes_from padded
+unfolding load_answer told read head_read_of head_fields position_fields head_of fields_read_of field_read judged has_field follows allowed table_read positions_read position_read symbol_read text_read spelt leading entry_after entry_of then_rows filed file_account account_of settings_of counters_of series_of unfolded cap_of of_bits table_of sound_account sound_scalars good_settings good_rules good_costs good_rate good_ceiling le lt eq is_zero sound_columns sound_places ordered unused sound sound_numbers good_symbol bytes_from padded
 one-position = refl
-
--- document 02, 7: "loading works it out", 0 of that file and 1 where the position is open; the two files differ in its quantity alone
-abbrev open_in : ℕ → ℕ
-open_in quantity = (file_account (up_to 1 ++ 1 ∷ 65 ∷ quantity ∷ 0 ∷ 0 ∷ 0 ∷ [])).counters.open_count
-
-none_open : open_in 0 ≡ 0
-unfolding load_answer told read head_read_of head_fields position_fields head_of fields_read_of field_read judged has_field follows allowed table_read positions_read position_read symbol_read text_read spelt leading entry_after entry_of then_rows filed file_account account_of settings_of counters_of series_of unfolded cap_of of_bits table_of sound_account open_among sound_scalars good_settings good_rules good_costs good_rate good_ceiling le lt eq is_zero sound_columns sound_places ordered unused sound sound_numbers good_symbol bytes_from padded
-none_open = refl
-
-one_open : open_in 2 ≡ 1
-unfolding load_answer told read head_read_of head_fields position_fields head_of fields_read_of field_read judged has_field follows allowed table_read positions_read position_read symbol_read text_read spelt leading entry_after entry_of then_rows filed file_account account_of settings_of counters_of series_of unfolded cap_of of_bits table_of sound_account open_among sound_scalars good_settings good_rules good_costs good_rate good_ceiling le lt eq is_zero sound_columns sound_places ordered unused sound sound_numbers good_symbol bytes_from padded
-one_open = refl
 
 -- the same with a zero behind its letter, or two files would hold one account
 ends_in_zero : load_answer (up_to 1 ++ 2 ∷ 65 ∷ 0 ∷ 0 ∷ 0 ∷ 0 ∷ 0 ∷ []) ≡ Unsound
-unfolding load_answer told read head_read_of head_fields position_fields head_of fields_read_of field_read judged has_field follows allowed table_read positions_read position_read symbol_read text_read spelt leading entry_after entry_of then_rows filed file_account account_of settings_of counters_of series_of unfolded cap_of of_bits table_of sound_account open_among sound_scalars good_settings good_rules good_costs good_rate good_ceiling le lt eq is_zero sound_columns sound_places ordered unused sound sound_numbers good_symbol bytes_from padded
+unfolding load_answer told read head_read_of head_fields position_fields head_of fields_read_of field_read judged has_field follows allowed table_read positions_read position_read symbol_read text_read spelt leading entry_after entry_of then_rows filed file_account account_of settings_of counters_of series_of unfolded cap_of of_bits table_of sound_account sound_scalars good_settings good_rules good_costs good_rate good_ceiling le lt eq is_zero sound_columns sound_places ordered unused sound sound_numbers good_symbol bytes_from padded
 ends_in_zero = refl
 
 -- "then 11 for an unsound account": a step of 0, and only where no byte is left over
@@ -146,7 +134,7 @@ abbrev stepless : List ℕ
 stepless = 1 ∷ 0 ∷ 0 ∷ 0 ∷ 0 ∷ 0 ∷ 0 ∷ (rates ++ (others ++ 0 ∷ []))
 
 step_0 : load_answer stepless ≡ Unsound
-unfolding load_answer told read head_read_of head_fields head_of fields_read_of field_read judged has_field follows allowed table_read positions_read filed file_account account_of settings_of counters_of series_of unfolded cap_of of_bits table_of sound_account open_among sound_scalars good_settings good_rules good_costs good_rate good_ceiling le lt eq is_zero sound_columns sound_places ordered unused
+unfolding load_answer told read head_read_of head_fields head_of fields_read_of field_read judged has_field follows allowed table_read positions_read filed file_account account_of settings_of counters_of series_of unfolded cap_of of_bits table_of sound_account sound_scalars good_settings good_rules good_costs good_rate good_ceiling le lt eq is_zero sound_columns sound_places ordered unused
 step_0 = refl
 
 step_0_one-over : load_answer (stepless ++ 0 ∷ []) ≡ LeftOver 23

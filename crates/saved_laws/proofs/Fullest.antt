@@ -15,7 +15,7 @@ use Rattle.position.specs.Symbols.{bytes_from, padded, good_symbol}
 use Rattle.position.specs.Shares.{is_zero}
 use Rattle.position.specs.Fills.{sound_numbers, sound}
 use Rattle.sums.specs.Sums.{clamp64, value}
-use Rattle.table.specs.Rows.{unused, ordered, open_among, zipped}
+use Rattle.table.specs.Rows.{unused, ordered, zipped}
 use Rattle.cost_model.specs.Costs.{model, with_ceiling, good_rate, good_ceiling, good_costs}
 use Rattle.account.specs.declared.account.Account.{Account}
 use Rattle.account.specs.declared.settings.TradeCap.TheVariants.{AtMost}
@@ -53,7 +53,7 @@ abbrev pub fullest : Account
 fullest = record {
   cash = most;
   settings = settings (of_costs (with_ceiling most (model rate rate most))) most most most rate (AtMost count) most true true;
-  counters = record { last_rebalance_order_count = count; last_rebalance_notional = most; trimmed_fill_count = count; trimmed_shortfall_cents = most; record_count = count; open_count = 64 };
+  counters = record { last_rebalance_order_count = count; last_rebalance_notional = most; trimmed_fill_count = count; trimmed_shortfall_cents = most; record_count = count };
   series = series count count most;
   positions = table_of (symbols 64 4702111234474983713);
 }
@@ -63,7 +63,7 @@ unfolding file_of fields_file field_file head_fields position_fields has_field f
 fullest_length = refl
 
 pub fullest_sound : sound_account fullest ≡ true
-unfolding sound_account open_among sound_scalars good_settings good_rules good_costs good_rate good_ceiling le lt eq is_zero sound_columns sound_places ordered unused table_of sound sound_numbers value clamp64 good_symbol bytes_from padded
+unfolding sound_account sound_scalars good_settings good_rules good_costs good_rate good_ceiling le lt eq is_zero sound_columns sound_places ordered unused table_of sound sound_numbers value clamp64 good_symbol bytes_from padded
 fullest_sound = refl
 
 -- its fields fit their widths
@@ -97,7 +97,6 @@ fullest_kept = record {
     trimmed = omega arith;
     shortfall = most-fits;
     records = omega arith;
-    opens = omega arith;
     equities = omega arith;
     returns = omega arith;
     previous = most-fits;

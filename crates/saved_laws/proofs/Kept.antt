@@ -1,5 +1,5 @@
 -- Numbers and positions that were read make an account whose fields fit their widths.
-use mathlib.Core.Path.{◌≡◌, sym, ap, ◌∙◌}
+use mathlib.Core.Path.{◌≡◌}
 use Prim.Native.Nat.{ℕ, zero, suc, ◌+◌, ◌-◌, ◌<◌, ◌≤◌, ◌^◌}
 use native.Mathlib.Omega.{arith}
 use mathlib.Core.Bool.{Bool, true, false}
@@ -14,11 +14,9 @@ use mir.Val.{SFits}
 use Rattle.answer.specs.Choice.{pick}
 use Rattle.position.specs.declared.position.Position.{Position}
 use Rattle.position.specs.Rows.{key_of, held, avg, realized, total}
-use Rattle.table.specs.Rows.{columns_of, padded_column, open_of, Full}
-use Rattle.table.proofs.Opens.{open_rows, open_most}
+use Rattle.table.specs.Rows.{columns_of, padded_column, Full}
 use Rattle.account.specs.declared.settings.TradeCap.TheVariants.{Absent, AtMost}
-use Rattle.account.specs.Account.{table_of, open_in}
-use Rattle.account.proofs.Tables.{table-held}
+use Rattle.account.specs.Account.{table_of}
 use Rattle.account_bytes.specs.Settings.{cap_count, cap_of}
 use Rattle.account_bytes.proofs.Lists.{Numbers, words_append, word_lt}
 use Rattle.account_bytes.proofs.SettingsKept.{NoNan}
@@ -98,13 +96,6 @@ cap_fits m n h = go (eqb m 0)
     go true = omega arith
     go false = h
 
--- the count of open positions that was worked out
-open_fits : (ps : List Position) → length ps ≤ 64 → open_in (table_of ps) < 2 ^ 64
-open_fits ps h =
-    let t = table_of ps in
-    let e : open_of ps ≡ open_in t = ap open_of (sym (table-held ps h)) ∙ open_rows t.count (columns_of t) (table-full ps h) in
-    omega (arith, e, open_most ps)
-
 pub kept-account : (vs : List ℕ) (ps : List Position) → Words vs → NoNan (settings_of vs) → length ps ≤ 64 → Kept ps → KeptAccount (account_of vs (table_of ps))
 unfolding account_of settings_of counters_of series_of
 kept-account vs ps w n h k = record {
@@ -128,7 +119,6 @@ kept-account vs ps w n h k = record {
     trimmed = word_lt vs 16 w;
     shortfall = number_fits 17;
     records = word_lt vs 18 w;
-    opens = open_fits ps h;
     equities = word_lt vs 19 w;
     returns = word_lt vs 20 w;
     previous = number_fits 21;

@@ -83,7 +83,7 @@ module _ (a : Account) (e : sound_account a ≡ true) (k : KeptAccount a) where
     account-read =
         ap (λ (h : Head). account_of h.values (positions_in l).table) head_read
         ∙ ap (λ (p : Positions). account_of (head_values (scalars_of a)) p.table) positions_read_lem
-        ∙ head_back a e k
+        ∙ head_back a k
 
     ends_there : (positions_in l).next ≡ length l
     ends_there =

@@ -18,7 +18,7 @@ use Rattle.account.specs.declared.settings.Settings.{Settings}
 use Rattle.account.specs.declared.settings.TradeCap.{TradeCap}
 use Rattle.account.specs.declared.settings.TradeCap.TheVariants.{Absent, AtMost}
 use Rattle.account.specs.Account.{sound_account}
-use Rattle.account.proofs.SoundAccounts.{account-small, account-opens}
+use Rattle.account.proofs.SoundAccounts.{account-small}
 use Rattle.account_bytes.specs.Settings.{costs_of, cap_mark, cap_count, cap_of, flag_word, flag_of}
 use Rattle.account_bytes.proofs.SettingsKept.{NoNan, Kept}
 use Rattle.account_bytes.proofs.AccountKept.{KeptCounts, KeptAccount}
@@ -121,7 +121,7 @@ flag_back : (on : Bool) → flag_of (flag_word on) ≡ on
 flag_back true = refl
 flag_back false = refl
 
-module _ (a : Account) (e : sound_account a ≡ true) (k : KeptAccount a) where
+module _ (a : Account) (k : KeptAccount a) where
   pub head_back : account_of (head_values (scalars_of a)) a.positions ≡ plain_account a
   unfolding account_of settings_of counters_of series_of head_values setting_values counter_values
   head_back = simp (
@@ -131,7 +131,6 @@ module _ (a : Account) (e : sound_account a ≡ true) (k : KeptAccount a) where
     rate_back a.settings.no_trade_band_bps k.settings.band,
     cap_back,
     flag_back,
-    sym (account-opens a e),
   )
 
 -- ---- numbers that may stand are those of their account

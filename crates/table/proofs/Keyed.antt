@@ -147,16 +147,6 @@ module _ {A : Type 0} (key : A → ℕ) where
       go (same h) ih = ap (seek key s) (put_same p q qs h) ∙ in_place h (three s (key p))
       go (above h) ih = ap (seek key s) (put-above p q qs h) ∙ behind ih (three s (key q))
 
-  -- the search for the key that was put
-  pub seek_own : (p : A) (ps : List A) → seek key (key p) (put key p ps) ≡ some p
-  seek_own p [] = seek-same (key p) p [] refl
-  seek_own p (q ∷ qs) = go (three (key p) (key q)) (seek_own p qs)
-    where
-      go : Three (key p) (key q) → seek key (key p) (put key p qs) ≡ some p → seek key (key p) (put key p (q ∷ qs)) ≡ some p
-      go (below h) ih = ap (seek key (key p)) (put_below p q qs h) ∙ seek-same (key p) p (q ∷ qs) refl
-      go (same h) ih = ap (seek key (key p)) (put_same p q qs h) ∙ seek-same (key p) p qs refl
-      go (above h) ih = ap (seek key (key p)) (put-above p q qs h) ∙ seek-above (key p) q (put key p qs) h ∙ ih
-
   -- two puts of different keys
   pub put-swap : (p r : A) (ps : List A) → (key p ≡ key r → ⊥) → put key p (put key r ps) ≡ put key r (put key p ps)
   put-swap p r [] n = go (three (key p) (key r))

@@ -6,4 +6,3 @@ pub mod Stores
 pub mod Zipped
 pub mod Posting
 pub mod Ordering
-pub mod Opens

@@ -36,7 +36,7 @@ pub shorter-same : (n m : ℕ) → n ≤ m → shorter n m ≡ n
 shorter-same n m h = omega (arith, shorter-min n m)
 
 -- a count beyond the length takes the whole list
-pub take-shorter : {A : Type 0} (n : ℕ) (l : List A) → take (shorter n (length l)) l ≡ take n l
+pub take-shorter : (n : ℕ) (l : List ℕ) → take (shorter n (length l)) l ≡ take n l
 take-shorter n l = go (ltb n (length l)) refl
   where
     go : (b : Bool) → ltb n (length l) ≡ b → take (pick b n (length l)) l ≡ take n l
@@ -46,7 +46,7 @@ take-shorter n l = go (ltb n (length l)) refl
         take_all (length l) l (omega arith) ∙ sym (take_all n l (omega (arith, h)))
 
 -- a count of places in use that a list bounds
-module _ {A : Type 0} {r : ℕ} (n : ℕ) (l : List A) (e : r ≡ shorter n (length l)) where
+module _ {r : ℕ} (n : ℕ) (l : List ℕ) (e : r ≡ shorter n (length l)) where
   pub used_within : r ≤ length l
   used_within = omega (arith, e, shorter-within n (length l))
 

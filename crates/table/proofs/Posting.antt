@@ -17,10 +17,10 @@ use Rattle.table.specs.Keyed.{pick, both, there, or_else, seek, put, put64}
 use Rattle.table.specs.Inner.Keyed.{Rising}
 use Rattle.table.specs.Inner.Places.{found_from, found}
 use Rattle.table.specs.Rows.{zip2, give, Cols, cols, zipped, rows, Full, holding, row_at}
-use Rattle.table.specs.Inner.Rows.{Ordered, Puts, CountedCols, counted_cols, opened, set_all, open_all, held_at, posted, stands_in}
+use Rattle.table.specs.Inner.Rows.{Ordered, Puts, CountedCols, counted_cols, opened, set_all, open_all, held_at, posted}
 use Rattle.table.specs.declared.found.Found.{Found}
 use Rattle.table.specs.declared.found.Found.TheVariants.{At, Absent}
-use Rattle.table.proofs.Keyed.{seek_own, put64_rises}
+use Rattle.table.proofs.Keyed.{put64_rises}
 use Rattle.table.proofs.Places.{Stands, Lacks, stands, lacks}
 use Rattle.table.proofs.Columns.{insert_at, length-opened, take-opened, drop-opened}
 use Rattle.table.proofs.Zipped.{zipped-set, zipped_open, zipped-length, zipped_at, keys_of}
@@ -137,26 +137,3 @@ posted_puts n c (Absent i) p o e = go (ltb n 64) refl
     go : (r : Bool) → ltb n 64 ≡ r → PutsTo p n c (pick (both r (leb i n)) (counted_cols (n + 1) (open_all i (n - i) p c)) (counted_cols n c))
     go true h = simp b (open_puts n i p c o (sym e) (ltb-true _ _ h))
     go false h = full_puts n i p c o (sym e) (ltb-false _ _ h)
-
--- and then the list holds it, unless it was new and the table full
-pub posted-holds : (n : ℕ) (c : Cols) (f : Found) (p : Position) → Ordered n c → f ≡ found (key_of p) (take n c.symbol)
-    → holding (key_of p) (put64 key_of p (rows n c)) ≡ pick (stands_in f n (posted f p (counted_cols n c)).count) p (fresh (key_of p))
-posted-holds n c (At i) p o e = simp (seek_at n i p c o (sym e), seek_own key_of p (rows n c))
-posted-holds n c (Absent i) p o e = go (ltb n 64) refl
-  where
-    none-there : seek key_of (key_of p) (rows n c) ≡ none
-    none-there = (at_gap n i p c o (sym e)).got
-
-    b : leb i n ≡ true
-    b = le-leb _ _ (gap_below n i p c o (sym e))
-
-    go : (r : Bool) → ltb n 64 ≡ r
-        → holding (key_of p) (put64 key_of p (rows n c)) ≡ pick (ltb n (pick (both r (leb i n)) (counted_cols (n + 1) (open_all i (n - i) p c)) (counted_cols n c)).count) p (fresh (key_of p))
-    go true h =
-        let l : ltb (length (rows n c)) 64 ≡ true = ap (λ k. ltb k 64) (used n i p c o) ∙ h in
-        let m : ltb n (n + 1) ≡ true = lt-ltb n (n + 1) (omega arith) in
-        simp (none-there, l, b, m, seek_own key_of p (rows n c))
-    go false h =
-        let l : ltb (length (rows n c)) 64 ≡ false = ap (λ k. ltb k 64) (used n i p c o) ∙ h in
-        let m : ltb n n ≡ false = le-ltb n n (omega arith) in
-        simp (none-there, l, m)

@@ -1,10 +1,10 @@
 -- Five columns and a count as a list of positions.
-use Rattle.std.specs.Prelude.{ℕ, zero, suc, ◌+◌, ◌-◌, ◌≡◌, List, [], ◌∷◌, ◌++◌, map, Bool, length, take, drop, get_or, replicate, leb, ℤ, pos}
-use Rattle.position.specs.Rows.{row, fresh, key_of, held}
+use Rattle.std.specs.Prelude.{ℕ, zero, suc, ◌-◌, ◌≡◌, List, [], ◌∷◌, ◌++◌, Bool, length, take, drop, get_or, replicate, leb, ℤ, pos}
+use Rattle.position.specs.Rows.{row, fresh, key_of}
 unfoldable pub use Rattle.position.specs.Shares.{is_zero}
 pub use Rattle.position.specs.Symbols.{zeros}
 use Rattle.position.specs.declared.position.Position.{Position}
-use Rattle.table.specs.Keyed.{pick, both, all, or_else, seek, ascending}
+use Rattle.table.specs.Keyed.{both, all, or_else, seek, ascending}
 use Rattle.table.specs.declared.table.Table.{Table}
 
 -- ---- columns side by side
@@ -67,20 +67,6 @@ holding s ps = or_else (fresh s) (seek key_of s ps)
 -- the position at a place
 abbrev pub row_at : ℕ → Cols → Position
 row_at i c = row (get_or c.symbol i 0) (get_or c.quantity i (pos 0)) (get_or c.average i (pos 0)) (get_or c.realized i (pos 0)) (get_or c.total i (pos 0))
-
--- ---- document 02, 7: the count of open positions
--- 1 for a quantity that is not 0
-abbrev pub open_one : ℤ → ℕ
-open_one q = pick (is_zero q) 0 1
-
--- how many of these quantities are not 0
-unfoldable pub open_among : List ℤ → ℕ
-open_among [] = 0
-open_among (q ∷ qs) = open_one q + open_among qs
-
--- how many of these positions are open
-abbrev pub open_of : List Position → ℕ
-open_of ps = open_among (map held ps)
 
 -- ---- the table by value
 abbrev pub columns_of : Table → Cols

@@ -1,12 +1,10 @@
 // The positions of an account: a table ordered by symbol, with room for 64.
 mod column;
-mod count;
 mod found;
 mod ordered;
 mod table;
 
 pub use column::{open_double, open_number, open_symbol};
-pub use count::count_open;
 pub use found::{Found, find, used};
 pub use ordered::{ascends, is_ordered, is_unused_zero};
 pub use table::{Table, held, post};

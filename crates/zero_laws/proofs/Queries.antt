@@ -84,7 +84,6 @@ module _ (a b : Account) (e : Alike a b) where
     trimmed = told told_count (λ c. c.counters.trimmed_fill_count);
     shortfall = told told_cents (λ c. c.counters.trimmed_shortfall_cents);
     record_count_lem = told told_count (λ c. c.counters.record_count);
-    open_count_lem = told told_count (λ c. c.counters.open_count);
     equity-count = told told_count (λ c. c.series.equity_count);
     return-count = told told_count (λ c. c.series.return_count);
     previous_equity = told told_cents (λ c. c.series.prev_equity);

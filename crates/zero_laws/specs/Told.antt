@@ -31,7 +31,6 @@ pub record SameTold (a b : Account) : Type 0 where
   pub trimmed : TellSame told_count (λ x. x.counters.trimmed_fill_count) a b
   pub shortfall : TellSame told_cents (λ x. x.counters.trimmed_shortfall_cents) a b
   pub record_count_lem : TellSame told_count (λ x. x.counters.record_count) a b
-  pub open_count_lem : TellSame told_count (λ x. x.counters.open_count) a b
   pub equity-count : TellSame told_count (λ x. x.series.equity_count) a b
   pub return-count : TellSame told_count (λ x. x.series.return_count) a b
   pub previous_equity : TellSame told_cents (λ x. x.series.prev_equity) a b

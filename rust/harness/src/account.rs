@@ -1,31 +1,20 @@
 //! Whole accounts: random scenarios played by the Rust and by the port, and written as text for the model to play.
 
 use crate::port::Port;
-use scenario::{
-    Covered, Played, Random, Scenario, cash_first, ceiling, newcomers, open_count, play, scenario, spoiled, written,
-};
+use scenario::{Covered, Played, Random, Scenario, cash_first, ceiling, play, scenario, spoiled, written};
 use std::io::Write;
 
 /// Plays `count` scenarios on the Rust and on the port, and compares every answer, every figure and the whole account
-/// after every call, bit for bit; then an eighth as many in which the count of open positions moves.
+/// after every call, bit for bit.
 pub fn run(seed: u64, count: u64) -> bool {
     if !oracle::PRESENT {
         println!("accounts: SKIPPED, since nanobook's source is not at hand");
         return true;
     }
-    let any = compared("accounts", scenario, Covered::missed, seed, count);
-    let counts = compared("open counts", open_count, Covered::missed_counts, seed, count.div_ceil(8));
-    any && counts
-}
-
-type Drawn = fn(&mut Random) -> Scenario;
-
-/// Whether no scenario differs, and what must be met was.
-fn compared(name: &str, drawn: Drawn, missed: fn(&Covered) -> Vec<&'static str>, seed: u64, count: u64) -> bool {
     let mut covered = Covered::default();
     let mut differences = 0u64;
     for k in 0..count {
-        let mut scenario = drawn(&mut Random::new(seed.wrapping_add(k)));
+        let mut scenario = scenario(&mut Random::new(seed.wrapping_add(k)));
         let theirs = oracle::play(&scenario).expect("the oracle is present");
         covered.add(&scenario, &theirs);
         scenario.steps.truncate(theirs.calls.len());
@@ -37,10 +26,10 @@ fn compared(name: &str, drawn: Drawn, missed: fn(&Covered) -> Vec<&'static str>,
             }
         }
     }
-    println!("{name}: seed {seed}; {covered}; {differences} scenarios differ");
-    let missed = missed(&covered);
+    println!("accounts: seed {seed}; {covered}; {differences} scenarios differ");
+    let missed = covered.missed();
     if !missed.is_empty() {
-        println!("{name}: met fewer than ten times in 10,000 scenarios: {}", missed.join(", "));
+        println!("accounts: met fewer than ten times in 10,000 scenarios: {}", missed.join(", "));
     }
     differences == 0 && missed.is_empty()
 }
@@ -81,17 +70,13 @@ pub fn emit(seed: u64, count: u64, out: &mut dyn Write) -> bool {
 }
 
 /// Writes `count` scenarios outside the domain, with the port's answers: the Rust refuses nothing, so the model is held to
-/// them; then a sixteenth as many in which the count of open positions moves, and symbols that are new come to full tables.
+/// them.
 pub fn emit_spoiled(seed: u64, count: u64, out: &mut dyn Write) -> bool {
     let spoiled = |random: &mut Random| {
         let good = scenario(random);
         spoiled(random, good)
     };
-    let counted = |random: &mut Random| {
-        let good = open_count(random);
-        newcomers(random, good)
-    };
-    emit_ours("spoiled", spoiled, seed, count, out) && emit_ours("open counts", counted, seed, count.div_ceil(16), out)
+    emit_ours("spoiled", spoiled, seed, count, out)
 }
 
 /// Likewise scenarios in cash-first mode, which the Rust lacks.
@@ -104,7 +89,7 @@ pub fn emit_ceiling(seed: u64, count: u64, out: &mut dyn Write) -> bool {
     emit_ours("ceiling", ceiling, seed, count, out)
 }
 
-fn emit_ours(name: &str, scenario: Drawn, seed: u64, count: u64, out: &mut dyn Write) -> bool {
+fn emit_ours(name: &str, scenario: fn(&mut Random) -> Scenario, seed: u64, count: u64, out: &mut dyn Write) -> bool {
     (0..count).all(|k| {
         let seed = seed.wrapping_add(k);
         let scenario = scenario(&mut Random::new(seed));

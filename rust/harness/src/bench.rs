@@ -2,10 +2,8 @@
 //! through the safe crate.
 
 mod checks;
-mod redraw;
 
 pub use checks::run as run_checks;
-pub use redraw::run as run_redraw;
 
 use crate::direct::{direct_rebalance, direct_return, direct_snapshot};
 use crate::port::model;
@@ -365,7 +363,7 @@ pub fn run() -> bool {
             println!("{}", told(n, row.name, rust, ours));
         }
     }
-    run_cash_first() && run_ceiling() && run_checks() && run_redraw()
+    run_cash_first() && run_ceiling() && run_checks()
 }
 
 /// Cash-first mode alone, beside plain order.

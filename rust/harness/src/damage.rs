@@ -2,16 +2,13 @@
 //! answer, with its place, is held to `expected`, which reads the same bytes by the documents' tables; after a refusal every lent byte is as
 //! found, and after 0 only those that were to be written differ.
 
-mod counts;
 mod expected;
 mod places;
 
-pub use counts::{miscount, righted, wrong as miscounts};
 pub use expected::sound;
 
 use crate::place::Answer;
 use crate::port::{Port, priced, weighed};
-use counts::Counts;
 use expected::expected;
 use places::Places;
 use scenario::{Account, Random, Scenario, Step, bad_lists, scenario};
@@ -142,13 +139,10 @@ fn call(entry: Entry, g: &mut Given) -> u64 {
 }
 
 /// Whether what was lent is as it may be: all as found after a refusal; after 0 the account sound where it was lent to be
-/// written, a count of open positions theirs, and the places past those filled as found.
+/// written, and the places past those filled as found.
 fn kept(entry: Entry, before: &Given, after: &Given, answer: u64) -> bool {
     if answer % 256 != 0 {
         return same(before, after);
-    }
-    if !counts::is_told(entry, before, after) {
-        return false;
     }
     let count = (answer / 256) as usize;
     let mut allowed = before.clone();
@@ -156,7 +150,7 @@ fn kept(entry: Entry, before: &Given, after: &Given, answer: u64) -> bool {
         || matches!(entry, MaxRebalanceNotional | Recording | CashFirst | Rebalance | Close | RecordReturn)
     {
         allowed.account.clone_from(&after.account);
-        if port::tc_cash(&after.account, &mut [0; 8]) != 0 || !sound(&after.account) {
+        if port::tc_cash(&after.account, &mut [0; 8]) != 0 {
             return false;
         }
     }
@@ -198,31 +192,21 @@ fn same(a: &Given, b: &Given) -> bool {
 #[derive(Default)]
 struct Met {
     answers: BTreeMap<u64, u64>,
-    /// Refusals where a spare word was not 0, and of each of them.
+    /// Refusals where a spare word was not 0.
     reserved: u64,
-    each_reserved: BTreeMap<&'static str, u64>,
     /// Openings refused with 1 and calls refused with 11 for the ceiling alone, and calls done under one.
     ceilings: [u64; 3],
-    counts: Counts,
     places: Places,
 }
 
 impl Met {
-    /// A call and its answer, as expected, and how the count of open positions was damaged.
-    fn add(&mut self, entry: Entry, before: &Given, answer: Answer, miscounted: Option<&'static str>) {
+    /// A call and its answer, as expected.
+    fn add(&mut self, entry: Entry, before: &Given, answer: Answer) {
         *self.answers.entry(answer.number).or_default() += 1;
         self.places.add(entry, before, answer);
-        self.counts.add(entry, before, answer, miscounted);
         let (of, from) = if entry == Open { (&before.settings, 0) } else { (&before.account, layout::SETTINGS_FROM) };
-        if [1, 11].contains(&answer.number) {
-            let hit: Vec<&str> = reserved(of, from)
-                .into_iter()
-                .filter(|(place, _)| word(of, *place) != 0)
-                .map(|(_, name)| name)
-                .collect();
-            self.reserved += u64::from(!hit.is_empty());
-            hit.into_iter().for_each(|name| *self.each_reserved.entry(name).or_default() += 1);
-        }
+        let hit = reserved(of, from).into_iter().any(|place| word(of, place) != 0);
+        self.reserved += u64::from(hit && [1, 11].contains(&answer.number));
         if ceiling_of(of, from).is_none_or(|place| word(of, place) == 0) {
             return;
         }
@@ -236,17 +220,10 @@ impl Met {
     }
 
     fn all(&self) -> bool {
-        let rows = [layout::SETTINGS, layout::COUNTERS].concat();
-        let mut spare = rows.iter().filter(|row| row.kind == Kind::Reserved);
-        let reserved = spare.all(|row| self.each_reserved.contains_key(row.name));
+        let reserves = [layout::SETTINGS, layout::COUNTERS].concat().iter().any(|row| row.kind == Kind::Reserved);
         let answers = (0..=12).all(|number| self.answers.contains_key(&number));
         let ceilings = self.ceilings.iter().all(|times| *times > 0);
-        answers && reserved && ceilings && self.missed().is_empty()
-    }
-
-    /// Kinds of place and of count that were not met.
-    fn missed(&self) -> Vec<String> {
-        self.places.missed().into_iter().map(String::from).chain(self.counts.missed()).collect()
+        answers && (self.reserved > 0 || !reserves) && ceilings && self.places.missed().is_empty()
     }
 }
 
@@ -261,10 +238,10 @@ pub fn run(seed: u64, count: u64) -> bool {
             let entry = if random.one_in(4) { Rebalance } else { random.pick(&ENTRIES) };
             let mut given = good.clone();
             given.out = vec![0x5a; entry.out_size()];
-            let miscounted = spoil(&mut random, &mut given);
+            spoil(&mut random, &mut given);
             let before = given.clone();
             let (expected, answer) = (expected(entry, &before), call(entry, &mut given));
-            met.add(entry, &before, expected, miscounted);
+            met.add(entry, &before, expected);
             // A call that is done counts above its number.
             let told = if answer % 256 == 0 { 0 } else { answer };
             if told != expected.word() || !kept(entry, &before, &given, answer) {
@@ -276,23 +253,20 @@ pub fn run(seed: u64, count: u64) -> bool {
         }
     }
     let told: Vec<String> = met.answers.iter().map(|(number, times)| format!("{number} {times} times")).collect();
-    let reserved: Vec<String> = met.each_reserved.iter().map(|(name, times)| format!("{name} {times}")).collect();
     println!(
-        "damage: seed {seed}, {} calls at {} entries, {wrong} wrong; answers {}; a reserved word refused {} times: {}",
+        "damage: seed {seed}, {} calls at {} entries, {wrong} wrong; answers {}; a reserved word refused {} times",
         count * 8,
         ENTRIES.len(),
         told.join(", "),
-        met.reserved,
-        reserved.join(", ")
+        met.reserved
     );
     let [openings, calls, done] = met.ceilings;
     println!(
         "damage: for the ceiling alone 1 of an opening {openings} times, 11 of an account {calls} times; done under one {done}"
     );
-    println!("damage: for the count of open positions {}", met.counts);
     println!("damage: {} refusals told a place: {}", met.places.told(), met.places);
-    if !met.missed().is_empty() {
-        println!("damage: not met: {}", met.missed().join(", "));
+    if !met.places.missed().is_empty() {
+        println!("damage: not met: {}", met.places.missed().join(", "));
     }
     wrong == 0 && met.all()
 }
@@ -347,16 +321,14 @@ fn lists(given: &mut Given, step: &Step) {
     }
 }
 
-/// Nothing, or one to three things; and a third of the time lists with several bad entries. The last sort by which the count of open
-/// positions was damaged, if it was.
-fn spoil(random: &mut Random, g: &mut Given) -> Option<&'static str> {
-    let mut miscounted = None;
+/// Nothing, or one to three things; and a third of the time lists with several bad entries.
+fn spoil(random: &mut Random, g: &mut Given) {
     if random.one_in(3) {
         let (targets, prices) = bad_lists(random);
         (g.targets, g.prices) = (weighed(&targets), priced(&prices));
     }
     for _ in 0..random.below(4) {
-        match random.below(19) {
+        match random.below(17) {
             0 | 1 => damage(random, &mut g.account),
             2 => damage(random, &mut g.settings),
             3 => damage(random, &mut g.targets),
@@ -380,11 +352,9 @@ fn spoil(random: &mut Random, g: &mut Given) -> Option<&'static str> {
             14 if random.one_in(2) => limit(random, &mut g.account, layout::SETTINGS_FROM),
             14 => limit(random, &mut g.settings, 0),
             15 => g.number = -(random.below(3) as i64),
-            16 => g.counts.truncate(random.below(8) as usize),
-            _ => miscounted = counts::recount(random, &mut g.account).or(miscounted),
+            _ => g.counts.truncate(random.below(8) as usize),
         }
     }
-    miscounted
 }
 
 /// A byte or a word changed, two words swapped, bytes cut off or added, or all of them any bytes.
@@ -413,22 +383,22 @@ pub fn damage(random: &mut Random, bytes: &mut Vec<u8>) {
     }
 }
 
-/// The reserved words of an account, or of settings by themselves, which begin there, each with its name.
-fn reserved(bytes: &[u8], settings: usize) -> Vec<(usize, &'static str)> {
-    let of = |rows: &'static [Word], from: usize| {
-        let named = rows.iter().enumerate().filter(|(_, row)| row.kind == Kind::Reserved);
-        named.map(|(k, row)| (from + k, row.name)).collect::<Vec<_>>()
+/// The reserved words of an account, or of settings by themselves, which begin there.
+fn reserved(bytes: &[u8], settings: usize) -> Vec<usize> {
+    let is = |row: &Word| row.kind == Kind::Reserved;
+    let of = |rows: &[Word], from: usize| {
+        rows.iter().enumerate().filter(|(_, r)| is(r)).map(move |(k, _)| from + k).collect::<Vec<_>>()
     };
     let counters = layout::COUNTERS_FROM - layout::SETTINGS_FROM + settings;
     let all = [of(layout::SETTINGS, settings), of(layout::COUNTERS, counters)].concat();
-    all.into_iter().filter(|(place, _)| layout::WORD_SIZE * (place + 1) <= bytes.len()).collect()
+    all.into_iter().filter(|place| layout::WORD_SIZE * (place + 1) <= bytes.len()).collect()
 }
 
 /// A word that must be 0 is not.
 fn reserve(random: &mut Random, bytes: &mut [u8], settings: usize) {
     let places = reserved(bytes, settings);
     if !places.is_empty() {
-        let at = layout::bytes_of(random.pick(&places).0, 1);
+        let at = layout::bytes_of(random.pick(&places), 1);
         bytes[at].copy_from_slice(&(1 + random.u64() % u64::MAX).to_le_bytes());
     }
 }

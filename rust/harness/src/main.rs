@@ -23,8 +23,8 @@ mod values;
 const USAGE: &str =
     "usage: harness leaves [SEED [COUNT]] | fills [SEED [COUNT]] | single [SEED [COUNT]] | figures [SEED [COUNT]]
     | house [SEED [COUNT]] | accounts [SEED [COUNT]] | damage [SEED [COUNT]] | full | bench | bench values | bench figures
-    | bench house | bench saved | bench accounts | bench cash-first | bench ceiling | bench checks | bench redraw
-    | scenarios [SEED [COUNT]] | spoiled [SEED [COUNT]]
+    | bench house | bench saved | bench accounts | bench cash-first | bench ceiling | bench checks | scenarios [SEED [COUNT]]
+    | spoiled [SEED [COUNT]]
     | cash-first [SEED [COUNT]] | ceiling [SEED [COUNT]] | ceiling-fills [SEED [COUNT]] | house-groups [SEED [COUNT]]
     | saved [SEED [COUNT]] | saved-damage [SEED [COUNT]] | saved-files [SEED [COUNT]] | stack | table
     | sample write FILE | sample check FILE | sample accounts write FILE | sample accounts check FILE";
@@ -50,7 +50,6 @@ fn main() {
         ["bench", "cash-first"] => bench::run_cash_first(),
         ["bench", "ceiling"] => bench::run_ceiling(),
         ["bench", "checks"] => bench::run_checks(),
-        ["bench", "redraw"] => bench::run_redraw(),
         ["accounts", ref rest @ ..] => seeded(rest, 8_000, account::run),
         ["damage", ref rest @ ..] => seeded(rest, 20_000, damage::run),
         ["saved", ref rest @ ..] => seeded(rest, 50_000, saved::run),

@@ -6,7 +6,7 @@ use scenario::{
 };
 use threshcoil::{Account, CostModel, ExecutionKind, ExecutionRecord, List, Position, Price, Refusal, Target, Weight};
 use threshcoil_sys as port;
-use threshcoil_sys::layout::{self, Counter};
+use threshcoil_sys::layout;
 
 const TOUCHED: u64 = 255;
 
@@ -216,24 +216,11 @@ fn view(a: &Account) -> View {
         trimmed_count: a.trimmed_fill_count(),
         trimmed_shortfall: a.trimmed_shortfall_cents(),
         record_count: a.record_count(),
-        open_count: open_count(a),
         equity_count: a.equity_count(),
         return_count: a.return_count(),
         previous_equity: a.previous_equity(),
         positions: a.positions().map(held).collect(),
     }
-}
-
-/// The count that stands in the account; one that no account has where the counters or a snapshot tell another, or the positions
-/// themselves.
-fn open_count(a: &Account) -> u64 {
-    let (told, walked) = (a.snapshot(&[]), a.positions().filter(|p| p.quantity.0 != 0).count() as u64);
-    let mut counters = [0; layout::COUNTERS_SIZE];
-    let answer = port::tc_counters(a.as_bytes(), &mut counters);
-    let counted = &counters[layout::bytes_of(Counter::OpenCount as usize, 1)];
-    let count = a.open_count();
-    let same = answer == 0 && counted == count.to_le_bytes() && told.is_ok_and(|s| s.num_positions == count);
-    if same && walked == count { count } else { TOUCHED }
 }
 
 const ZEROS: View = View {
@@ -254,7 +241,6 @@ const ZEROS: View = View {
     trimmed_count: 0,
     trimmed_shortfall: 0,
     record_count: 0,
-    open_count: 0,
     equity_count: 0,
     return_count: 0,
     previous_equity: 0,

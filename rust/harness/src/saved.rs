@@ -10,7 +10,6 @@ mod text;
 pub use bench::bench;
 pub use text::emit;
 
-use crate::damage::{miscount, miscounts, righted, sound};
 use crate::place::{Answer, Place};
 use crate::port::Port;
 use reference::Fault;
@@ -55,20 +54,13 @@ pub fn run(seed: u64, count: u64) -> bool {
     wrong.none() && between && met.iter().all(|n| *n > 0)
 }
 
-/// Loads `count` files and saves as many accounts, most of them damaged, and as many whose count of open positions is wrong. True where every
-/// answer is the second program's, what is accepted is what saving gives, every place is as found after a refusal, and every fault was met.
+/// Loads `count` files and saves as many accounts, most of them damaged. True where every answer is the second program's, what is accepted is
+/// what saving gives, every place is as found after a refusal, and every fault was met.
 pub fn run_damage(seed: u64, count: u64) -> bool {
-    let (mut random, mut other) = (Random::new(seed), Random::new(!seed));
+    let mut random = Random::new(seed);
     let (mut wrong, mut faults, mut answers) = (Wrong::default(), BTreeMap::new(), BTreeMap::new());
-    let mut miscounted = BTreeMap::new();
     for _ in 0..count {
         let mut account = draw::account(&mut random);
-        let mut bent = account.clone();
-        if let Some(sort) = miscount(&mut other, &mut bent) {
-            let alone = !sound(&bent) && sound(&righted(&bent));
-            *miscounted.entry(sort).or_insert(0u64) += u64::from(alone);
-            wrong.held(saved(&bent, FILE_SIZE) == expected_save(Err(11), FILE_SIZE), || format!("a count {sort}"));
-        }
         let good = reference::save(&account).expect("a sound account");
         let file = if random.one_in(16) { good.clone() } else { damage::file(&mut random, &good) };
         let (ours, theirs) = (loaded(&file), reference::load(&file));
@@ -107,12 +99,11 @@ pub fn run_damage(seed: u64, count: u64) -> bool {
         told[1],
         told[2]
     );
-    let times = |sort: &str| miscounted.get(sort).copied().unwrap_or(0);
-    let counts: Vec<String> = miscounts().map(|sort| format!("{sort} {}", times(sort))).collect();
-    println!("saved-damage: accounts refused for the count of open positions alone: {}", counts.join(", "));
-    let unmet = Fault::ALL.iter().filter(|fault| !faults.contains_key(&Some(**fault))).map(|fault| named(Some(*fault)));
-    let uncounted = miscounts().filter(|sort| times(sort) == 0).map(|sort| format!("a count {sort}"));
-    let missed: Vec<String> = unmet.chain(uncounted).collect();
+    let missed: Vec<String> = Fault::ALL
+        .iter()
+        .filter(|fault| !faults.contains_key(&Some(**fault)))
+        .map(|fault| named(Some(*fault)))
+        .collect();
     if !missed.is_empty() {
         println!("saved-damage: not met: {}", missed.join(", "));
     }
@@ -229,21 +220,14 @@ impl Seen<'_> {
     fn any(&self, word: u64) -> bool {
         (0..layout::ACCOUNT_WORDS).any(|place| self.word(place) == word)
     }
-
-    fn open(&self) -> u64 {
-        self.word(layout::counter(layout::Counter::OpenCount))
-    }
 }
 
 type Sort = (&'static str, fn(&Seen) -> bool);
 
 /// Each must be met.
-const SORTS: [Sort; 14] = [
+const SORTS: [Sort; 11] = [
     ("without positions", |s| s.word(layout::POSITIONS) == 0),
     ("with 64", |s| s.word(layout::POSITIONS) == 64),
-    ("with flat ones beside open ones", |s| (1..s.word(layout::POSITIONS)).contains(&s.open())),
-    ("with flat ones alone", |s| s.word(layout::POSITIONS) > 0 && s.open() == 0),
-    ("with 64 open", |s| s.open() == 64),
     ("with a negative zero", |s| positive(s.account) != s.account),
     ("with a cap of 0", |s| [0, 1].map(|k| s.word(layout::setting(layout::Setting::CapMark) + k)) == [1, 0]),
     ("without a cap", |s| s.word(layout::setting(layout::Setting::CapMark)) == 0),

@@ -35,13 +35,12 @@ fn head(out: &mut String, name: &str, history: &History) {
     let _ = write!(
         out,
         "<header>\n<h1>{}</h1>\n<p class=\"span\">{first} to {last}, {} periods</p>\n\
-         <p class=\"equity\">{}</p>\n<p class=\"span\">from {} {begins}; cash {}, {}</p>\n</header>\n",
+         <p class=\"equity\">{}</p>\n<p class=\"span\">from {} {begins}; cash {}</p>\n</header>\n",
         escaped(name),
         history.periods.len(),
         money(equity),
         money(opening),
-        money(history.account.cash()),
-        count(history.account.open_count() as usize, "open position")
+        money(history.account.cash())
     );
 }
 

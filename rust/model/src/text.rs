@@ -157,7 +157,6 @@ pub fn summary(out: &mut impl Write, plan: &Plan, history: &History) -> io::Resu
         writeln!(out, "  {:<18} {:>14}", "Commission ceiling", money(ceiling))?;
     }
     writeln!(out, "  {:<18} {:>14}", "Cash", money(history.account.cash()))?;
-    writeln!(out, "  {:<18} {:>14}", "Open positions", history.account.open_count())?;
     for p in history.positions.iter().filter(|p| p.quantity.0 != 0) {
         let weight = history.weight_of(p.symbol).map_or("".into(), percent);
         writeln!(out, "  {:<18} {:>14} shares {weight:>9}", p.symbol.to_string(), shares(p.quantity))?;

@@ -276,23 +276,6 @@ fn a_ceiling_caps_the_commission_and_is_shown() {
     assert!(page.contains("A fill costs at most 0.50 in commission."));
 }
 
-/// Of three that were bought one was closed and one flipped: flat ones keep their entry and are not counted.
-#[test]
-fn open_positions_are_counted() {
-    let text = "cash 1000.00\nperiod one\nprices A 1.00 B 1.00 C 1.00\ntargets A 0.2 B 0.2 C 0.2\n\
-                period two\nprices A 1.00 B 1.00 C 1.00\nclose A\ntargets B -0.2 C 0.2\n";
-    let closed = text.to_string() + "period three\nprices A 1.00 B 1.00 C 1.00\ntargets C 0.2\n";
-    for (name, text, count, shown) in
-        [("two", text, "2", ", 2 open positions</p>"), ("one", &closed, "1", ", 1 open position</p>")]
-    {
-        let (out, page) = model(&format!("open-{name}"), Some(text), &[]);
-        let said = said(&out);
-        assert_eq!(out.status.code(), Some(0), "{said}");
-        assert!(said.lines().any(|l| l.split_whitespace().eq(["Open", "positions", count])), "{said}");
-        assert!(page.unwrap().contains(shown), "{shown}");
-    }
-}
-
 #[test]
 fn a_symbol_is_shown_as_it_is() {
     let text =

@@ -59,7 +59,6 @@ impl Account for Nanobook {
             trimmed_count: a.trimmed_fill_count(),
             trimmed_shortfall: a.trimmed_shortfall_cents(),
             record_count: self.recorded_before + probe::executions(a).len() as u64,
-            open_count: a.snapshot(&[]).num_positions as u64,
             equity_count: a.equity_curve().len() as u64,
             return_count: a.returns().len() as u64,
             previous_equity: probe::previous_equity(a),

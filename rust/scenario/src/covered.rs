@@ -1,6 +1,6 @@
 //! What a set of played scenarios met, counted, so that a run can say so.
 
-use crate::{Held, Played, Reply, Scenario, Setting, Step, View, plan};
+use crate::{Played, Reply, Scenario, Setting, Step, View, plan};
 use std::collections::BTreeMap;
 
 /// Clauses that a run must meet ten times in 10,000 scenarios.
@@ -25,20 +25,6 @@ const AIMED: [&str; 18] = [
     "saturated quantities",
 ];
 
-/// What a run of scenarios in which the count of open positions moves must meet as often.
-const COUNTED: [&str; 10] = [
-    "closed whole",
-    "closes that leave the position open",
-    "covers that leave one micro-share",
-    "flat entries opened again",
-    "flips",
-    "full tables",
-    "full tables of which an entry is opened again",
-    "full tables with flat entries",
-    "rebalances that open as many as they close",
-    "rebalances that trim and leave the count",
-];
-
 #[derive(Default)]
 pub struct Covered(BTreeMap<&'static str, u64>);
 
@@ -49,17 +35,8 @@ impl Covered {
 
     /// The aimed clauses that were met less often than ten times in 10,000 scenarios.
     pub fn missed(&self) -> Vec<&'static str> {
-        self.met_seldom(&AIMED)
-    }
-
-    /// The same of the count of open positions.
-    pub fn missed_counts(&self) -> Vec<&'static str> {
-        self.met_seldom(&COUNTED)
-    }
-
-    fn met_seldom(&self, names: &[&'static str]) -> Vec<&'static str> {
         let times = |what: &str| self.0.get(what).copied().unwrap_or(0);
-        names.iter().copied().filter(|what| times(what) < times("scenarios") / 1_000).collect()
+        AIMED.into_iter().filter(|what| times(what) < times("scenarios") / 1_000).collect()
     }
 
     pub fn add(&mut self, scenario: &Scenario, played: &Played) {
@@ -70,7 +47,6 @@ impl Covered {
             self.met("calls", 1);
             self.met("closes refused", usize::from(outcome.answer == 9));
             self.step(step, before, after);
-            self.count(step, outcome.answer, before, after);
             self.reply(&outcome.reply, before);
             before = after;
         }
@@ -96,36 +72,6 @@ impl Covered {
             self.met("shorts opened", usize::from(then == 0 && now.quantity < 0));
             self.met("closed whole", usize::from(then != 0 && now.quantity == 0));
             self.met("saturated quantities", usize::from(now.quantity == i64::MAX || now.quantity <= -i64::MAX));
-        }
-    }
-
-    /// What a call met of the count of open positions.
-    fn count(&mut self, step: &Step, answer: u64, before: &View, after: &View) {
-        let then = |now: &Held| before.positions.iter().find(|p| p.symbol == now.symbol).map(|p| p.quantity);
-        let moved = |was_open: bool| {
-            let turned = |now: &&Held| (then(now).unwrap_or(0) != 0) == was_open && (now.quantity != 0) != was_open;
-            after.positions.iter().filter(turned).count()
-        };
-        let (opened, closed) = (moved(false), moved(true));
-        let again = after.positions.iter().filter(|now| then(now) == Some(0) && now.quantity != 0).count();
-        let last = after.positions.iter().filter(|now| then(now) == Some(i64::MIN) && now.quantity == -1).count();
-        let full = before.positions.len() == 64;
-        self.met("entries opened", opened);
-        self.met("flat entries opened again", again);
-        self.met("covers that leave one micro-share", last);
-        match step {
-            Step::Rebalance { .. } => {
-                let trimmed = after.trimmed_count > before.trimmed_count;
-                self.met("rebalances that open as many as they close", usize::from(opened > 0 && opened == closed));
-                self.met("rebalances that trim and leave the count", usize::from(trimmed && opened + closed == 0));
-                self.met("full tables", usize::from(full));
-                self.met("full tables with flat entries", usize::from(full && before.open_count < 64));
-                self.met("full tables of which an entry is opened again", usize::from(full && again > 0));
-            }
-            Step::Close { .. } => {
-                self.met("closes that leave the position open", usize::from(answer == 0 && closed == 0));
-            }
-            _ => {}
         }
     }
 

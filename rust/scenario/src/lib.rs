@@ -7,7 +7,6 @@ mod cash_first;
 mod ceiling;
 mod covered;
 mod generate;
-mod open_count;
 mod plan;
 mod random;
 mod spoil;
@@ -18,7 +17,6 @@ pub use cash_first::cash_first;
 pub use ceiling::ceiling;
 pub use covered::Covered;
 pub use generate::{ordinary, scenario};
-pub use open_count::{newcomers, open_count};
 pub use random::Random;
 pub use spoil::spoiled;
 pub use text::{asked, written};
@@ -177,8 +175,6 @@ pub struct View {
     pub trimmed_count: u64,
     pub trimmed_shortfall: i64,
     pub record_count: u64,
-    /// How many positions are open.
-    pub open_count: u64,
     pub equity_count: u64,
     pub return_count: u64,
     pub previous_equity: i64,

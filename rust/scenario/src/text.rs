@@ -85,7 +85,7 @@ pub fn record(r: &Record) -> String {
 pub fn account(v: &View) -> String {
     let counters = format!("{} {} {} {}", v.last_order_count, v.last_notional, v.trimmed_count, v.trimmed_shortfall);
     let series = format!("{} {} {}", v.equity_count, v.return_count, v.previous_equity);
-    let mut text = format!("< account {} {counters} {} {} {series}\n", v.cash, v.record_count, v.open_count);
+    let mut text = format!("< account {} {counters} {} {series}\n", v.cash, v.record_count);
     let _ = writeln!(text, "< settings {}", settings(&v.settings));
     for position in &v.positions {
         let _ = writeln!(text, "< position {}", held(position));

@@ -63,7 +63,7 @@ entries! {
     tc_cash(account: &[u8], out: &mut [u8]);
     "The settings, as they were given."
     tc_settings(account: &[u8], out: &mut [u8]);
-    "The counters: `layout::COUNTERS` has their words, the count of open positions among them."
+    "The counters: `layout::COUNTERS` has their words."
     tc_counters(account: &[u8], out: &mut [u8]);
     "The series: `layout::SERIES` has their words."
     tc_series(account: &[u8], out: &mut [u8]);

@@ -15,8 +15,6 @@ pub enum Kind {
     Mark,
     /// 0, or a signed number from the one of another row on, the floor, which has this place in its table.
     Ceiling(usize),
-    /// How many positions of the account have a quantity other than 0.
-    OpenPositions,
     /// Must be 0.
     Reserved,
 }
@@ -70,7 +68,7 @@ words! {
     TrimmedCount Count;
     TrimmedShortfall Amount(i64::MIN);
     RecordCount Count;
-    OpenCount OpenPositions;
+    OpenCount Reserved;
     ClosedTotal Reserved;
 }
 

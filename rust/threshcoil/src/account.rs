@@ -35,7 +35,7 @@ pub struct Snapshot {
     pub equity: i64,
     /// Of open positions, in symbol order.
     pub weights: Weights,
-    /// How many positions are open; without prices [`Account::open_count`] tells it.
+    /// How many positions are open.
     pub num_positions: u64,
     /// The profit taken of all positions, flat ones too.
     pub total_realized_pnl: i64,
@@ -131,8 +131,7 @@ impl Account {
         Ok(account)
     }
 
-    /// The whole account, as the C interface of this version has it; what is stored or sent is [`Account::saved`], since another
-    /// version may find these bytes [`Refusal::Unsound`].
+    /// The whole account, as the C interface of this version has it; what is stored or sent is [`Account::saved`].
     pub fn as_bytes(&self) -> &[u8; Account::SIZE] {
         &self.0
     }
@@ -219,25 +218,6 @@ impl Account {
     /// How many fills were recorded so far.
     pub fn record_count(&self) -> u64 {
         u64::from_le_bytes(self.counter(Counter::RecordCount))
-    }
-
-    /// How many positions are open: flat ones are none of them. No price is asked for, and the library is not called: the count is read
-    /// where it stands in the account, which is sound, so that it is right.
-    ///
-    /// ```
-    /// # use threshcoil::{Account, Context, CostModel, ExecutionKind, Price, Refusal, Settings, Symbol, Target};
-    /// # let mut account = Account::open(50_000, &Settings::new(CostModel::default()), &mut [0])?;
-    /// # let fund = Symbol::new("FUND")?;
-    /// # let context = Context { period_index: 0, kind: ExecutionKind::Rebalance };
-    /// # let (targets, prices) = ([Target { symbol: fund, weight: 0.5 }], [Price { symbol: fund, price: 1_000 }]);
-    /// account.rebalance_simple(&targets, &prices, context, &mut [])?;
-    /// assert_eq!((account.open_count(), account.positions().count()), (1, 1));
-    /// account.close_position_at(fund, 1_000, context, &mut [])?;
-    /// assert_eq!((account.open_count(), account.positions().count()), (0, 1));
-    /// # Ok::<(), Refusal>(())
-    /// ```
-    pub fn open_count(&self) -> u64 {
-        u64::from_le_bytes(bytes::word(&self.0, layout::counter(Counter::OpenCount)))
     }
 
     /// How many places of the caller's equity buffer are filled.

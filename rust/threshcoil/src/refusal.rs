@@ -54,8 +54,7 @@ pub enum Refusal {
     NotHeld,
     /// 10: the equity or return buffer has no free place.
     BufferFull,
-    /// 11: the bytes are no sound account, as where their count of open positions is wrong, or a file has an unknown form, a mark or a
-    /// count out of its bounds, or no sound account.
+    /// 11: the bytes are no sound account, or a file has an unknown form, a mark or a count out of its bounds, or no sound account.
     Unsound,
     /// 12: a return series is empty or has a member that is not finite.
     BadSeries,

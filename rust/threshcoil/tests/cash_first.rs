@@ -4,7 +4,7 @@ use threshcoil::{
     Account, Context, CostModel, ExecutionKind, ExecutionRecord, Price, Settings, Shares, Symbol, Target,
 };
 use threshcoil_sys as port;
-use threshcoil_sys::layout::{self, Column, Counter};
+use threshcoil_sys::layout::{self, Column};
 
 const FREE: CostModel = CostModel { commission_bps: 0.0, slippage_bps: 0.0, min_commission: 0, max_commission: 0 };
 const FIFTEEN: CostModel = CostModel { min_commission: 15, ..FREE };
@@ -26,9 +26,7 @@ fn put(bytes: &mut [u8], word: usize, value: [u8; 8]) {
 fn holding(cash: i64, settings: Settings, held: &[(u8, i64)]) -> Account {
     let settings = Settings { recording: true, cash_first: true, ..settings };
     let mut bytes = *Account::open(cash, &settings, &mut [0]).expect("good settings").as_bytes();
-    for count in [layout::POSITIONS, layout::counter(Counter::OpenCount)] {
-        put(&mut bytes, count, (held.len() as u64).to_le_bytes());
-    }
+    put(&mut bytes, layout::POSITIONS, (held.len() as u64).to_le_bytes());
     for (k, (letter, price)) in held.iter().enumerate() {
         put(&mut bytes, layout::column(Column::Symbol) + k, padded(*letter));
         put(&mut bytes, layout::column(Column::Quantity) + k, Shares::SCALE.to_le_bytes());

@@ -88,7 +88,6 @@ fn the_greatest_short_is_covered_but_for_one_micro_share() {
     });
     let mut bytes = *account.as_bytes();
     put(&mut bytes, layout::POSITIONS, 1);
-    put(&mut bytes, layout::counter(Counter::OpenCount), 1);
     put(&mut bytes, layout::column(Column::Symbol), u64::from_le_bytes(symbol("S").padded()));
     put(&mut bytes, layout::column(Column::Quantity), i64::MIN as u64);
     account = Account::from_bytes(&bytes).expect("a short of 2^63 micro-shares at average 0 is sound");
@@ -96,7 +95,6 @@ fn the_greatest_short_is_covered_but_for_one_micro_share() {
     assert_eq!(account.close_position_at(symbol("S"), 1, NOW, &mut records), Ok(1));
     assert_eq!(records[0].quantity, Shares(i64::MAX));
     assert_eq!(account.position(symbol("S")).expect("done").map(|p| p.quantity), Some(Shares(-1)));
-    assert_eq!(account.open_count(), 1, "so it is still open");
 }
 
 #[test]
@@ -266,7 +264,7 @@ fn eleven_is_an_account_that_is_not_sound() {
     let nan = f64::NAN.to_bits();
     let [symbols, totals] = [Column::Symbol, Column::TotalCost].map(layout::column);
     // Cash below 0, a rate that is none, marks and flags above 1, a cap without its mark, a ceiling below the floor, a count
-    // without its position, an open position counted where none is, an unused place that is not zero.
+    // without its position, an unused place that is not zero.
     for (word, value) in [
         (layout::CASH, 1 << 63),
         (layout::setting(Setting::CommissionBps), nan),
@@ -278,14 +276,12 @@ fn eleven_is_an_account_that_is_not_sound() {
         (layout::setting(Setting::MaxCommission), u64::MAX),
         (layout::POSITIONS, 1),
         (layout::POSITIONS, 65),
-        (layout::counter(Counter::OpenCount), 1),
-        (layout::counter(Counter::OpenCount), u64::MAX),
         (symbols + 63, 1),
         (totals + 63, 1),
     ] {
         assert_eq!(spoiled(word, value), Err(Refusal::Unsound), "word {word}");
     }
-    // Nothing is asked of another counter.
+    // Nothing is asked of a counter.
     assert!(spoiled(layout::counter(Counter::LastNotional), 1 << 63).is_ok());
     // It comes before all others, in an opening too.
     let mut short = [7; Account::SIZE - 1];

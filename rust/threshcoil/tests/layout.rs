@@ -213,9 +213,6 @@ fn queries_tell_what_the_document_has() {
     let mut equity = [0; 8];
     assert_eq!(port::tc_total_equity(&account, &price, &mut equity), 0);
     assert_eq!(equity[..], row("What queries tell", "`tc_cash`"));
-    let mut counters = [0xaa; layout::COUNTERS_SIZE];
-    assert_eq!(port::tc_counters(&account, &mut counters), 0);
-    assert_eq!(counters[..], row("What queries tell", "`tc_counters`"));
     let mut position = [0; layout::POSITION_SIZE];
     let symbol = u64::from_be_bytes(*b"AAPL\0\0\0\0");
     assert_eq!(port::tc_position(&account, symbol, &mut position), 0);

@@ -69,9 +69,7 @@ fn fullest() -> Account {
     for series in [Series::EquityCount, Series::ReturnCount] {
         put(layout::series(series), u64::MAX.to_le_bytes());
     }
-    for count in [layout::POSITIONS, layout::counter(Counter::OpenCount)] {
-        put(count, 64u64.to_le_bytes());
-    }
+    put(layout::POSITIONS, 64u64.to_le_bytes());
     for k in 0..64 {
         put(layout::column(Column::Symbol) + k, *format!("SYMBOL{k:02}").as_bytes().first_chunk().unwrap());
         for column in [Column::Quantity, Column::Average, Column::Realized, Column::TotalCost] {
@@ -185,7 +183,6 @@ fn the_stored_file_of_form_1_is_read() {
     assert_eq!((account.trimmed_fill_count(), account.trimmed_shortfall_cents()), (2, 33));
     assert_eq!((account.record_count(), account.equity_count(), account.return_count()), (41, 9, 8));
     assert_eq!(account.previous_equity(), 12_000);
-    assert_eq!(account.open_count(), 3, "which is not in the file");
     let held = [
         ("A", 5_000_000, 100, -7, 500),
         ("BB", -3_000_000, 90, 40, -270),

@@ -16,7 +16,7 @@ use Rattle.c_fill.specs.declared.Seen.{Seen}
 use Rattle.c_fill.specs.Single.{asked_terms, asked_order, is_none, held_of}
 
 abbrev pub book_of : List ℤ → List ℕ → Book
-book_of ms ts = record { cash = get_or ms 0 (pos 0); count = 0; open_count = 0; trimmed = get_or ts 0 0; shortfall = get_or ms 1 (pos 0); sequence = get_or ts 1 0; written = 0; hint = 0 }
+book_of ms ts = record { cash = get_or ms 0 (pos 0); count = 0; trimmed = get_or ts 0 0; shortfall = get_or ms 1 (pos 0); sequence = get_or ts 1 0; written = 0; hint = 0 }
 
 abbrev pub state_alone : Book → Position → State
 state_alone b p = record { cash = b.cash; held = held_of p; trimmed = b.trimmed; shortfall = b.shortfall; sequence = b.sequence; records = [] }

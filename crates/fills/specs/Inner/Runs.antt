@@ -1,10 +1,9 @@
 -- Orders in columns, the scalars and lent columns of a run as what fills change, and what the functions do to them.
-use Rattle.std.specs.Prelude.{ℕ, ◌-◌, ◌≡◌, Bool, false, List, [], ◌∷◌, ◌++◌, length, take, ℤ}
+use Rattle.std.specs.Prelude.{ℕ, ◌≡◌, Bool, false, List, [], ◌∷◌, ◌++◌, length, take, ℤ}
 use Rattle.sums.specs.Sums.{sat_add}
-use Rattle.position.specs.Rows.{held}
 use Rattle.position.specs.Shares.{is_zero}
 use Rattle.table.specs.Keyed.{pick}
-use Rattle.table.specs.Rows.{zip2, give, Cols, rows, holding, open_of}
+use Rattle.table.specs.Rows.{zip2, give, Cols, rows}
 use Rattle.table.specs.Inner.Rows.{Ordered}
 use Rattle.fills.specs.declared.deal.Deal.{Deal}
 use Rattle.fills.specs.declared.fill.Filled.{Filled}
@@ -29,7 +28,6 @@ unfoldable pub counted_in : Deal → Book → Book
 counted_in d b = record {
   cash = b.cash;
   count = b.count;
-  open_count = b.open_count;
   trimmed = pick d.trimmed (next_count b.trimmed) b.trimmed;
   shortfall = pick d.trimmed (sat_add b.shortfall d.lost) b.shortfall;
   sequence = b.sequence;
@@ -41,16 +39,11 @@ counted_in d b = record {
 unfoldable pub sequence_after : Bool → ℕ → ℕ
 sequence_after recording n = pick recording (next_count n) n
 
--- the count of open positions after one of them goes from a quantity to another: one more where it was flat and is open, one less where it was open and is flat
-unfoldable pub moved_by : ℕ → ℤ → ℤ → ℕ
-moved_by n before after = pick (is_zero before) (pick (is_zero after) n (next_count n)) (pick (is_zero after) (n - 1) n)
-
--- the scalars after a fill that leaves this cash, this count of positions and this count of open ones
-unfoldable pub settled_in : ℤ → ℕ → ℕ → Bool → ℕ → Book → Book
-settled_in cash count opens recorded hint b = record {
+-- the scalars after a fill that leaves this cash and this count of positions
+unfoldable pub settled_in : ℤ → ℕ → Bool → ℕ → Book → Book
+settled_in cash count recorded hint b = record {
   cash = cash;
   count = count;
-  open_count = opens;
   trimmed = b.trimmed;
   shortfall = b.shortfall;
   sequence = sequence_after recorded b.sequence;
@@ -60,7 +53,7 @@ settled_in cash count opens recorded hint b = record {
 
 -- the same scalars with another count of places written
 abbrev pub kept_in : ℕ → Book → Book
-kept_in w b = record { cash = b.cash; count = b.count; open_count = b.open_count; trimmed = b.trimmed; shortfall = b.shortfall; sequence = b.sequence; written = w; hint = b.hint }
+kept_in w b = record { cash = b.cash; count = b.count; trimmed = b.trimmed; shortfall = b.shortfall; sequence = b.sequence; written = w; hint = b.hint }
 
 -- the record of a fill, if there is one
 abbrev pub records_of : Filled → List ExecutionRecord
@@ -73,15 +66,12 @@ pub record Fills (t : Terms) (o : Order) (b : Book) (c : Cols) (r : Filled) (d :
   pub written : r.book.written ≡ b.written
   pub recorded : r.recorded ≡ pick (is_zero (deal_of t o b.cash).quantity.0) false t.recording
   pub made : r.«record» ≡ record_by t o (deal_of t o b.cash) b.sequence b.cash
-  pub opens : r.book.open_count ≡ moved_by b.open_count (held (holding o.symbol.0 (rows b.count c))) (held (holding o.symbol.0 (rows r.book.count d)))
 
 -- (b, c) and the lent slices to (r, d) and theirs by a run of orders
 pub record Runs (t : Terms) (os : List Order) (b : Book) (c : Cols) (l : Buffers) (r : Book) (d : Cols) (k : Buffers) : Type 0 where
   pub ordered : Ordered r.count d
   pub done : state r d (fill_all t os (state b c [])).records ≡ fill_all t os (state b c [])
   pub kept : k ≡ stored_all (fill_all t os (state b c [])).records l
-  -- a count of open positions that was true stays true
-  pub opens : b.open_count ≡ open_of (rows b.count c) → r.open_count ≡ open_of (rows r.count d)
 
 -- what a run is given: ordered columns, and order columns of 64 places
 pub record Given (n : ℕ) (c : Cols) (os : List ℕ) (oq op : List ℤ) : Type 0 where

@@ -37,7 +37,6 @@ abbrev pub book_of_ledger : Ledger → Book
 book_of_ledger h = record {
   cash = h.cash;
   count = h.count;
-  open_count = h.counters.open_count;
   trimmed = h.counters.trimmed_fill_count;
   shortfall = h.counters.trimmed_shortfall_cents;
   sequence = h.counters.record_count;
@@ -55,7 +54,6 @@ ledger_from h b orders traded = record {
     trimmed_fill_count = b.trimmed;
     trimmed_shortfall_cents = b.shortfall;
     record_count = b.sequence;
-    open_count = b.open_count;
   };
   series = h.series;
   count = b.count;

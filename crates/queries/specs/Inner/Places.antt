@@ -37,6 +37,7 @@ pub record First (ps : List Position) (ls : List ℤ) (r : Unpriced) : Type 0 wh
 
 pub record AddsUp (ps : List Position) (ls : List ℤ) (r : Sums) : Type 0 where
   pub worth : (price : ℕ → ℤ) → PositionPrices price ps ls → r.worth ≡ worth_from price (pos 0) ps
+  pub opens : r.open_count ≡ length (open_ones ps)
   pub profit : r.profit ≡ profit_from (pos 0) ps
 
 -- ---- weights in two columns

@@ -1,5 +1,5 @@
 -- Columns that stand in order, and what the functions on columns do, whatever the columns hold.
-use Rattle.std.specs.Prelude.{ℕ, zero, suc, ◌+◌, ◌-◌, ◌≤◌, ◌≡◌, Bool, true, List, [], ◌∷◌, take, drop, set, replicate, leb, ltb}
+use Rattle.std.specs.Prelude.{ℕ, zero, suc, ◌+◌, ◌-◌, ◌≤◌, ◌≡◌, List, [], ◌∷◌, take, drop, set, replicate, leb, ltb}
 use Rattle.position.specs.Rows.{fresh, key_of}
 use Rattle.position.specs.declared.position.Position.{Position}
 use Rattle.table.specs.Keyed.{pick, both, put64}
@@ -56,8 +56,3 @@ held_at (Absent i) s c = fresh s
 abbrev pub posted : Found → Position → CountedCols → CountedCols
 posted (At i) p t = pick (ltb i 64) (counted_cols t.count (set_all i p t.columns)) t
 posted (Absent i) p t = pick (both (ltb t.count 64) (leb i t.count)) (counted_cols (t.count + 1) (open_all i (t.count - i) p t.columns)) t
-
--- whether the table holds the key that was looked for: it was found, or the count rose since
-abbrev pub stands_in : Found → ℕ → ℕ → Bool
-stands_in (At i) before after = true
-stands_in (Absent i) before after = ltb before after

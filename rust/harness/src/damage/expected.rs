@@ -1,9 +1,9 @@
-//! The answer that document 01's table gives, with the count of document 02's request 7 and the place of request 9, read from the bytes as they
-//! are lent: nothing here calls the port.
+//! The answer that document 01's table gives, with the place of document 02's request 9, read from the bytes as they are lent: nothing here
+//! calls the port.
 
 use super::{Entry, Entry::*, Given};
 use crate::place::{Answer, DONE, Pair, Place, earliest, twice};
-use threshcoil_sys::layout::{self, Column, Counter, Kind, Setting, Word};
+use threshcoil_sys::layout::{self, Column, Kind, Setting, Word};
 
 /// The first that holds of 11, 1, 6, 2, 3, 5, 4, 8, 7, 9, 10, 12.
 pub fn expected(entry: Entry, g: &Given) -> Answer {
@@ -135,17 +135,14 @@ impl Book {
         let columns = words[layout::POSITIONS + 1..].chunks_exact(layout::PLACES);
         let unused = columns.into_iter().all(|column| column[count..].iter().all(|w| *w == 0));
         let each = (0..count).all(|i| good_symbol(symbols[i]) && sound_position(quantity[i], average[i], total[i]));
-        let held: Vec<(u64, i64)> = symbols.iter().zip(&quantity).take(count).map(|(s, q)| (*s, *q)).collect();
-        // "11 also when the count is wrong"
-        let open = held.iter().filter(|(_, quantity)| *quantity != 0).count();
-        let counted = words[layout::counter(Counter::OpenCount)] == open as u64;
+        let held = symbols.iter().zip(&quantity).take(count).map(|(s, q)| (*s, *q)).collect();
         let book = Book {
             recording: words[layout::setting(Setting::Recording)] == 1,
             equities: words[layout::series(layout::Series::EquityCount)],
             returns: words[layout::series(layout::Series::ReturnCount)],
             held,
         };
-        (ascend && unused && each && counted).then_some(book)
+        (ascend && unused && each).then_some(book)
     }
 }
 
@@ -169,8 +166,6 @@ fn are_good(words: &[u64], rows: &[Word]) -> bool {
         Kind::Rate(most) => (0.0..=most).contains(&f64::from_bits(words[i])),
         Kind::Amount(least) => words[i] as i64 >= least,
         Kind::Count => true,
-        // That it is right is asked beside the positions.
-        Kind::OpenPositions => true,
         Kind::Flag => words[i] < 2,
         Kind::Mark => words[i] == 1 || words[i..i + 2] == [0, 0],
         Kind::Ceiling(floor) => words[i] == 0 || words[i] as i64 >= words[floor] as i64,

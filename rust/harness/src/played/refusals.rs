@@ -240,7 +240,6 @@ fn openings(k: i64) -> Option<Vec<Row>> {
         trimmed_count: 0,
         trimmed_shortfall: 0,
         record_count: 0,
-        open_count: 0,
         equity_count: 0,
         return_count: 0,
         previous_equity: 0,

@@ -3,7 +3,7 @@
 use crate::port::Port;
 use scenario::{Account, Random, Scenario, scenario};
 use std::collections::BTreeSet;
-use threshcoil_sys::layout::{self, ACCOUNT_SIZE, Column, Counter, Kind, PLACES, Word};
+use threshcoil_sys::layout::{self, ACCOUNT_SIZE, Column, Kind, PLACES, Word};
 
 pub fn account(random: &mut Random) -> Vec<u8> {
     if random.one_in(8) { played(random) } else { any(random) }
@@ -44,9 +44,6 @@ fn any(random: &mut Random) -> Vec<u8> {
         put(&mut account, layout::column(Column::Symbol) + k, u64::from_le_bytes(*symbol));
         columns.iter().zip(figures).for_each(|(column, n)| put(&mut account, layout::column(*column) + k, n as u64));
     }
-    let quantities = account[layout::bytes_of(layout::column(Column::Quantity), PLACES)].chunks_exact(8);
-    let open = quantities.filter(|quantity| **quantity != [0; 8]).count();
-    put(&mut account, layout::counter(Counter::OpenCount), open as u64);
     account
 }
 
@@ -72,8 +69,7 @@ impl Draw<'_> {
                 Kind::Flag | Kind::Mark => u64::from(self.fullest || self.random.one_in(2)),
                 Kind::Ceiling(_) if !self.fullest && self.random.one_in(2) => 0,
                 Kind::Ceiling(floor) => self.amount(words[floor] as i64) as u64,
-                // Counted once the positions are there.
-                Kind::OpenPositions | Kind::Reserved => 0,
+                Kind::Reserved => 0,
             });
         }
         words

@@ -1,5 +1,5 @@
-//! Document 02's request 5, with request 7's count and request 9's places in a file, as a second program, by tables and in wide numbers; it
-//! calls nothing of the port. An account is its bytes of the C interface.
+//! Document 02's request 5, with request 9's places in a file, as a second program, by tables and in wide numbers; it calls nothing of the port.
+//! An account is its bytes of the C interface.
 
 use crate::damage::sound;
 use crate::place::{Answer, Place};
@@ -237,16 +237,7 @@ impl Reading<'_> {
                 put(&mut self.account, place + 1, cap);
             }
         }
-        (0..word(&self.account, layout::POSITIONS) as usize).try_for_each(|k| self.position(k))?;
-        self.count();
-        Ok(())
-    }
-
-    /// "It isn't written to the saved file; loading works it out."
-    fn count(&mut self) {
-        let is_open = |k: &usize| word(&self.account, layout::column(Column::Quantity) + k) != 0;
-        let open = (0..PLACES).filter(is_open).count();
-        put(&mut self.account, layout::counter(Counter::OpenCount), open as u64);
+        (0..word(&self.account, layout::POSITIONS) as usize).try_for_each(|k| self.position(k))
     }
 
     fn position(&mut self, k: usize) -> Result<(), Refused> {

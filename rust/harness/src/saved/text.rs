@@ -26,33 +26,24 @@ pub fn emit(seed: u64, count: u64, out: &mut dyn Write) -> bool {
     })
 }
 
-/// A word of a sound account that may make it unsound, among those that the text can say. A count of open positions is off by as much; a
-/// position without a quantity is flat, so that its count alone is wrong.
+/// A word of a sound account that may make it unsound, among those that the text can say.
 fn spoiled(random: &mut Random, account: &[u8]) -> Vec<u8> {
-    const OPEN: usize = layout::counter(Counter::OpenCount);
-    const FIGURES: [usize; 3] =
-        [layout::column(Column::Average), layout::column(Column::TotalCost), layout::column(Column::Quantity)];
-    const WORDS: [usize; 10] = [
+    let mut account = account.to_vec();
+    const WORDS: [usize; 8] = [
         layout::CASH,
         layout::setting(Setting::MinCommission),
         layout::setting(Setting::QuantityStep),
         layout::setting(Setting::CommissionBps),
         layout::setting(Setting::SlippageBps),
         layout::setting(Setting::MaxCommission),
-        OPEN,
-        FIGURES[0],
-        FIGURES[1],
-        FIGURES[2],
+        layout::column(Column::Average),
+        layout::column(Column::TotalCost),
     ];
-    let (found, mut account) = (view(account), account.to_vec());
-    let mut put = |place: usize, word: u64| account[layout::bytes_of(place, 1)].copy_from_slice(&word.to_le_bytes());
-    // Without a position the text has no place for the last three.
-    let word = random.pick(if found.positions.is_empty() { &WORDS[..7] } else { &WORDS });
-    match (word, random.pick(&[0, 1, u64::MAX, 1 << 63, 0x7ff8 << 48, 0x7ff0 << 48])) {
-        (OPEN, off) => put(OPEN, found.open_count.wrapping_add(off)),
-        (word, 0) if word == FIGURES[2] => FIGURES.iter().for_each(|figure| put(*figure, 0)),
-        (word, spoilt) => put(word, spoilt),
-    }
+    // Without a position the text has no place for the last two.
+    let held = account[layout::bytes_of(layout::POSITIONS, 1)] != [0; 8];
+    let word = random.pick(if held { &WORDS } else { &WORDS[..6] });
+    let spoilt = random.pick(&[0, 1, u64::MAX, 1 << 63, 0x7ff8 << 48, 0x7ff0 << 48]);
+    account[layout::bytes_of(word, 1)].copy_from_slice(&spoilt.to_le_bytes());
     account
 }
 
@@ -124,7 +115,6 @@ fn view(account: &[u8]) -> View {
         trimmed_count: counter(Counter::TrimmedCount),
         trimmed_shortfall: counter(Counter::TrimmedShortfall) as i64,
         record_count: counter(Counter::RecordCount),
-        open_count: counter(Counter::OpenCount),
         equity_count: series(Series::EquityCount),
         return_count: series(Series::ReturnCount),
         previous_equity: series(Series::PreviousEquity) as i64,

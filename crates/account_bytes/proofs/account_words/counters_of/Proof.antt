@@ -19,20 +19,8 @@ number-at-requires-2 c κs = search rules
 word-at-requires-3 : tie.Need-word-at-requires-3
 word-at-requires-3 c κs = search rules
 
-word-at-requires-4 : tie.Need-word-at-requires-4
-word-at-requires-4 c κs = search rules
-
 returns : tie.Need-returns
-returns c =
-    let b = c.before.before in
-    simp (
-      b.before.before.before.word_at_lem.ensures,
-      kept (record { sfits = b.before.before.number_at.type-inv }) b.before.before.number_at.ensures,
-      b.before.word-at2.ensures,
-      kept (record { sfits = b.number-at2.type-inv }) b.number-at2.ensures,
-      c.before.word-at3.ensures,
-      c.word-at4.ensures,
-    )
+returns c = simp (c.before.before.before.before.word_at_lem.ensures, kept (record { sfits = c.before.before.before.number_at.type-inv }) c.before.before.before.number_at.ensures, c.before.before.word-at2.ensures, kept (record { sfits = c.before.number-at2.type-inv }) c.before.number-at2.ensures, c.word-at3.ensures)
 
 pub counters-of-spec : {M : Type 1} → statement M
 counters-of-spec =
@@ -43,5 +31,4 @@ counters-of-spec =
     word-at-requires-2
     number-at-requires-2
     word-at-requires-3
-    word-at-requires-4
     returns)

@@ -3,10 +3,9 @@ use mathlib.Core.Path.{◌≡◌, refl, sym, ap, ◌∙◌}
 use mir.Syntax.{w64}
 use mir.Val.{SFits}
 use mir.Facts.{to_z-of_z}
-use Rattle.position.specs.declared.shares.Shares.{Shares}
 use Rattle.table.specs.Rows.{Cols, cols}
 use Rattle.fills.specs.Inner.Deal.{deal_of, record_by}
-use Rattle.fills.specs.Inner.Runs.{moved_by, settled_in}
+use Rattle.fills.specs.Inner.Runs.{settled_in}
 use Rattle.fills.proofs.Filling.{none_filled, one_filled}
 use borrow.Author.Rules.{rules}
 use Rattle.fills.proofs.fill.fill_one.Statement.{statement}
@@ -69,12 +68,6 @@ fill-requires c κs = search rules
 post-requires : tie.Need-post-requires
 post-requires c κs = search rules
 
-standing-requires : tie.Need-standing-requires
-standing-requires c κs = search rules
-
-moved-requires : tie.Need-moved-requires
-moved-requires c κs = search rules
-
 place-after-requires : tie.Need-place-after-requires
 place-after-requires c κs = search rules
 
@@ -84,9 +77,7 @@ settled-in-requires c κs = search rules
 returns-2 : tie.Need-returns-2
 returns-2 c s =
     let e = c.before.before in
-    let m = e.before in
-    let x = m.before in
-    let p = x.before in
+    let p = e.before in
     let w = p.before.before.before.before.before.before in
     let h = w.before.before in
     let f = h.before.before.before.before.before.before in
@@ -97,9 +88,8 @@ returns-2 c s =
     let ew = simp (to_z-of_z (price-fits (deal k))) at w.fill.ensures in
     let eb = simp (to_z-of_z (after-fits (deal k))) at c.settled-in.ensures in
     one_filled a.t a.o a.b (columns (began k)) d (deal-is k) s _ (record_is k) (sym y.before.is_zero.ensures ∙ y.if1.false)
-    f.find.result h.held.result w.fill.result p.post.result e.place_after.result m.moved.result _ f.find.ensures h.held.ensures ew p.post.ensures
-    (m.moved.ensures ∙ ap (λ (s : Shares). moved_by a.b.open_count h.held.result.quantity.0 s.0) x.standing.ensures)
-    (eb ∙ ap (settled_in d.cash_after p.post.result m.moved.result a.t.recording e.place_after.result) k.counted.ensures) refl
+    f.find.result h.held.result w.fill.result p.post.result e.place_after.result _ f.find.ensures h.held.ensures ew p.post.ensures
+    (eb ∙ ap (settled_in d.cash_after p.post.result a.t.recording e.place_after.result) k.counted.ensures) refl
 
 pub fill-one-spec : {M : Type 1} → statement M
 fill-one-spec =
@@ -114,8 +104,6 @@ fill-one-spec =
     held-requires
     fill-requires
     post-requires
-    standing-requires
-    moved-requires
     place-after-requires
     settled-in-requires
     returns-2)

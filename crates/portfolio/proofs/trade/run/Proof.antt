@@ -10,7 +10,7 @@ use Rattle.fills.specs.Records.{Buffers, buffers}
 use Rattle.fills.specs.Inner.Runs.{orders, Runs, Given}
 use Rattle.account.specs.declared.account.Account.{Account}
 use Rattle.account.specs.Inner.Account.{account_with}
-use Rattle.account.proofs.SoundAccounts.{account-ordered, account_open}
+use Rattle.account.proofs.SoundAccounts.{account-ordered}
 use Rattle.portfolio.specs.Answers.{record_places}
 use Rattle.portfolio.specs.Rebalance.{terms_by}
 use Rattle.portfolio.specs.Inner.Trades.{Fillable, book_of_ledger}
@@ -90,7 +90,7 @@ returns c =
     λ f.
     ap (λ k. filing (account_with k (columns-after q)) (buffers-after q)) p
     ∙ run-filed x.h (columns-at s) (orders-at s) x.period x.kind x.words.now x.ints.now q.fill-all.result (columns-after q) l.1.1.1.1.1.0 l.1.1.1.1.1.1.0
-    x.m (orders-most x.m x.os.now x.oq.now x.op.now) f.roomy (runs q f) (account_open (account-at s) f.sound f.full) x.order-count x.notional
+    x.m (orders-most x.m x.os.now x.oq.now x.op.now) f.roomy (runs q f) x.order-count x.notional
 
 pub run_spec : {M : Type 1} → statement M
 run_spec =

@@ -1,6 +1,6 @@
--- Cash from the first number, each other part from its own function, and the count from the table.
+-- Cash from the first number, and each other part from its own function.
 use Rattle.account_bytes.proofs.Runs.{kept}
-use Rattle.saved_form.specs.Values.{counters_of, account_of}
+use Rattle.saved_form.specs.Values.{account_of}
 use borrow.Author.Rules.{rules}
 use Rattle.saved_form.proofs.values.account_of.Statement.{statement}
 use Rattle.saved_form.proofs.values.account_of.Tie as tie
@@ -20,19 +20,14 @@ array-read-unfolded c = search rules
 unfolded-requires : tie.Need-unfolded-requires
 unfolded-requires c κs = search rules
 
-count-open-requires : tie.Need-count-open-requires
-count-open-requires c κs = search rules
-
 returns : tie.Need-returns
-unfolding account_of counters_of
+unfolding account_of
 returns c =
-    let u = c.before.before.before.before.before in
     simp (
-      kept (record { sfits = u.unfolded.type-inv }) u.unfolded.ensures,
-      u.before.before.before.settings-of.ensures,
-      u.before.before.counters-of.ensures,
-      u.before.series-of.ensures,
-      c.before.count-open.ensures,
+      kept (record { sfits = c.unfolded.type-inv }) c.unfolded.ensures,
+      c.before.before.before.settings-of.ensures,
+      c.before.before.counters-of.ensures,
+      c.before.series-of.ensures,
     )
 
 pub account-of-spec : {M : Type 1} → statement M
@@ -44,5 +39,4 @@ account-of-spec =
     series-of-requires
     array-read-unfolded
     unfolded-requires
-    count-open-requires
     returns)

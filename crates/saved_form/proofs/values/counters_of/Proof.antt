@@ -5,8 +5,8 @@ use borrow.Author.Rules.{rules}
 use Rattle.saved_form.proofs.values.counters_of.Statement.{statement}
 use Rattle.saved_form.proofs.values.counters_of.Tie as tie
 
-array-read-t6 : tie.Need-array-read-t6
-array-read-t6 c = search rules
+array-read-t5 : tie.Need-array-read-t5
+array-read-t5 c = search rules
 
 array-read-unfolded : tie.Need-array-read-unfolded
 array-read-unfolded c = search rules
@@ -14,8 +14,8 @@ array-read-unfolded c = search rules
 unfolded-requires : tie.Need-unfolded-requires
 unfolded-requires c κs = search rules
 
-array-read-t13 : tie.Need-array-read-t13
-array-read-t13 c = search rules
+array-read-t12 : tie.Need-array-read-t12
+array-read-t12 c = search rules
 
 array-read-unfolded-2 : tie.Need-array-read-unfolded-2
 array-read-unfolded-2 c = search rules
@@ -23,8 +23,8 @@ array-read-unfolded-2 c = search rules
 unfolded-requires-2 : tie.Need-unfolded-requires-2
 unfolded-requires-2 c κs = search rules
 
-array-read-t20 : tie.Need-array-read-t20
-array-read-t20 c = search rules
+array-read-t19 : tie.Need-array-read-t19
+array-read-t19 c = search rules
 
 returns : tie.Need-returns
 unfolding counters_of
@@ -38,11 +38,11 @@ pub counters-of-spec : {M : Type 1} → statement M
 counters-of-spec =
     tie.close
     (tie.spec
-    array-read-t6
+    array-read-t5
     array-read-unfolded
     unfolded-requires
-    array-read-t13
+    array-read-t12
     array-read-unfolded-2
     unfolded-requires-2
-    array-read-t20
+    array-read-t19
     returns)

@@ -1,4 +1,4 @@
--- The scalars, then the columns and the count.
+-- The scalars, then the columns.
 use mathlib.Core.Path.{◌∙◌, sym}
 use mir.Syntax.{w64}
 use mir.Val.{SFits}
@@ -23,8 +23,8 @@ returns c =
     let t = sym e ∙ not-true _ c.if1.true in
     rw t
 
-sound-counted-requires : tie.Need-sound-counted-requires
-sound-counted-requires c κs = search rules
+sound-columns-requires : tie.Need-sound-columns-requires
+sound-columns-requires c κs = search rules
 
 returns-2 : tie.Need-returns-2
 unfolding sound_account
@@ -33,7 +33,7 @@ returns-2 c =
     let s = o.before.before.before in
     let e = simp (to_z-of_z (cash-fits s)) at o.before.sound-scalars.ensures in
     let t = sym e ∙ not-false _ o.if1.false in
-    rw t c.sound-counted.ensures
+    rw t c.sound-columns.ensures
 
 pub is-sound-spec : {M : Type 1} → statement M
-is-sound-spec = tie.close (tie.spec sound-scalars-requires returns sound-counted-requires returns-2)
+is-sound-spec = tie.close (tie.spec sound-scalars-requires returns sound-columns-requires returns-2)
