@@ -7,7 +7,7 @@ use crate::soundness::{sound_columns, sound_scalars};
 use table::Table;
 
 // What calls report beside the positions.
-#[derive(Drop)]
+#[derive(Clone, Copy)]
 pub struct Counters {
     pub last_rebalance_order_count: u64,
     pub last_rebalance_notional: i64,
@@ -18,14 +18,14 @@ pub struct Counters {
 }
 
 // How far the lent equity and return buffers are filled.
-#[derive(Drop)]
+#[derive(Clone, Copy)]
 pub struct Series {
     pub equity_count: u64,
     pub return_count: u64,
     pub prev_equity: i64,
 }
 
-#[derive(Drop)]
+#[derive(Clone, Copy)]
 pub struct Account {
     pub cash: i64,
     pub settings: Settings,
@@ -36,7 +36,7 @@ pub struct Account {
 
 // An account but for the columns of its positions, which a caller lends. An account by value is some 2,700 bytes, copied at each function
 // that takes it and is not compiled into its caller.
-#[derive(Drop)]
+#[derive(Clone, Copy)]
 pub struct Ledger {
     pub cash: i64,
     pub settings: Settings,

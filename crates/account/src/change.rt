@@ -8,7 +8,7 @@ use crate::settings::{Settings, TradeCap};
 use answer::Answer;
 
 // An answer, and the account after the call.
-#[derive(Drop)]
+#[derive(Clone, Copy)]
 pub struct Changed {
     pub answer: Answer,
     pub account: Account,

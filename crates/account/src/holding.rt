@@ -12,7 +12,7 @@ use position::{Position, Symbol};
 use table::{Found, Table, find, held};
 
 // "a position the account lacks is 0 with an absent mark"
-#[derive(Drop)]
+#[derive(Clone, Copy)]
 pub struct Held {
     pub answer: Answer,
     pub present: bool,

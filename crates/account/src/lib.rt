@@ -1,4 +1,6 @@
 // The account: cash, settings, counters, series and positions, by value or as a ledger and lent columns.
+#![tactic(auto)]
+
 mod account;
 mod change;
 mod holding;

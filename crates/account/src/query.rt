@@ -9,45 +9,45 @@ use answer::Answer;
 use cost_model::CostModel;
 
 // An amount of money.
-#[derive(Drop)]
+#[derive(Clone, Copy)]
 pub struct Cents {
     pub answer: Answer,
     pub cents: i64,
 }
 
 // A share count, in micro-shares.
-#[derive(Drop)]
+#[derive(Clone, Copy)]
 pub struct Step {
     pub answer: Answer,
     pub micro_shares: i64,
 }
 
-#[derive(Drop)]
+#[derive(Clone, Copy)]
 pub struct Count {
     pub answer: Answer,
     pub count: u64,
 }
 
 // A rate in basis points.
-#[derive(Drop)]
+#[derive(Clone, Copy)]
 pub struct Rate {
     pub answer: Answer,
     pub bps: f64,
 }
 
-#[derive(Drop)]
+#[derive(Clone, Copy)]
 pub struct Flag {
     pub answer: Answer,
     pub on: bool,
 }
 
-#[derive(Drop)]
+#[derive(Clone, Copy)]
 pub struct Cap {
     pub answer: Answer,
     pub cap: TradeCap,
 }
 
-#[derive(Drop)]
+#[derive(Clone, Copy)]
 pub struct Costs {
     pub answer: Answer,
     pub cost_model: CostModel,

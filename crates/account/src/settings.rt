@@ -6,7 +6,7 @@ use cost_model::CostModel;
 use doubles::is_finite;
 
 // The most orders that one rebalance admits.
-#[derive(Drop)]
+#[derive(Clone, Copy)]
 pub enum TradeCap {
     Absent,
     // 0 admits nothing.
@@ -14,12 +14,12 @@ pub enum TradeCap {
 }
 
 // What is chosen at opening and has no setter.
-#[derive(Drop)]
+#[derive(Clone, Copy)]
 pub struct Rules {
     pub cost_model: CostModel,
 }
 
-#[derive(Drop)]
+#[derive(Clone, Copy)]
 pub struct Settings {
     pub rules: Rules,
     // Order sizing granularity in micro-shares.

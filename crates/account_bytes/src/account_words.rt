@@ -19,7 +19,7 @@ use table::Table;
 use word_bytes::{put_word, unsigned, word_at};
 
 // All zeros where the bytes hold no account.
-#[derive(Drop)]
+#[derive(Clone, Copy)]
 pub struct ReadAccount {
     pub good: bool,
     pub account: Account,

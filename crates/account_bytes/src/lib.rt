@@ -1,4 +1,6 @@
 // Accounts and settings as the bytes that the C interface is lent.
+#![tactic(auto)]
+
 mod account_words;
 mod columns;
 mod run;

@@ -16,7 +16,7 @@ use cost_model::CostModel;
 use word_bytes::{pattern, unsigned, word_at};
 
 // All zeros where the bytes hold no settings.
-#[derive(Drop)]
+#[derive(Clone, Copy)]
 pub struct ReadSettings {
     pub good: bool,
     pub settings: Settings,

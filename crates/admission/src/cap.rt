@@ -11,7 +11,7 @@ use position::Shares;
 use table::used;
 
 // What becomes of an order that is offered to the caps.
-#[derive(Drop)]
+#[derive(Clone, Copy)]
 pub(crate) enum Offered {
     // Admitted whole, with what remains of the notional cap.
     Whole(i64),

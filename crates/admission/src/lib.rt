@@ -1,4 +1,6 @@
 // The plan as lent columns: added to in order, cut to the caps, and put into running order.
+#![tactic(auto)]
+
 mod cap;
 mod column;
 mod insert;

@@ -1,17 +1,19 @@
 // The answers of document 01's table, those that document 02 adds, and the place that some of them tell.
+#![tactic(auto)]
+
 ghost use Rattle.std.specs.Prelude.{◌≡◌};
 ghost use Rattle.answer.specs.Numbers.{number_of, is_done};
 ghost use Rattle.answer.specs.Places.{above, entry_place, place_of, word_of};
 
 // An entry of a call's lists: the list, and the index in it.
-#[derive(Drop)]
+#[derive(Clone, Copy)]
 pub enum Entry {
     Target(usize),
     Price(usize),
 }
 
 // Those of an entry tell it, and those of a file's bytes tell the byte.
-#[derive(Drop)]
+#[derive(Clone, Copy)]
 pub enum Answer {
     Done,
     BadSetting,

@@ -1,4 +1,6 @@
 // The C interface, accounts in lent bytes: opening, setters and what an account tells of itself.
+#![tactic(auto)]
+
 pub mod change;
 mod filed;
 pub mod opening;

@@ -1,4 +1,6 @@
 // The C interface, one fill by itself: on an account of at most one position, its numbers in lent places.
+#![tactic(auto)]
+
 ghost use Rattle.std.specs.Prelude.{◌≡◌, ◌≤◌, length};
 ghost use Rattle.cost_model.specs.Costs.{model, with_ceiling};
 ghost use Rattle.table.specs.Rows.{cols};
@@ -15,7 +17,7 @@ use position::{Position, Shares, Symbol};
 use table::Found;
 
 // What a caller asks: the settings that a fill goes by, its period and the number of its kind, and the order.
-#[derive(Drop)]
+#[derive(Clone, Copy)]
 struct Ask {
     costs: CostModel,
     quantity_step: i64,
@@ -27,7 +29,7 @@ struct Ask {
 }
 
 // A fill, and the position of its symbol after it.
-#[derive(Drop)]
+#[derive(Clone, Copy)]
 struct Seen {
     filled: Filled,
     position: Position,

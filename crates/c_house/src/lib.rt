@@ -1,4 +1,6 @@
 // The house return through the C interface: marks as bytes, equities and what is told as plain numbers.
+#![tactic(auto)]
+
 ghost use Rattle.std.specs.Prelude.{◌≡◌, ◌∷◌, ◌+◌, ◌-◌, ◌≤◌, length, take};
 ghost use Rattle.c_house.specs.Inner.Placed.{placed};
 ghost use Rattle.c_house.specs.Lent.{lent, places, told, house_told};

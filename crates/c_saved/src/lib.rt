@@ -1,4 +1,6 @@
 // Saving an account and loading it through the C interface.
+#![tactic(auto)]
+
 ghost use Rattle.std.specs.Prelude.{◌≡◌};
 ghost use Rattle.c_saved.specs.Saved.{told, save_in, load_in};
 

@@ -1,4 +1,6 @@
 // The lists of a call, targets and prices: what may be wrong with them, and the price that a list gives.
+#![tactic(auto)]
+
 mod list;
 mod lookup;
 mod price;

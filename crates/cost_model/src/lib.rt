@@ -1,4 +1,6 @@
 // Transaction cost modeling.
+#![tactic(auto)]
+
 ghost use Rattle.std.specs.Prelude.{◌≡◌, nat_abs};
 ghost use Rattle.position.specs.Shares.{is_positive};
 ghost use Rattle.cost_model.specs.Costs.{free, commission, at_least, at_most, cost, sign, slippage_factor, slipped, effective, good_rate, good_ceiling, good_costs};
@@ -7,7 +9,7 @@ use position::Shares;
 
 // Transaction costs: a commission in basis points of notional with a minimum and a maximum per fill, and slippage as price impact. "The two rates and
 // the floor travel together as one value", and the ceiling with them.
-#[derive(Drop)]
+#[derive(Clone, Copy)]
 pub struct CostModel {
     // Commission in basis points (1 bps = 0.01%).
     pub commission_bps: f64,

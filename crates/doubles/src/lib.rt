@@ -1,4 +1,6 @@
 // Casts, rounding and the tests for finite of binary64, for every input, from a double's sign, exponent and fraction fields.
+#![tactic(auto)]
+
 ghost use Rattle.std.specs.Prelude.{◌≡◌, ◌^◌, ◌<◌, ◌+◌};
 ghost use Rattle.std.specs.Float.Ieee.Nearest.{closest};
 ghost use Rattle.doubles.specs.Fields.{exponent_of, fraction_of, whole_of, nearest_of, signed_size};

@@ -6,7 +6,7 @@ use crate::terms::{Order, Terms};
 use position::Shares;
 
 // Quantity 0: nothing fills. Money is in cents.
-#[derive(Drop)]
+#[derive(Clone, Copy)]
 pub struct Deal {
     pub quantity: Shares,
     // Effective price, after slippage.

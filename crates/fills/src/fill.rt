@@ -13,7 +13,7 @@ use position::{Shares, Symbol};
 use table::Found;
 
 // One fill: the scalars after it, and the record of it, to be kept where `recorded` says so.
-#[derive(Drop)]
+#[derive(Clone, Copy)]
 pub struct Filled {
     pub book: Book,
     pub recorded: bool,

@@ -1,4 +1,6 @@
 // Filling orders on lent columns: one fill, its record, and a run of fills.
+#![tactic(auto)]
+
 mod deal;
 mod fill;
 mod record;

@@ -9,7 +9,7 @@ use crate::terms::{Order, Terms};
 use position::{Shares, Symbol};
 
 // Why a fill was made.
-#[derive(Drop)]
+#[derive(Clone, Copy)]
 pub enum ExecutionKind {
     // While rebalancing to target weights.
     Rebalance,
@@ -18,7 +18,7 @@ pub enum ExecutionKind {
 }
 
 // Quantity is signed micro-shares; all money is in cents.
-#[derive(Drop)]
+#[derive(Clone, Copy)]
 pub struct ExecutionRecord {
     // Zero-based, across all recorded fills of the account.
     pub sequence: u64,

@@ -4,7 +4,7 @@ use cost_model::CostModel;
 use position::{Shares, Symbol};
 
 // A planned order: signed micro-shares at the listed price.
-#[derive(Drop)]
+#[derive(Clone, Copy)]
 pub struct Order {
     pub symbol: Symbol,
     pub quantity: Shares,
@@ -12,7 +12,7 @@ pub struct Order {
 }
 
 // What every fill of one call shares.
-#[derive(Drop)]
+#[derive(Clone, Copy)]
 pub struct Terms {
     pub costs: CostModel,
     pub quantity_step: i64,
@@ -22,7 +22,7 @@ pub struct Terms {
 }
 
 // The scalars that a run of fills carries beside the lent columns.
-#[derive(Drop)]
+#[derive(Clone, Copy)]
 pub struct Book {
     pub cash: i64,
     pub count: usize,

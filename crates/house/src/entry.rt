@@ -8,7 +8,7 @@ use crate::sum::{HALF, raise};
 use std::num::{wrapping_add_u64, wrapping_sub_u64};
 
 // Its first equity and its change, both raised; 0, raised, where it is left out. Where the change is not in i64 it is wrapped.
-#[derive(Drop)]
+#[derive(Clone, Copy)]
 pub(crate) struct Entry {
     pub(crate) first: u64,
     pub(crate) change: u64,

@@ -4,7 +4,7 @@ ghost use Rattle.house.specs.Inner.Parts.{Grown};
 
 use doubles::i64_to_f64;
 
-#[derive(Drop)]
+#[derive(Clone, Copy)]
 pub(crate) struct Growths {
     pub(crate) positive: bool,
     pub(crate) figure: f64,

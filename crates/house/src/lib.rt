@@ -1,4 +1,6 @@
 // One figure for a group of accounts: document 02, "House return over a group of accounts".
+#![tactic(auto)]
+
 ghost use Rattle.std.specs.Prelude.{◌≡◌, ◌*◌, ◌≤◌, length};
 ghost use Rattle.house.specs.Places.{group_in, good_marks};
 ghost use Rattle.house.specs.House.{most_accounts, within, whole, early_answer, refusal, house_of_group, house_of};
@@ -20,7 +22,7 @@ pub const MOST_ACCOUNTS: u64 = 32;
 pub const MOST_PARTS: u64 = 64;
 
 // The report: after a refusal all but the answer is 0. The first places of a column are used, one for each account or each part.
-#[derive(Drop)]
+#[derive(Clone, Copy)]
 pub struct House {
     pub answer: Answer,
     pub figure: f64,

@@ -14,7 +14,7 @@ use word_bytes::unsigned;
 // with both words.
 const REACH: u64 = 0x80_0000_0000_0000;
 
-#[derive(Drop)]
+#[derive(Clone, Copy)]
 struct LowPart {
     first: u64,
     gain: u64,
@@ -22,7 +22,7 @@ struct LowPart {
 }
 
 // As in `Parts`, and whether every equity that counts is within reach of 0: below 2^56 where it is.
-#[derive(Drop)]
+#[derive(Clone, Copy)]
 pub(crate) struct LowParts {
     pub(crate) spread: u64,
     pub(crate) firsts: [i64; 64],

@@ -11,7 +11,7 @@ use crate::low::sum_low;
 use crate::sum::{finish, plus, start};
 use sums::Wide;
 
-#[derive(Drop)]
+#[derive(Clone, Copy)]
 struct Part {
     fits: bool,
     first: Wide,
@@ -19,7 +19,7 @@ struct Part {
 }
 
 // Of each part its first sum and its summed change, of each account the two words of its change so far, and whether all that is finished is in i64.
-#[derive(Drop)]
+#[derive(Clone, Copy)]
 pub(crate) struct Parts {
     pub(crate) fits: bool,
     pub(crate) firsts: [i64; 64],

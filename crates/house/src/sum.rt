@@ -8,7 +8,7 @@ use sums::Wide;
 pub(crate) const HALF: u64 = 0x8000_0000_0000_0000;
 
 // What a sum has come to, and whether that is in i64; where it is not, the value means nothing.
-#[derive(Drop)]
+#[derive(Clone, Copy)]
 pub(crate) struct Finished {
     pub(crate) fits: bool,
     pub(crate) value: i64,

@@ -6,7 +6,7 @@ ghost use Rattle.house.specs.Inner.Parts.{Totalled};
 use crate::sum::{Finished, finish, plus, raise, start};
 use sums::Wide;
 
-#[derive(Drop)]
+#[derive(Clone, Copy)]
 pub(crate) struct Totals {
     pub(crate) fits: bool,
     pub(crate) changes: [i64; 32],

@@ -1,1 +1,3 @@
 // What holds of the house return of every group: definitions and laws only.
+
+#![tactic(auto)]

@@ -1,4 +1,6 @@
 // Lists of the C interface: entries of whole words in bytes, read into columns and written from them.
+#![tactic(auto)]
+
 mod entry;
 mod figure;
 mod price;

@@ -9,7 +9,7 @@ use word_bytes::{signed, symbol_at, word_at};
 const MOST_PRICES: usize = 128;
 
 // The first `count` places of each column; all others are 0.
-#[derive(Drop)]
+#[derive(Clone, Copy)]
 pub struct Prices {
     // Whether the bytes are a whole number of entries within the bound. If not, nothing is read.
     pub whole: bool,

@@ -9,7 +9,7 @@ use word_bytes::{float, symbol_at, word_at};
 const MOST_TARGETS: usize = 64;
 
 // The first `count` places of each column; all others are 0.
-#[derive(Drop)]
+#[derive(Clone, Copy)]
 pub struct Targets {
     // Whether the bytes are a whole number of entries within the bound. If not, nothing is read.
     pub whole: bool,

@@ -10,7 +10,7 @@ use saved_form::{HEAD_FIELDS, POSITION_FIELDS};
 use seven_bit::unfolded;
 
 // A position read whole, and where the next one starts; or the refusal, and its place.
-#[derive(Drop)]
+#[derive(Clone, Copy)]
 pub struct Entry {
     pub answer: Answer,
     pub next: usize,

@@ -7,7 +7,7 @@ use answer::Answer;
 use saved_form::{HEAD_FIELDS, POSITION_COUNT};
 
 // Those that were read whole, 0 for the rest, and where they ended. The last one, how many positions follow, also stands by itself.
-#[derive(Drop)]
+#[derive(Clone, Copy)]
 pub struct Head {
     pub answer: Answer,
     pub next: usize,

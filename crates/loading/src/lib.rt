@@ -1,4 +1,6 @@
 // Reading a saved account.
+#![tactic(auto)]
+
 mod entry;
 mod file;
 mod head;

@@ -11,7 +11,7 @@ use saved_form::{allows, nth_field, stands};
 use seven_bit::{Number, number_at};
 
 // Where a run of numbers ended: after the last one, or at the first refusal.
-#[derive(Drop)]
+#[derive(Clone, Copy)]
 pub(crate) struct Reached {
     pub(crate) answer: Answer,
     pub(crate) next: usize,

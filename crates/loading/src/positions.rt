@@ -9,7 +9,7 @@ use answer::{Answer, is_done};
 use table::{Found, Table, post, used};
 
 // How many positions were read whole, and where they ended: after the last one, or at the first fault.
-#[derive(Drop)]
+#[derive(Clone, Copy)]
 struct Filed {
     answer: Answer,
     count: usize,
@@ -17,7 +17,7 @@ struct Filed {
 }
 
 // The positions that were read whole, and where they ended.
-#[derive(Drop)]
+#[derive(Clone, Copy)]
 pub struct Positions {
     pub answer: Answer,
     pub next: usize,

@@ -14,7 +14,7 @@ pub struct Reader<'a> {
 }
 
 // What stands in a file, up to the first refusal.
-#[derive(Drop)]
+#[derive(Clone, Copy)]
 pub struct Parsed {
     pub form: Number,
     pub head: Head,

@@ -2,7 +2,7 @@
 ghost use Rattle.std.specs.Prelude.{◌≡◌};
 ghost use Rattle.metrics.specs.Curve.{raised, flat, curve_after};
 
-#[derive(Drop)]
+#[derive(Clone, Copy)]
 pub(crate) struct Curve {
     pub(crate) equity: f64,
     pub(crate) peak: f64,

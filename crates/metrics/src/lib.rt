@@ -1,4 +1,6 @@
 // The figures of a return series that need no root and no power, in the Rust's order of operations.
+#![tactic(auto)]
+
 mod curve;
 mod ratio;
 mod series;
@@ -13,7 +15,7 @@ use answer::Answer;
 // At most 4,096 returns in one set of figures.
 const MOST_RETURNS: usize = 4096;
 
-#[derive(Drop)]
+#[derive(Clone, Copy)]
 pub struct Figures {
     // Total cumulative return (e.g., 0.15 = 15%)
     pub total_return: f64,
@@ -35,7 +37,7 @@ pub struct Figures {
     pub kelly: f64,
 }
 
-#[derive(Drop)]
+#[derive(Clone, Copy)]
 pub struct Metrics {
     pub answer: Answer,
     pub figures: Figures,

@@ -8,7 +8,7 @@ use crate::tally::Tally;
 use doubles::{all_finite, is_finite};
 
 // What the returns so far have come to, and whether all of them are finite.
-#[derive(Drop)]
+#[derive(Clone, Copy)]
 pub(crate) struct Gathered {
     pub(crate) finite: bool,
     pub(crate) curve: Curve,

@@ -3,7 +3,7 @@ ghost use Rattle.std.specs.Prelude.{◌≡◌, ◌<◌};
 ghost use Rattle.metrics.specs.Tally.{most_returns};
 ghost use Rattle.metrics.specs.Inner.Tally.{counted_if, summed_if, no_returns, tally_after};
 
-#[derive(Drop)]
+#[derive(Clone, Copy)]
 pub(crate) struct Tally {
     pub(crate) winning_periods: u64,
     pub(crate) losing_periods: u64,

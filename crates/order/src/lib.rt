@@ -1,1 +1,3 @@
 // When the order in which orders run matters: definitions and laws only.
+
+#![tactic(auto)]

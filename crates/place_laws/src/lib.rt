@@ -1,1 +1,3 @@
 // What the place of a refusal says of the lists that were given: definitions and laws only.
+
+#![tactic(auto)]

@@ -1,4 +1,6 @@
 // The plan of a rebalance, made in lent columns: closes in symbol order, then targets in list order.
+#![tactic(auto)]
+
 mod close;
 mod plan;
 mod target;

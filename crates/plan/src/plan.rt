@@ -10,7 +10,7 @@ use account::Settings;
 use admission::{admit, notional_sum, run_order};
 
 // How many orders there are, and what they come to at listed prices.
-#[derive(Drop)]
+#[derive(Clone, Copy)]
 pub struct Planned {
     pub count: usize,
     pub notional: i64,

@@ -1,4 +1,6 @@
 // Whole calls on an account: what each is refused for, and what it leaves.
+#![tactic(auto)]
+
 mod close;
 mod equity;
 mod rebalance;

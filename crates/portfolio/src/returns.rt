@@ -14,7 +14,7 @@ use answer::{Answer, is_done};
 use call_lists::check_prices;
 
 // An answer, and the series after the call.
-#[derive(Drop)]
+#[derive(Clone, Copy)]
 pub struct Noted {
     pub answer: Answer,
     pub series: Series,

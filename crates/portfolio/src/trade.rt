@@ -14,7 +14,7 @@ use fills::{Book, ExecutionKind, Terms, fill_all};
 use table::Table;
 
 // An answer, the count of records in the first places of the lent slices, and the account.
-#[derive(Drop)]
+#[derive(Clone, Copy)]
 pub struct Traded {
     pub answer: Answer,
     pub records: usize,
@@ -22,7 +22,7 @@ pub struct Traded {
 }
 
 // The same but for the columns, which are lent and hold the positions after the call.
-#[derive(Drop)]
+#[derive(Clone, Copy)]
 pub struct Ran {
     pub answer: Answer,
     pub records: usize,

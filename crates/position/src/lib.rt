@@ -1,4 +1,6 @@
 // Position tracking for a single symbol.
+#![tactic(auto)]
+
 mod position;
 mod shares;
 mod symbol;

@@ -9,7 +9,7 @@ use crate::symbol::Symbol;
 use answer::{Answer, Entry};
 
 // Quantity (positive = long, negative = short), average entry price and realized profit; money in cents.
-#[derive(Drop)]
+#[derive(Clone, Copy)]
 pub struct Position {
     pub symbol: Symbol,
     pub quantity: Shares,
@@ -20,7 +20,7 @@ pub struct Position {
 }
 
 // What a fill by itself answers, and the position after it.
-#[derive(Drop)]
+#[derive(Clone, Copy)]
 pub struct Filled {
     pub answer: Answer,
     pub position: Position,

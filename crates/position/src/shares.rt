@@ -6,7 +6,7 @@ ghost use Rattle.position.specs.Shares.{from_whole, to_f64, whole_shares, is_zer
 
 // A share count in fixed-point micro-shares: 1 unit is 0.000001 share.
 // A type of its own, so that a share count never stands for a price or a value.
-#[derive(Drop)]
+#[derive(Clone, Copy)]
 pub struct Shares(pub(crate) i64);
 
 // The largest count of whole shares whose micro-shares fit.

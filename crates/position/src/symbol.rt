@@ -4,7 +4,7 @@ ghost use Rattle.position.specs.Rows.{symbol};
 ghost use Rattle.position.specs.Symbols.{good_byte, good_symbol, of_bytes};
 
 // Eight bytes as one number, the first byte highest, so that number order is byte order.
-#[derive(Drop)]
+#[derive(Clone, Copy)]
 pub struct Symbol(pub u64);
 
 impl Symbol {

@@ -2,7 +2,7 @@
 use answer::Answer;
 
 // Not present, with symbol 0, where each holding has a price.
-#[derive(Drop)]
+#[derive(Clone, Copy)]
 pub struct Unpriced {
     pub answer: Answer,
     pub present: bool,
@@ -10,7 +10,7 @@ pub struct Unpriced {
 }
 
 // Symbols and their weights in the first places; the others are 0.
-#[derive(Drop)]
+#[derive(Clone, Copy)]
 pub struct Weighed {
     pub count: usize,
     pub symbol: [u64; 64],
@@ -18,7 +18,7 @@ pub struct Weighed {
 }
 
 // Money in cents.
-#[derive(Drop)]
+#[derive(Clone, Copy)]
 pub struct Snapshot {
     pub answer: Answer,
     pub cash: i64,
@@ -30,7 +30,7 @@ pub struct Snapshot {
 }
 
 // Weights with an answer.
-#[derive(Drop)]
+#[derive(Clone, Copy)]
 pub struct Weights {
     pub answer: Answer,
     pub count: usize,

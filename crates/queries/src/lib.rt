@@ -1,4 +1,6 @@
 // Queries with prices: the first holding without a price, the weights of an account, and its snapshot.
+#![tactic(auto)]
+
 mod answered;
 mod price;
 mod query;

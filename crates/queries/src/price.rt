@@ -7,7 +7,7 @@ ghost use Rattle.queries.specs.Inner.Places.{Looks, PricesOf};
 
 use call_lists::{is_ascending, quote, sort_prices};
 
-#[derive(Drop)]
+#[derive(Clone, Copy)]
 pub(crate) struct Prices {
     pub price: [i64; 64],
 }

@@ -8,7 +8,7 @@ ghost use Rattle.queries.specs.Inner.Places.{AddsUp};
 use position::Shares;
 use table::{Found, held};
 
-#[derive(Drop)]
+#[derive(Clone, Copy)]
 pub(crate) struct Sums {
     // The finished sum of the values.
     pub worth: i64,

@@ -13,7 +13,7 @@ use portfolio::{Traded, close_position_at, rebalance_simple};
 use table::used;
 
 // The records of a call, in number slices of 64 places.
-#[derive(Drop)]
+#[derive(Clone, Copy)]
 pub(crate) struct Filed {
     pub words: [u64; 256],
     pub ints: [i64; 512],
@@ -21,7 +21,7 @@ pub(crate) struct Filed {
 }
 
 // What a call answers, with its records in number slices of 64 places.
-#[derive(Drop)]
+#[derive(Clone, Copy)]
 pub(crate) struct Numbers {
     pub words: [u64; 256],
     pub ints: [i64; 512],

@@ -1,4 +1,6 @@
 // Execution records in a lent run of structs, over the number slices in which the calls file them.
+#![tactic(auto)]
+
 mod into;
 mod read;
 mod run;

@@ -1,4 +1,6 @@
 // Replays a stored sample of the Rust's answers: each row's function on the row's numbers, beside the row's answer.
+#![tactic(auto)]
+
 mod casts_rows;
 mod costs_rows;
 mod figures_rows;
@@ -11,7 +13,7 @@ mod wide_rows;
 use libc::STDOUT_FILENO;
 use row::Row;
 
-#[derive(Drop)]
+#[derive(Clone, Copy)]
 enum Outcome {
     Same,
     Differs,

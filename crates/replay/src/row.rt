@@ -3,7 +3,7 @@ ghost use Rattle.std.specs.Prelude.{◌+◌, ◌≤◌};
 
 use position::Shares;
 
-#[derive(Drop)]
+#[derive(Clone, Copy)]
 pub struct Row {
     pub leaf: u64,
     pub a: u64,

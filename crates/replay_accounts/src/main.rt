@@ -1,4 +1,6 @@
 // Replays a stored sample of the Rust's accounts: each row's call on the account that the row before it tells, beside the Rust's answer and account.
+#![tactic(auto)]
+
 mod call;
 mod row;
 mod state;
@@ -8,7 +10,7 @@ use account::Account;
 use libc::STDOUT_FILENO;
 use row::Row;
 
-#[derive(Drop)]
+#[derive(Clone, Copy)]
 enum Outcome {
     Same,
     Differs,

@@ -20,7 +20,7 @@ const CEILING: usize = 11;
 pub const POSITION_COUNT: usize = 22;
 
 // What a number may be as it is met.
-#[derive(Drop)]
+#[derive(Clone, Copy)]
 pub enum Kind {
     Any,
     // 0 or 1.
@@ -33,7 +33,7 @@ pub enum Kind {
     Positions,
 }
 
-#[derive(Drop)]
+#[derive(Clone, Copy)]
 pub struct Field {
     // The first form that has it. Read from an earlier one it is 0, as at opening.
     pub since: u64,

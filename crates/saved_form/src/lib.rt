@@ -1,4 +1,6 @@
 // The saved form of an account: which numbers stand in a file, in which order, and what each may be.
+#![tactic(auto)]
+
 mod field;
 mod values;
 

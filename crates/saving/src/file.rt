@@ -13,7 +13,7 @@ use saved_form::{FORM, head_values};
 use seven_bit::put_number;
 
 // How long the file is; 0 where it was refused.
-#[derive(Drop)]
+#[derive(Clone, Copy)]
 pub struct Saved {
     pub answer: Answer,
     pub length: usize,

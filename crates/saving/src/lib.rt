@@ -1,4 +1,6 @@
 // Writing a saved account.
+#![tactic(auto)]
+
 mod fields;
 mod file;
 mod positions;

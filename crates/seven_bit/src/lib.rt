@@ -1,4 +1,6 @@
 // The numbers of a saved account: groups of seven bits, and signed numbers as unsigned ones.
+#![tactic(auto)]
+
 mod folding;
 mod read;
 mod write;
@@ -9,7 +11,7 @@ pub use read::number_at;
 pub use write::put_number;
 
 // A number read, and where the next one starts; or a refusal, and its place.
-#[derive(Drop)]
+#[derive(Clone, Copy)]
 pub struct Number {
     pub answer: Answer,
     pub value: u64,

@@ -1,4 +1,6 @@
 // What an order may be: its notional, drift and size, its truncation to a maximum, and the largest buy that cash pays for.
+#![tactic(auto)]
+
 ghost use Rattle.std.specs.Prelude.{◌≡◌, ◌*◌, ◌/◌, ◌^◌, ◌<◌, ◌≤◌, true};
 ghost use Rattle.sums.specs.Sums.{notional, snap};
 ghost use Rattle.sums.specs.Wide.{wide};

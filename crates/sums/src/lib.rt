@@ -1,4 +1,6 @@
 // Sums on 64-bit words: document 01, 'Sums'. Every public function is total and says by one equation what it answers.
+#![tactic(auto)]
+
 ghost use Rattle.std.specs.Prelude.{◌≡◌, ◌+◌, ◌*◌, ◌/◌, ◌%◌, ◌^◌, ◌<◌, ◌≤◌, min, pos, int_div, unsigned_abs};
 ghost use Rattle.std.specs.Int.Signed.{non_neg};
 ghost use Rattle.std.specs.Bool.{xor};
@@ -13,7 +15,7 @@ pub const MIN: i64 = -9223372036854775808;
 pub const SCALE: u64 = 1000000;
 
 // Two 64-bit words, the upper one first.
-#[derive(Drop)]
+#[derive(Clone, Copy)]
 pub struct Wide {
     pub hi: u64,
     pub lo: u64,
@@ -102,7 +104,7 @@ pub fn mul_wide(a: u64, b: u64) -> Wide
     plus_middle(plus_middle(ends, a1 * b0), a0 * b1)
 }
 
-#[derive(Drop)]
+#[derive(Clone, Copy)]
 struct Quotient {
     quotient: u64,
     rest: u64,

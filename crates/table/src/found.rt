@@ -4,7 +4,7 @@ ghost use Rattle.table.specs.Inner.Keyed.{Rising};
 ghost use Rattle.table.specs.Inner.Places.{Finds, found, shorter};
 
 // The place of a key, or the place at which it would be inserted.
-#[derive(Drop)]
+#[derive(Clone, Copy)]
 pub enum Found {
     At(usize),
     Absent(usize),

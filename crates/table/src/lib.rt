@@ -1,4 +1,6 @@
 // The positions of an account: a table ordered by symbol, with room for 64.
+#![tactic(auto)]
+
 mod column;
 mod found;
 mod ordered;

@@ -8,7 +8,7 @@ use crate::found::Found;
 use position::{Position, Shares, Symbol};
 
 // At most 64 positions in ascending order of their symbols; the places past the count are zero.
-#[derive(Drop)]
+#[derive(Clone, Copy)]
 pub struct Table {
     pub count: usize,
     pub symbol: [u64; 64],

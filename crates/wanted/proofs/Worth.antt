@@ -52,7 +52,7 @@ worth-settled c n symbols prices r f h rises w =
 pub worth-fits : (price : ℕ → ℤ) (sum : ℤ) (ps : List Position) → SFits w64 sum → SFits w64 (worth_from price sum ps)
 unfolding worth_from
 worth-fits price sum [] h = h
-worth-fits price sum (p ∷ ps) h = worth-fits price _ ps (sat_add-fits sum _)
+worth-fits price sum (p ∷ ps) h = worth-fits price (sat_add sum (worth price p)) ps (sat_add-fits sum _)
 
 pub equity-fits : (price : ℕ → ℤ) (cash : ℤ) (ps : List Position) → SFits w64 (equity_of price cash ps)
 unfolding equity_of

@@ -1,4 +1,6 @@
 // What a rebalance wants before any cap: equity at the listed prices, and the orders that close holdings or move them to their targets.
+#![tactic(auto)]
+
 mod equity;
 mod limits;
 mod planned;

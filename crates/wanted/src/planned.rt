@@ -8,7 +8,7 @@ use position::{Shares, Symbol};
 use sizing::{drift_bps_of, size_qty};
 
 // A candidate order, before the caps are applied. One of quantity 0 is no order.
-#[derive(Drop)]
+#[derive(Clone, Copy)]
 pub struct PlannedOrder {
     pub symbol: Symbol,
     pub quantity: Shares,

@@ -1,4 +1,6 @@
 // Bytes of the C interface: words of 64 bits, eight bytes a word, and what a word stands for.
+#![tactic(auto)]
+
 mod eight;
 mod number;
 mod symbol;
