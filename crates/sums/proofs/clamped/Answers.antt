@@ -1,11 +1,11 @@
-use Rattle.std.proofs.Common.{◌≡◌, ℕ, ◌^◌, ◌<◌, ◌≤◌, min, true, pos, ◌-ℤ◌, sym, ap, ◌∙◌, arith, to_z-of_z, w64, SFits, rules}
+-- Below 2 ^ 63 the magnitude is exact; from there on it is past the top, and at or past the bottom.
+use Rattle.std.proofs.Common.{◌≡◌, ℕ, ◌^◌, ◌<◌, ◌≤◌, min, true, pos, ◌-ℤ◌, sym, ap, ◌∙◌, arith, to_z-of_z, w64, SFits}
 use mir.ValLaws.{to_z_pos}
 use Rattle.sums.specs.Sums.{clamp64, signed}
 use Rattle.sums.specs.Wide.{value_of}
 use Rattle.sums.proofs.Ints.{P, N, P_pos, N-pos, P-sub, P-signed, N-signed, signed-pos, fits_of, eq_of, clamp_same, clamp_top, clamp_low}
 use Rattle.sums.proofs.clamped.Goals as goal
 
--- Below 2 ^ 63 the magnitude is exact; from there on it is past the top, and at or past the bottom.
 module _ (n low : ℕ) (e : low ≡ min n 18446744073709551615) where
   exact : low < 2 ^ 63 → low ≡ n
   exact h = omega arith

@@ -1,11 +1,11 @@
-use Rattle.std.proofs.Common.{◌≡◌, ℕ, ◌+◌, ◌*◌, ◌/◌, ◌%◌, ◌^◌, ◌<◌, sym, ap, ◌∙◌, subst, mod-lt, arith, rules}
+-- The upper word's quotient, and the lower word's with what the upper one leaves.
+use Rattle.std.proofs.Common.{◌≡◌, ℕ, ◌+◌, ◌*◌, ◌/◌, ◌%◌, ◌^◌, ◌<◌, sym, ap, ◌∙◌, subst, arith}
 use lib.Arith.{digits_div}
 use Rattle.sums.specs.Wide.{value_of}
 use Rattle.sums.proofs.TwoWords.{words_of}
 use Rattle.sums.proofs.Division.{upper_quotient, digit_lt}
 use Rattle.sums.proofs.div_bits.Goals as goal
 
--- The upper word's quotient, and the lower word's with what the upper one leaves.
 module _ (h l d q r : ℕ) (pos : 0 < d) (hl : l < 2 ^ 64) (e : q * d + r ≡ h % d * 2 ^ 64 + l) (hr : r < d) where
   low-quotient : q ≡ (h % d * 2 ^ 64 + l) / d
   low-quotient = sym (digits_div q hr) ∙ ap (λ (x : ℕ). x / d) e

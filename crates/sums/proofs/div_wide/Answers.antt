@@ -1,10 +1,10 @@
-use Rattle.std.proofs.Common.{◌≡◌, ℕ, ◌+◌, ◌*◌, ◌/◌, ◌^◌, sym, ap, ◌∙◌, div-le_self, arith, rules}
+-- Each way gives the words of the quotient: none for a divisor of 0, one where the upper word is 0.
+use Rattle.std.proofs.Common.{◌≡◌, ℕ, ◌+◌, ◌*◌, ◌/◌, ◌^◌, sym, ap, ◌∙◌, div-le_self, arith}
 use native.Mathlib.Nat.{div-zero}
 use Rattle.sums.specs.Wide.{value_of}
 use Rattle.sums.proofs.TwoWords.{words_of}
 use Rattle.sums.proofs.div_wide.Goals as goal
 
--- Each way gives the words of the quotient: none for a divisor of 0, one where the upper word is 0.
 pub returns-then-d-eq0 : goal.returns-then-d-eq0
 returns-then-d-eq0 c =
     let a = c.args in

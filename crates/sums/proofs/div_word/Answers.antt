@@ -1,8 +1,7 @@
-use Rattle.std.proofs.Common.{◌≡◌, ℕ, ◌+◌, ◌-◌, ◌*◌, ◌/◌, ◌%◌, ◌^◌, ◌<◌, ◌≤◌, ap, ◌∙◌, ⊎_elim, mul_comm, add-mul, one-mul, pow-suc, div-one, mul_left_comm, add-one, arith, pow_mono, shr-shr}
+-- Long division, a bit at a time. After k bits quotient * d + rest is r * 2 ^ k and the upper k bits of n.
+use Rattle.std.proofs.Common.{◌≡◌, ℕ, ◌+◌, ◌-◌, ◌*◌, ◌/◌, ◌%◌, ◌^◌, ◌<◌, ◌≤◌, ap, ◌∙◌, mul_comm, add-mul, one-mul, pow-suc, mul_left_comm, add-one, arith, shr-shr}
 use Rattle.sums.proofs.div_word.Goals as goal
-
-none_yet : (r n d : ℕ) → n < 2 ^ 64 → 0 * d + r ≡ r * 1 + n / 2 ^ 64
-none_yet r n d h = omega arith
+use Rattle.sums.proofs.div_word.Goals.{then-next-room, else-next-room}
 
 -- the upper k + 1 bits of n are the upper k and the next
 next_bit : (n k : ℕ) → k < 64 → n / 2 ^ (64 - (k + 1)) ≡ 2 * (n / 2 ^ (64 - k)) + n / 2 ^ (63 - k) % 2
@@ -32,18 +31,12 @@ module _ (r n d q rest k : ℕ) (hk : k < 64) (hq : q < 2 ^ k) (e : q * d + rest
       → (k + 1 ≤ 64) × (rest' < d) × (q' < 2 ^ (k + 1)) × (q' * d + rest' ≡ r * 2 ^ (k + 1) + n / 2 ^ (64 - (k + 1)))
   one_more q' rest' hr hq' e' = (omega arith, hr, omega (arith, power k), omega (arith, shifted r k, next_bit n k hk))
 
-half-range : (k : ℕ) → k < 64 → 2 ^ k ≤ 2 ^ 63
-half-range k h = pow_mono {j = 63} (omega arith)
-
-at_end : (r n x k : ℕ) → k ≡ 64 → x ≡ r * 2 ^ k + n / 2 ^ (64 - k) → x ≡ r * 2 ^ 64 + n
-at_end r n x k e h = h ∙ ap (λ (j : ℕ). r * 2 ^ j + n / 2 ^ (64 - j)) e ∙ ap (λ (y : ℕ). r * 2 ^ 64 + y) (div-one n)
-
 pub loop-k-preserved : goal.loop-k-preserved
 loop-k-preserved c =
     let l = c.loop-k in
     let a = c.args in
     let next = one_more a.r a.n a.d l.quotient l.rest l.k c.loop-k-test.true l.invariant.2 l.invariant.3 c.if-next-room.quotient c.if-next-room.rest in
-    ⊎_elim
-    (λ w. next (omega (arith, w.0.taken, w.2)) (omega (arith, w.1)) (omega (arith, w.0.taken, w.2, ap (λ (x : ℕ). x * a.d) w.1 ∙ twice-one l.quotient a.d)))
-    (λ w. next (omega (arith, w.0.left, w.2)) (omega (arith, w.1)) (omega (arith, w.0.left, w.2, ap (λ (x : ℕ). x * a.d) w.1 ∙ twice l.quotient a.d)))
-    c.if-next-room.branch
+    elim c.if-next-room.branch [
+      | then-next-room w ↦ next (omega arith) (omega arith) (omega (arith, ap (λ (x : ℕ). x * a.d) w.quotient-is ∙ twice-one l.quotient a.d))
+      | else-next-room w ↦ next (omega arith) (omega arith) (omega (arith, ap (λ (x : ℕ). x * a.d) w.quotient-is ∙ twice l.quotient a.d))
+    ]

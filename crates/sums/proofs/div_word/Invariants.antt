@@ -1,7 +1,7 @@
-use Rattle.std.proofs.Common.{◌≡◌, ℕ, ◌+◌, ◌-◌, ◌*◌, ◌/◌, ◌%◌, ◌^◌, ◌<◌, ◌≤◌, ap, ◌∙◌, ⊎_elim, mul_comm, add-mul, one-mul, pow-suc, div-one, mul_left_comm, add-one, arith, pow_mono, shr-shr}
+-- Long division, a bit at a time. After k bits quotient * d + rest is r * 2 ^ k and the upper k bits of n.
+use Rattle.std.proofs.Common.{◌≡◌, ◌+◌, ◌-◌, ◌*◌, ◌/◌, ◌^◌, ◌<◌, ◌≤◌}
 use Rattle.sums.proofs.div_word.Given as goal
 
--- Long division, a bit at a time. After k bits quotient * d + rest is r * 2 ^ k and the upper k bits of n.
 abbrev pub invariant-loop-k : goal.invariant-loop-k
 invariant-loop-k l = (l.k ≤ 64) × (l.rest < l.d) × (l.quotient < 2 ^ l.k) × (l.quotient * l.d + l.rest ≡ l.r * 2 ^ l.k + l.n / 2 ^ (64 - l.k))
 

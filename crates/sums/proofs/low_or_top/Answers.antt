@@ -1,8 +1,8 @@
+-- An upper word of 0 leaves the lower one; any other is past the top.
 use Rattle.std.proofs.Common.{◌≡◌, ℕ, ◌+◌, ◌*◌, ◌^◌, ◌<◌, min, arith}
 use Rattle.sums.specs.Wide.{value_of}
 use Rattle.sums.proofs.low_or_top.Goals as goal
 
--- An upper word of 0 leaves the lower one; any other is past the top.
 one_word : (hi lo : ℕ) → hi ≡ 0 → lo < 2 ^ 64 → lo ≡ min (hi * 2 ^ 64 + lo) 18446744073709551615
 one_word hi lo e h = omega arith
 

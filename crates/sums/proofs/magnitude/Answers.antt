@@ -1,4 +1,5 @@
-use Rattle.std.proofs.Common.{◌≡◌, ◌*◌, ◌/◌, false, nat_abs, ap, ◌∙◌, to_z-of_z, rules}
+-- The scaled product of the magnitudes, clamped.
+use Rattle.std.proofs.Common.{◌≡◌, ◌*◌, ◌/◌, false, nat_abs, ap, ◌∙◌, to_z-of_z}
 use Rattle.sums.specs.Sums.{clamp64, signed, notional, SCALE}
 use Rattle.sums.specs.Wide.{value_of}
 use Rattle.sums.proofs.Ints.{clamp_back, signed-pos}

@@ -1,13 +1,10 @@
-use Rattle.std.proofs.Common.{◌≡◌, ℕ, ◌+◌, ◌*◌, ◌/◌, ◌%◌, ◌^◌, ◌<◌, ◌≤◌, sym, refl, ap, ◌∙◌, add_assoc, mul_assoc, mul_comm, add-mul, mul-le-mul, add_comm, div-add-mod', mul-add, mul_right_comm, mul_left_comm, arith}
+-- Multiplying by hand in base 2 ^ 32. All that is not linear is the four products, so `omega` does the columns.
+use Rattle.std.proofs.Common.{◌≡◌, ℕ, ◌+◌, ◌*◌, ◌/◌, ◌%◌, ◌^◌, ◌<◌, sym, refl, ap, ◌∙◌, add_assoc, mul_assoc, mul_comm, add-mul, mul-le-mul, add_comm, div-add-mod', mul-add, mul_right_comm, mul_left_comm, arith}
 use native.Mathlib.Nat.{add_left_comm}
 use Rattle.sums.specs.Wide.{value_of, wide}
-use Rattle.sums.proofs.TwoWords.{words_of, value_of-wide, half_product}
+use Rattle.sums.proofs.TwoWords.{words_of, value_of-wide}
 use Rattle.sums.proofs.mul_wide.Goals as goal
-use Rattle.sums.proofs.mul_wide.Lts as lts
-use Rattle.sums.proofs.mul_wide.Reads as reads
-use Rattle.sums.proofs.mul_wide.Tie as tie
 
--- Multiplying by hand in base 2 ^ 32. All that is not linear is the four products, so `omega` does the columns.
 spread : (B a₀ a₁ b₀ b₁ : ℕ) → (a₁ * B + a₀) * (b₁ * B + b₀) ≡ a₁ * b₁ * (B * B) + a₀ * b₀ + a₁ * b₀ * B + a₀ * b₁ * B
 spread B a₀ a₁ b₀ b₁ = simp (mul-add, add-mul, mul_assoc, mul_comm, mul_left_comm, add_assoc, add_comm, add_left_comm) refl
 
@@ -15,26 +12,6 @@ columns : (a b : ℕ) → a * b ≡ a / 2 ^ 32 * (b / 2 ^ 32) * 2 ^ 64 + a % 2 ^
 columns a b =
     let e : a * b ≡ (a / 2 ^ 32 * 2 ^ 32 + a % 2 ^ 32) * (b / 2 ^ 32 * 2 ^ 32 + b % 2 ^ 32) = λ i. sym (div-add-mod' a (2 ^ 32)) i * sym (div-add-mod' b (2 ^ 32)) i in
     e ∙ spread (2 ^ 32) (a % 2 ^ 32) (a / 2 ^ 32) (b % 2 ^ 32) (b / 2 ^ 32)
-
--- the bounds of the four products
-abbrev Few : ℕ → ℕ → Type 0
-Few a b =
-    (a % 2 ^ 32 * (b % 2 ^ 32) ≤ 0xffff_ffff * 0xffff_ffff)
-    × (a / 2 ^ 32 * (b % 2 ^ 32) ≤ 0xffff_ffff * 0xffff_ffff)
-    × (a % 2 ^ 32 * (b / 2 ^ 32) ≤ 0xffff_ffff * 0xffff_ffff)
-    × (a / 2 ^ 32 * (b / 2 ^ 32) ≤ 0xffff_ffff * 0xffff_ffff)
-
-few : (a b : ℕ) → a < 2 ^ 64 → b < 2 ^ 64 → Few a b
-few a b ha hb = (
-  half_product (a % 2 ^ 32) (b % 2 ^ 32) (omega arith) (omega arith),
-  half_product (a / 2 ^ 32) (b % 2 ^ 32) (omega arith) (omega arith),
-  half_product (a % 2 ^ 32) (b / 2 ^ 32) (omega arith) (omega arith),
-  half_product (a / 2 ^ 32) (b / 2 ^ 32) (omega arith) (omega arith),
-)
-
-module _ (s : lts.Start tie.the-claims reads.Pre reads.Post) where
-  products : Few s.args.a s.args.b
-  products = few s.args.a s.args.b s.ranges.a.fits s.ranges.b.fits
 
 -- by the halves of a alone: where b and the upper product are below 2 ^ 31, both parts are below 2 ^ 63
 by-halves : (a b : ℕ) → a * b ≡ a / 2 ^ 32 * b * 2 ^ 32 + a % 2 ^ 32 * b

@@ -1,9 +1,9 @@
+-- A number is below zero exactly where it is not `non_neg`.
 use Rattle.std.proofs.Common.{◌≡◌, Bool, true, false, not, ltb, ℤ, pos, negsuc, refl, ◌∙◌, arith, to_z-of_z, w64, to_z, of_z, ltb-true}
 use mathlib.Core.Bool.{xor}
 use lib.Signed.{lt_z, non_neg}
 use Rattle.sums.proofs.opposite.Goals as goal
 
--- A number is below zero exactly where it is not `non_neg`.
 below-zero : (z : ℤ) → lt_z z (pos 0) ≡ not (non_neg z)
 below-zero (pos n) = go (ltb n 0) refl
   where

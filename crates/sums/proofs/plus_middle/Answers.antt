@@ -1,9 +1,9 @@
-use Rattle.std.proofs.Common.{◌≡◌, ℕ, ◌+◌, ◌*◌, ◌/◌, ◌%◌, ◌^◌, ◌<◌, ◌≤◌, arith, rules}
+-- The low sum is below what was added exactly where it passed 2 ^ 64.
+use Rattle.std.proofs.Common.{◌≡◌, ℕ, ◌+◌, ◌*◌, ◌/◌, ◌%◌, ◌^◌, ◌<◌, ◌≤◌, arith}
 use Rattle.sums.specs.Wide.{value_of}
 use Rattle.sums.proofs.TwoWords.{words_of}
 use Rattle.sums.proofs.plus_middle.Goals as goal
 
--- The low sum is below what was added exactly where it passed 2 ^ 64.
 module _ (hi lo middle sum : ℕ) (l : lo < 2 ^ 64) (e : sum ≡ (lo + middle % 2 ^ 32 * 2 ^ 32) % 2 ^ 64) where
   sum_lt : sum < 2 ^ 64
   sum_lt = omega arith
@@ -18,12 +18,14 @@ pub returns-then-lo-low : goal.returns-then-lo-low
 unfolding value_of
 returns-then-lo-low c =
     let l : c.args.w.lo < 2 ^ 64 = omega (arith, c.well_formed) in
-    let e = c.wrapping_add_u64-lo.ensures in
-    (words_of _ _ _ (sum_lt c.args.w.hi _ c.args.middle _ l e) (carried c.args.w.hi _ c.args.middle _ l e c.if-lo-low.true), omega arith)
+    let s = c.wrapping_add_u64-lo.result in
+    let e : s ≡ (c.args.w.lo + c.args.middle % 2 ^ 32 * 2 ^ 32) % 2 ^ 64 = c.wrapping_add_u64-lo.ensures.value in
+    (words_of _ _ _ (sum_lt c.args.w.hi c.args.w.lo c.args.middle s l e) (carried c.args.w.hi c.args.w.lo c.args.middle s l e c.if-lo-low.true), omega arith)
 
 pub returns-else-lo-low : goal.returns-else-lo-low
 unfolding value_of
 returns-else-lo-low c =
     let l : c.args.w.lo < 2 ^ 64 = omega (arith, c.well_formed) in
-    let e = c.wrapping_add_u64-lo.ensures in
-    (words_of _ _ _ (sum_lt c.args.w.hi _ c.args.middle _ l e) (not_carried c.args.w.hi _ c.args.middle _ l e c.if-lo-low.false), omega arith)
+    let s = c.wrapping_add_u64-lo.result in
+    let e : s ≡ (c.args.w.lo + c.args.middle % 2 ^ 32 * 2 ^ 32) % 2 ^ 64 = c.wrapping_add_u64-lo.ensures.value in
+    (words_of _ _ _ (sum_lt c.args.w.hi c.args.w.lo c.args.middle s l e) (not_carried c.args.w.hi c.args.w.lo c.args.middle s l e c.if-lo-low.false), omega arith)

@@ -1,4 +1,5 @@
-use Rattle.std.proofs.Common.{◌≡◌, ◌*◌, ◌/◌, nat_abs, sym, ap, ◌∙◌, to_z-of_z, w64, to_z, of_z, rules}
+-- The magnitude of the value in micro-units over that of the quantity, with the sign of the quotient.
+use Rattle.std.proofs.Common.{◌≡◌, ◌*◌, ◌/◌, nat_abs, sym, ap, ◌∙◌, to_z-of_z, w64, to_z, of_z}
 use mathlib.Core.Bool.{xor}
 use lib.Signed.{non_neg}
 use Rattle.sums.specs.Sums.{clamp64, signed, SCALE}

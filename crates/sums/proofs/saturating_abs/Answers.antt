@@ -1,10 +1,10 @@
+-- A number below zero has its negative as magnitude, another has itself.
 use Rattle.std.proofs.Common.{◌≡◌, ℕ, true, false, ℤ, pos, negsuc, neg_ℤ, nat_abs, sym, refl, ap, ◌∙◌, arith, to_z-of_z, w64, to_z, of_z, ltb-true}
 use lib.Signed.{lt_z}
 use Rattle.sums.specs.Sums.{clamp64, sat_neg, sat_abs}
 use Rattle.sums.proofs.Ints.{clamp_back, clamp_same}
 use Rattle.sums.proofs.saturating_abs.Goals as goal
 
--- A number below zero has its negative as magnitude, another has itself.
 below : (a : ℤ) → lt_z a (pos 0) ≡ true → neg_ℤ a ≡ pos (nat_abs a)
 below (pos n) h = absurd (omega (arith, ltb-true n 0 h))
 below (negsuc n) h = refl

@@ -1,3 +1,4 @@
+-- The room is the end less b, which fits; a compared with it says whether the sum does.
 use Rattle.std.proofs.Common.{◌≡◌, ◌+ℤ◌, ◌-ℤ◌, sym, ◌∙◌, arith, to_z-of_z, w64, SFits, to_z, of_z}
 use Rattle.sums.specs.Sums.{sat_add}
 use Rattle.sums.proofs.Ints.{P, N, P-add, P-sub, P-fits, N-fits, clamp_same}
@@ -6,7 +7,6 @@ use Rattle.sums.proofs.saturating_add.Goals as goal
 use Rattle.sums.proofs.saturating_add.Lts as lts
 use Rattle.sums.proofs.saturating_add.Reads as reads
 
--- The room is the end less b, which fits; a compared with it says whether the sum does.
 -- what the machine holds is the bits of a number: read back they are the number
 module _ (s : lts.Start reads.Pre reads.Post) where
   ra : to_z w64 (of_z w64 s.args.a) ≡ s.args.a

@@ -1,9 +1,9 @@
+-- Every number but the lowest has its negative among the i64.
 use Rattle.std.proofs.Common.{◌≡◌, suc, ◌^◌, ◌<◌, ℤ, pos, negsuc, ◌-ℤ◌, neg_ℤ, sym, ap, ◌∙◌, arith, to_z-of_z, w64, SFits, to_z, of_z}
 use Rattle.sums.specs.Sums.{clamp64, sat_neg}
 use Rattle.sums.proofs.Ints.{P, N, P-neg, N-neg, P-sub, P-fits, fits_of, eq_of, clamp_same}
 use Rattle.sums.proofs.saturating_neg.Goals as goal
 
--- Every number but the lowest has its negative among the i64.
 ends : (a : ℤ) → SFits w64 a → (of_z w64 a ≡ 9223372036854775808 → ⊥) → N a < 2 ^ 63
 unfolding N
 ends (pos n) f h = omega arith

@@ -1,3 +1,4 @@
+-- The room is the end and b, which fits; a compared with it says whether the difference does.
 use Rattle.std.proofs.Common.{◌≡◌, ◌+ℤ◌, ◌-ℤ◌, sym, ◌∙◌, arith, to_z-of_z, w64, SFits, to_z, of_z}
 use Rattle.sums.specs.Sums.{sat_sub}
 use Rattle.sums.proofs.Ints.{P, N, P-add, P-sub, P-fits, N-fits, clamp_same}
@@ -6,7 +7,6 @@ use Rattle.sums.proofs.saturating_sub.Goals as goal
 use Rattle.sums.proofs.saturating_sub.Lts as lts
 use Rattle.sums.proofs.saturating_sub.Reads as reads
 
--- The room is the end and b, which fits; a compared with it says whether the difference does.
 -- what the machine holds is the bits of a number: read back they are the number
 module _ (s : lts.Start reads.Pre reads.Post) where
   ra : to_z w64 (of_z w64 s.args.a) ≡ s.args.a

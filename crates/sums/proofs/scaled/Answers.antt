@@ -1,4 +1,5 @@
-use Rattle.std.proofs.Common.{◌≡◌, ℕ, ◌+◌, ◌*◌, ◌/◌, ◌^◌, ◌<◌, ap, ◌∙◌, zero-add, div-le_self, arith, rules}
+-- Where the product's upper word is 0, the lower one is the product.
+use Rattle.std.proofs.Common.{◌≡◌, ℕ, ◌*◌, ◌/◌, ap, ◌∙◌, zero-add, div-le_self, arith}
 use Rattle.sums.specs.Sums.{SCALE}
 use Rattle.sums.specs.Wide.{value_of, wide}
 use Rattle.sums.proofs.TwoWords.{words_of, value_of-wide, one_word}

@@ -1,4 +1,5 @@
-use Rattle.std.proofs.Common.{◌≡◌, ℕ, ◌+◌, ◌*◌, ◌/◌, ◌^◌, ◌<◌, ◌≤◌, sym, refl, ap, ◌∙◌, subst, lt_of_le_of_lt, add-mul, mul-one, mul_right_comm, div-mul-le_self, div-one, arith, rules}
+-- The steps times the step is at most n, so its upper word is one.
+use Rattle.std.proofs.Common.{◌≡◌, ℕ, ◌+◌, ◌*◌, ◌/◌, ◌^◌, ◌<◌, ◌≤◌, sym, refl, ap, ◌∙◌, subst, lt_of_le_of_lt, add-mul, mul-one, mul_right_comm, div-mul-le_self, div-one, arith}
 use Rattle.sums.specs.declared.Wide.{Wide}
 use Rattle.sums.specs.Sums.{snap}
 use Rattle.sums.specs.Wide.{value_of, wide}
@@ -8,7 +9,6 @@ use Rattle.sums.proofs.snap_wide.Lts as lts
 use Rattle.sums.proofs.snap_wide.Reads as reads
 use Rattle.sums.proofs.snap_wide.Tie as tie
 
--- The steps times the step is at most n, so its upper word is one.
 -- (sh, sl) the steps in n, (lh, ll) those of the lower word times the step
 module _ (n step sh sl lh ll : ℕ) (e : sh * 2 ^ 64 + sl ≡ n / step) (f : lh * 2 ^ 64 + ll ≡ sl * step) where
   whole : (lh + sh * step) * 2 ^ 64 + ll ≡ n / step * step

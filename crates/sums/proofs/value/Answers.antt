@@ -1,4 +1,5 @@
-use Rattle.std.proofs.Common.{◌≡◌, ◌*◌, ◌/◌, nat_abs, sym, ap, ◌∙◌, to_z-of_z, w64, to_z, of_z, rules}
+-- A value is the scaled product of the magnitudes, with the sign of the product.
+use Rattle.std.proofs.Common.{◌≡◌, ◌*◌, ◌/◌, nat_abs, sym, ap, ◌∙◌, to_z-of_z, w64, to_z, of_z}
 use mathlib.Core.Bool.{xor}
 use lib.Signed.{non_neg}
 use Rattle.sums.specs.Sums.{clamp64, signed, SCALE}

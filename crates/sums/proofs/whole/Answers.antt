@@ -1,11 +1,11 @@
-use Rattle.std.proofs.Common.{◌≡◌, ℕ, suc, ◌+◌, ◌*◌, ◌/◌, ◌^◌, Bool, ℤ, pos, negsuc, neg_ℤ, nat_abs, refl, ap, ◌∙◌, zero-add, div-le_self, arith, to_z-of_z, w64, SFits, to_z, of_z, rules, le-ltb}
+-- The quotient of the magnitude, with the sign. It fits, so the clamp leaves it.
+use Rattle.std.proofs.Common.{◌≡◌, ℕ, suc, ◌+◌, ◌*◌, ◌/◌, ◌^◌, Bool, ℤ, pos, negsuc, neg_ℤ, nat_abs, refl, ap, ◌∙◌, zero-add, div-le_self, arith, to_z-of_z, w64, SFits, to_z, of_z, le-ltb}
 use lib.Signed.{quot_z, lt_z}
 use Rattle.sums.specs.Sums.{clamp64, signed, SCALE}
 use Rattle.sums.specs.Wide.{value_of}
 use Rattle.sums.proofs.Ints.{P, N, P-neg, N-neg, fits_of, clamp_same, clamp_back}
 use Rattle.sums.proofs.whole.Goals as goal
 
--- The quotient of the magnitude, with the sign. It fits, so the clamp leaves it.
 whole-fits : (n : ℤ) → SFits w64 n → SFits w64 (quot_z n (pos SCALE))
 unfolding P N
 whole-fits (pos n) f = record { sfits = omega (arith, f.sfits, div-le_self n SCALE) }
