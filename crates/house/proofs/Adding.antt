@@ -1,5 +1,5 @@
 -- A part's loop: what it has come to after some of the accounts, and one account more.
-use Rattle.std.proofs.Common.{◌≡◌, ℕ, ◌+◌, ◌*◌, ◌^◌, ◌<◌, ◌≤◌, Bool, true, false, cond, ◌&&◌, eqb, ltb, List, length, get_or, set, sym, refl, ap, ◌∙◌, add-one, arith, length-set, get_or-set_other, get_or-set_same, ltb-false, ltb-true, le-ltb, lt-ltb, eqb-true}
+use Rattle.std.proofs.Common.{◌≡◌, ℕ, ◌+◌, ◌*◌, ◌^◌, ◌<◌, ◌≤◌, Bool, true, false, cond, ◌&&◌, eqb, ltb, List, length, set, sym, refl, ap, ◌∙◌, add-one, arith, length-set, get_or-set_other, get_or-set_same, ltb-false, ltb-true, le-ltb, lt-ltb, eqb-true}
 use borrow.Author.Tests.{eqb-false}
 use Rattle.sums.specs.declared.Wide.{Wide}
 use Rattle.sums.specs.Wide.{value_of, wide}
@@ -8,8 +8,7 @@ use Rattle.house.specs.Group.{Ends, first_of, change_of, in_i64, every}
 use Rattle.house.specs.Inner.Raised.{raised, moved, total_at}
 use Rattle.house.specs.Inner.Parts.{Known, Entered, Added}
 use Rattle.house.specs.declared.entry.Entry.{Entry}
-use Rattle.house.specs.declared.part.Part.{Part}
-use Rattle.house.proofs.Raised.{Holds, holds-first, holds_on, holds-last}
+use Rattle.house.proofs.Raised.{Holds, holds-first, holds_on}
 use Rattle.house.proofs.Columns.{every_on, below_or_at}
 
 -- each account's total, with what it has of this part

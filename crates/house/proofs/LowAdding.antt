@@ -1,15 +1,14 @@
 -- The loops on low words: what they have come to after some accounts or parts, and one more.
-use Rattle.std.proofs.Common.{◌≡◌, ℕ, zero, suc, ◌+◌, ◌-◌, ◌*◌, ◌%◌, ◌^◌, ◌<◌, ◌≤◌, Bool, true, false, cond, ◌&&◌, eqb, ltb, List, length, get_or, set, replicate, ℤ, pos, sym, refl, ap, ◌∙◌, subst, mul-le-mul, add-one, arith, length-set, get_or-set_other, get_or-set_same, ltb-false, ltb-true, le-ltb, lt-ltb, eqb-true}
-use lib.Bits.{bit_or, bit_and, or_add_and, and_le_l, and_le_r}
+use Rattle.std.proofs.Common.{◌≡◌, ℕ, suc, ◌+◌, ◌*◌, ◌%◌, ◌^◌, ◌<◌, ◌≤◌, Bool, true, false, cond, eqb, ltb, List, length, get_or, set, replicate, ℤ, pos, refl, ap, ◌∙◌, subst, mul-le-mul, add-one, arith, length-set, get_or-set_other, get_or-set_same, ltb-false, ltb-true, le-ltb, lt-ltb, eqb-true}
+use lib.Bits.{bit_or, or_add_and, and_le_l, and_le_r}
 use lib.ListN.{length-replicate, get_or-replicate}
 use borrow.Author.Tests.{eqb-false}
 use Rattle.house.specs.Group.{Ends, Group}
 use Rattle.house.specs.Places.{ends_at, group_in, column}
 use Rattle.house.specs.Inner.Raised.{half, lowered, sum_n}
 use Rattle.house.specs.Inner.Parts.{Known}
-use Rattle.house.specs.Inner.Low.{away, step, first_word, last_word, step_word, low_sum, BothWithin, LowAdded, LowSummed}
+use Rattle.house.specs.Inner.Low.{away, first_word, last_word, step_word, low_sum, BothWithin, LowAdded, LowSummed}
 use Rattle.house.specs.declared.low.LowPart.{LowPart}
-use Rattle.house.specs.declared.low.LowParts.{LowParts}
 use Rattle.house.proofs.Columns.{below_or_at, column-first, filled_on}
 
 -- ---- bits

@@ -1,15 +1,14 @@
 -- Low words are enough where every equity is within 2 ^ 55 of 0: no sum leaves i64, and so its upper word is known.
-use Rattle.std.proofs.Common.{◌≡◌, ℕ, zero, suc, ◌+◌, ◌-◌, ◌*◌, ◌/◌, ◌%◌, ◌^◌, ◌<◌, ◌≤◌, Bool, true, false, ◌&&◌, eqb, ◌⊎◌, List, get_or, replicate, ℤ, pos, negsuc, ◌+ℤ◌, ◌-ℤ◌, sym, refl, ap, ◌∙◌, inl, inr, ⊎_elim, arith, w64, SFits, of_z, eqb-true}
+use Rattle.std.proofs.Common.{◌≡◌, ℕ, zero, suc, ◌+◌, ◌-◌, ◌*◌, ◌/◌, ◌%◌, ◌^◌, ◌<◌, ◌≤◌, true, ◌⊎◌, List, get_or, replicate, ℤ, pos, negsuc, ◌+ℤ◌, ◌-ℤ◌, sym, refl, ap, ◌∙◌, inl, inr, ⊎_elim, arith, w64, SFits, of_z, eqb-true}
 use lib.ListN.{get_or-replicate}
 use Rattle.sums.proofs.Ints.{P, N, P-add, P-sub, one_sided, fits_of}
 use Rattle.house.specs.Group.{Ends, Group, first_of, change_of, every, in_i64, sum_to, first_sum, summed_change, account_change}
-use Rattle.house.specs.Places.{group_in, column}
-use Rattle.house.specs.Inner.Raised.{half, raised, last_of, between, moved, lowered, sum_n, begun, summed, ended, total_at}
+use Rattle.house.specs.Places.{group_in}
+use Rattle.house.specs.Inner.Raised.{half, raised, last_of, between, moved, lowered, sum_n, summed, ended, total_at}
 use Rattle.house.specs.Inner.Parts.{Known, first_ended, gain_ended, part_fits_of, Summed}
-use Rattle.house.specs.Inner.Low.{away, step, first_word, last_word, step_word, low_sum, BothWithin, LowSummed}
-use Rattle.house.specs.declared.sum.Finished.{Finished}
+use Rattle.house.specs.Inner.Low.{away, step, first_word, step_word, low_sum, LowSummed}
 use Rattle.house.specs.declared.low.LowParts.{LowParts}
-use Rattle.house.proofs.Raised.{raised_parts, raised_lt, in_is, in_yes, sum_n_cong, ended-fits}
+use Rattle.house.proofs.Raised.{in_is, in_yes, ended-fits}
 use Rattle.house.proofs.Columns.{every_of, column_cong}
 use Rattle.house.proofs.Reporting.{change_by, moved-raised, summed_cong, part_fits_lem}
 

@@ -1,7 +1,7 @@
 -- Numbers raised by 2 ^ 63, their sums, and what a finished sum tells.
-use Rattle.std.proofs.Common.{◌≡◌, ℕ, zero, suc, ◌+◌, ◌-◌, ◌*◌, ◌/◌, ◌%◌, ◌^◌, ◌<◌, ◌≤◌, Bool, true, false, cond, ◌&&◌, eqb, ltb, leb, ℤ, pos, negsuc, ◌+ℤ◌, ◌-ℤ◌, sym, refl, ap, ◌∙◌, add-one, arith, w64, SFits, ltb-false, ltb-true, le-ltb, lt-ltb, eq-eqb, eqb-true, le-leb, leb-true}
+use Rattle.std.proofs.Common.{◌≡◌, ℕ, zero, suc, ◌+◌, ◌-◌, ◌*◌, ◌/◌, ◌%◌, ◌^◌, ◌<◌, ◌≤◌, Bool, true, false, cond, ltb, leb, ℤ, pos, negsuc, ◌-ℤ◌, sym, refl, ap, ◌∙◌, add-one, arith, w64, SFits, ltb-false, ltb-true, lt-ltb, eq-eqb, eqb-true, le-leb, leb-true}
 use lib.Signed.{le_z}
-use Rattle.sums.proofs.Ints.{P, N, P-add, P-sub, P-fits, N-fits, P_pos, N-pos, P_negsuc, N_negsuc, le_yes, le_is, fits_of, eq_of}
+use Rattle.sums.proofs.Ints.{P, N, P-add, P-sub, P-fits, N-fits, le_yes, le_is, fits_of, eq_of}
 use Rattle.sums.specs.declared.Wide.{Wide}
 use Rattle.sums.specs.Wide.{value_of, wide}
 use Rattle.sums.proofs.TwoWords.{value_of-wide, value_of-words}

@@ -8,13 +8,11 @@ use Rattle.answer.proofs.Answers.{passed}
 use Rattle.answer.specs.declared.Answer.TheVariants.{Done, TooLong, BadGroup, OutOfRange, NoFirstSum}
 use Rattle.metrics.specs.Double.{one}
 use Rattle.metrics.specs.Double.{zero as none}
-use Rattle.metrics.specs.Curve.{compounded}
 use Rattle.house.specs.Group.{Equity, given, absent, Ends, Group, of_both, first_of, change_of, every, in_i64, first_sum, summed_change, growth_of, growth, product_to, account_change, group_change, part_in_i64, all_in_i64, all_positive}
 use Rattle.house.specs.Places.{group_in, column}
 use Rattle.house.specs.House.{most_accounts, most_parts, within, whole, early_answer, refusal, report, house_of_group, house_of}
-use Rattle.house.specs.Inner.Raised.{raised, last_of, moved, sum_n, begun, summed, ended, total_at}
+use Rattle.house.specs.Inner.Raised.{raised, last_of, moved, begun, summed, ended, total_at}
 use Rattle.house.specs.Inner.Parts.{Known, first_ended, gain_ended, part_fits_of, Summed, Totalled, Grown}
-use Rattle.house.specs.declared.House.{House}
 use Rattle.house.specs.declared.sum.Finished.{Finished}
 use Rattle.house.specs.declared.part.Parts.{Parts}
 use Rattle.house.specs.declared.total.Totals.{Totals}

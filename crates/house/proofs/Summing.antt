@@ -1,16 +1,15 @@
 -- The loop over the parts: what it has come to after some of them, and one part more.
-use Rattle.std.proofs.Common.{◌≡◌, ℕ, zero, suc, ◌+◌, ◌*◌, ◌^◌, ◌<◌, ◌≤◌, Bool, true, false, cond, ◌&&◌, ltb, List, length, get_or, set, replicate, ℤ, pos, sym, refl, ap, ◌∙◌, subst, mul-le-mul, add-one, arith, lt-ltb}
+use Rattle.std.proofs.Common.{◌≡◌, ℕ, suc, ◌+◌, ◌*◌, ◌^◌, ◌<◌, ◌≤◌, Bool, true, false, cond, ◌&&◌, ltb, List, length, set, replicate, ℤ, pos, sym, refl, ap, ◌∙◌, subst, mul-le-mul, add-one, arith, lt-ltb}
 use lib.ListN.{length-replicate, get_or-replicate}
 use Rattle.sums.specs.declared.Wide.{Wide}
 use Rattle.sums.specs.Wide.{value_of, wide}
 use Rattle.sums.proofs.TwoWords.{value_of-wide, value_of-words}
 use Rattle.house.specs.Group.{Group, every}
 use Rattle.house.specs.Places.{ends_at, group_in, column}
-use Rattle.house.specs.Inner.Raised.{moved, sum_n, begun, summed, ended, total_at}
+use Rattle.house.specs.Inner.Raised.{moved, sum_n, begun, ended, total_at}
 use Rattle.house.specs.Inner.Parts.{Known, SumsWithRoom, Added, first_ended, gain_ended, part_fits_of, Summed}
 use Rattle.house.specs.declared.sum.Finished.{Finished}
 use Rattle.house.specs.declared.part.Part.{Part}
-use Rattle.house.specs.declared.part.Parts.{Parts}
 use Rattle.house.proofs.Raised.{sum_n-most, between_lt}
 use Rattle.house.proofs.Columns.{every_on, below_or_at, column-first, filled_on}
 

@@ -1,6 +1,5 @@
 -- Sums by their low words: each number as its word, and what the words add up to modulo 2 ^ 64. Definitions only.
-use Rattle.std.specs.Prelude.{◌≡◌, ℕ, ◌+◌, ◌-◌, ◌*◌, ◌%◌, ◌^◌, ◌<◌, ◌≤◌, cond, List, length, ℤ, pos, nat_lt, slice_index}
-use Rattle.std.specs.Int.Bits.{bit_or}
+use Rattle.std.specs.Prelude.{◌≡◌, ℕ, ◌+◌, ◌-◌, ◌%◌, ◌^◌, ◌<◌, cond, List, length, ℤ, pos, nat_lt, slice_index}
 use Rattle.std.specs.Int.{w64}
 use Rattle.std.proofs.Common.{of_z}
 use Rattle.house.specs.Group.{Ends, first_of}

@@ -1,13 +1,13 @@
 -- What the loops leave: sums of words in columns, and what they stand for where all that is finished is in i64.
-use Rattle.std.specs.Prelude.{◌≡◌, ℕ, ◌+◌, ◌*◌, ◌^◌, ◌<◌, Bool, cond, ◌&&◌, List, length, ℤ, pos, FitsSigned, int_lt, nat_lt, slice_index_or}
+use Rattle.std.specs.Prelude.{◌≡◌, ℕ, ◌+◌, ◌^◌, ◌<◌, Bool, cond, ◌&&◌, List, length, ℤ, pos, FitsSigned, int_lt, nat_lt, slice_index_or}
 use Rattle.std.specs.Float.{binary64}
 use Rattle.std.specs.Float.Ieee.{sub}
 use Rattle.std.specs.Int.{w64}
-use Rattle.sums.specs.Wide.{wide, value_of}
+use Rattle.sums.specs.Wide.{wide}
 use Rattle.metrics.specs.Double.{zero, one}
 use Rattle.house.specs.Group.{Ends, Group, first_of, change_of, in_i64, every, growth_of, product_to}
 use Rattle.house.specs.Places.{group_in, column}
-use Rattle.house.specs.Inner.Raised.{raised, last_of, moved, summed, begun, sum_n, ended, total_at}
+use Rattle.house.specs.Inner.Raised.{raised, last_of, moved, summed, ended, total_at}
 use Rattle.house.specs.declared.sum.Finished.{Finished}
 use Rattle.house.specs.declared.entry.Entry.{Entry}
 use Rattle.house.specs.declared.part.Part.{Part}

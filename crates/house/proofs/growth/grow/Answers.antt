@@ -1,0 +1,32 @@
+-- The invariant: the growths, their product and the test of the parts before the place.
+use Rattle.std.proofs.Common.{◌≡◌, ℕ, ◌+◌, get_or, pos, refl, ap, ◌∙◌, add-one, arith, w64, to_z, of_z, rules}
+use lib.Signed.{lt_z}
+use lib.Ieee.{Float, binary64, of_bits, mul, add, div}
+use mir.ValLaws.{to_z-of_z}
+use Rattle.doubles.specs.Doubles.{of_i64}
+use Rattle.metrics.specs.Double.{zero, one}
+use Rattle.metrics.specs.Curve.{compounded}
+use Rattle.house.specs.Group.{every, growth_of, product_to}
+use Rattle.house.proofs.Columns.{every_on, column-first, filled_on}
+use Rattle.house.proofs.growth.grow.Goals as goal
+
+product-on : (g : ℕ → Float) (i : ℕ) (p x : Float) → p ≡ product_to i g → x ≡ g i → mul binary64 p (add binary64 one x) ≡ product_to (i + 1) g
+unfolding product_to compounded
+product-on g i p x e q = rw (e, q, add-one i)
+
+pub loop-p-init : goal.loop-p-init
+unfolding every product_to of_bits
+loop-p-init c = (omega arith, refl, refl, column-first 64 zero _)
+
+pub loop-p-preserved : goal.loop-p-preserved
+unfolding of_bits
+loop-p-preserved c =
+    let l = c.loop-p in
+    let first = get_or c.args.firsts.now l.p (pos 0) in
+    let gain = get_or c.args.gains.now l.p (pos 0) in
+    let zf : to_z w64 (of_z w64 first) ≡ first = to_z-of_z w64 first (search rules) in
+    let zg : to_z w64 (of_z w64 gain) ≡ gain = to_z-of_z w64 gain (search rules) in
+    let top : c.i64_to_f64.result ≡ of_i64 gain = c.i64_to_f64.ensures ∙ ap of_i64 zg in
+    let below : c.i64_to_f64-in-loop-p.result ≡ of_i64 first = c.i64_to_f64-in-loop-p.ensures ∙ ap of_i64 zf in
+    let growth : div binary64 c.i64_to_f64.result c.i64_to_f64-in-loop-p.result ≡ growth_of gain first = rw (top, below) in
+    (omega arith, every_on _ l.p _ _ l.invariant.1 (ap (lt_z (pos 0)) zf), product-on _ l.p _ _ l.invariant.2 growth, filled_on 64 zero _ l.p _ _ (omega arith) l.invariant.3 growth)
