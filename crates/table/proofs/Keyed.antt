@@ -10,7 +10,7 @@ use lib.ListN.{length, get_or, drop}
 use lib.Seq.{drop-cons}
 use borrow.Author.Tests.{ltb-true, ltb-false, eqb-true, eqb-false, leb-true, leb-false, le-leb, lt-leb, lt-ltb, le-ltb, eq-eqb, ne_eqb}
 pub use Rattle.answer.proofs.Choice.{by_test, both_false, both_true}
-use Rattle.table.specs.Keyed.{pick, both, all, there, new, seek, put, put64, over, ascending}
+use Rattle.table.specs.Keyed.{pick, all, there, new, seek, put, put64, over, ascending}
 use Rattle.table.specs.Inner.Keyed.{Over, Rising}
 
 data Three (a b : ℕ) : Type 0 where

@@ -10,11 +10,11 @@ use lib.ListN.{length, take, drop, get_or, replicate, length-drop, length-replic
 use lib.Seq.{ext_get_or, get_or-drop, drop-cons}
 use native.Mathlib.Numerals.{add-one}
 use borrow.Author.Tests.{eqb-true, leb-true, le-leb}
-use Rattle.position.specs.Rows.{row, fresh, key_of}
+use Rattle.position.specs.Rows.{fresh, key_of}
 use Rattle.position.specs.declared.position.Position.{Position}
 use Rattle.position.proofs.Counts.{zero_is}
-use Rattle.table.specs.Keyed.{both, all, ascending}
-use Rattle.table.specs.Rows.{Cols, zipped, row_at, Full, is_zero, zeros, zeros_z, unused, ordered}
+use Rattle.table.specs.Keyed.{both, all}
+use Rattle.table.specs.Rows.{Cols, zipped, row_at, Full, is_zero, unused, ordered}
 use Rattle.table.specs.Inner.Rows.{Ordered}
 use Rattle.table.proofs.Keyed.{both_true, ascending_rises, rising_ascends}
 use Rattle.table.proofs.Zipped.{zipped-length, zipped_at}

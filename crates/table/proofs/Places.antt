@@ -12,8 +12,7 @@ use native.Mathlib.Numerals.{add-one}
 use borrow.Author.Tests.{ltb-true, ltb-false, le-leb, lt-leb, eq-eqb, ne_eqb}
 use Rattle.table.specs.Keyed.{pick, seek, put}
 use Rattle.table.specs.Inner.Keyed.{Rising}
-use Rattle.table.specs.Inner.Places.{shorter, found_from, found, Within, Finds}
-use Rattle.table.specs.declared.found.Found.{Found}
+use Rattle.table.specs.Inner.Places.{shorter, found_from, found, Finds}
 use Rattle.table.specs.declared.found.Found.TheVariants.{At, Absent}
 use Rattle.table.proofs.Keyed.{rising_strict}
 use Rattle.table.proofs.Columns.{insert_at}

@@ -1,22 +1,21 @@
 -- What replacing and inserting in all five columns does to the list of positions.
-use Prim.Native.Nat.{ℕ, zero, suc, ◌+◌, ◌-◌, ◌≤◌, ◌<◌}
+use Prim.Native.Nat.{ℕ, suc, ◌+◌, ◌-◌, ◌≤◌, ◌<◌}
 use mathlib.Core.Path.{◌≡◌, refl, sym, ap, subst, ◌∙◌}
-use mathlib.Core.List.{List, [], ◌∷◌, map}
+use mathlib.Core.List.{List, map}
 use mathlib.Core.Bool.{Bool, true, false}
-use mathlib.Core.Option.{Option, none, some}
+use mathlib.Core.Option.{some}
 use native.Mathlib.Omega.{arith}
 use native.Mathlib.Numerals.{add-one}
-use lib.Dec.{eqb, leb, ltb}
-use lib.IntN.{ℤ, pos}
+use lib.Dec.{leb, ltb}
 use lib.ListN.{length, take, drop, get_or, set, replicate, length-set}
 use lib.Seq.{drop-cons, get_or-take, length-take-le, take-set-lt, drop-set-lt}
 use borrow.Author.Tests.{le-leb, lt-ltb, le-ltb, ltb-true, ltb-false}
-use Rattle.position.specs.Rows.{row, fresh, key_of}
+use Rattle.position.specs.Rows.{fresh, key_of}
 use Rattle.position.specs.declared.position.Position.{Position}
-use Rattle.table.specs.Keyed.{pick, both, there, or_else, seek, put, put64}
+use Rattle.table.specs.Keyed.{pick, both, seek, put, put64}
 use Rattle.table.specs.Inner.Keyed.{Rising}
-use Rattle.table.specs.Inner.Places.{found_from, found}
-use Rattle.table.specs.Rows.{zip2, give, Cols, cols, zipped, rows, Full, holding, row_at}
+use Rattle.table.specs.Inner.Places.{found}
+use Rattle.table.specs.Rows.{Cols, zipped, rows, Full, holding, row_at}
 use Rattle.table.specs.Inner.Rows.{Ordered, Puts, CountedCols, counted_cols, opened, set_all, open_all, held_at, posted}
 use Rattle.table.specs.declared.found.Found.{Found}
 use Rattle.table.specs.declared.found.Found.TheVariants.{At, Absent}

@@ -1,13 +1,13 @@
 -- Laws of the five columns read as one list of positions.
-use Prim.Native.Nat.{ℕ, zero, suc, ◌+◌, ◌-◌, ◌≤◌, ◌<◌}
+use Prim.Native.Nat.{ℕ, zero, suc}
 use mathlib.Core.Path.{◌≡◌, refl, sym, ap, ◌∙◌}
 use mathlib.Core.List.{List, [], ◌∷◌, map}
 use lib.IntN.{ℤ, pos}
-use lib.ListN.{length, take, drop, get_or, set, length-map, get_or-map}
+use lib.ListN.{length, take, get_or, set, length-map, get_or-map}
 use lib.Seq.{ext_get_or}
 use Rattle.position.specs.Rows.{row, fresh, key_of}
 use Rattle.position.specs.declared.position.Position.{Position}
-use Rattle.table.specs.Rows.{zip2, give, Cols, cols, zipped, rows, Full, row_at}
+use Rattle.table.specs.Rows.{zip2, give, Cols, zipped, rows, Full, row_at}
 use Rattle.table.specs.Inner.Rows.{opened, set_all, open_all}
 use Rattle.table.proofs.Columns.{zip_set, zip_opened, zip_length, zip_get_d}
 

@@ -1,5 +1,5 @@
 -- Five columns and a count as a list of positions.
-use Rattle.std.specs.Prelude.{ℕ, zero, suc, ◌-◌, ◌≡◌, List, [], ◌∷◌, ◌++◌, Bool, length, take, drop, get_or, replicate, leb, ℤ, pos}
+use Rattle.std.specs.Prelude.{ℕ, ◌-◌, ◌≡◌, List, [], ◌∷◌, ◌++◌, Bool, length, take, drop, get_or, replicate, leb, ℤ, pos}
 use Rattle.position.specs.Rows.{row, fresh, key_of}
 unfoldable pub use Rattle.position.specs.Shares.{is_zero}
 pub use Rattle.position.specs.Symbols.{zeros}
