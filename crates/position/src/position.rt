@@ -42,6 +42,7 @@ impl Position {
 
     // "A flat position has average and total cost 0; otherwise the average is at least 0, a long's total cost is at least, and a short's at most, its
     // market value at its average"; and its symbol is good.
+    #[tactic(auto, unfolding(crate::specs::Fills::sound))]
     pub fn is_sound(self) -> bool
         ensures { result ≡ sound self }
     {
@@ -53,6 +54,7 @@ impl Position {
 
     // A fill by itself: refuses an unsound position and a price below 0, and then returns the position as given. A price of 0 is taken: "slippage can
     // make a sale's price 0".
+    #[tactic(auto, unfolding(crate::specs::Fills::apply_fill))]
     pub fn apply_fill(self, quantity: Shares, price: i64) -> Filled
         ensures { result ≡ apply_fill self quantity.0 price }
     {
@@ -76,6 +78,7 @@ impl Position {
 
     // A fill of signed micro-shares, positive = buy, at a price in cents. If it adds to the position, the average is worked out anew; if it reduces or
     // flips it, the closed part's profit is realized.
+    #[tactic(auto, unfolding(crate::specs::Fills::applied))]
     pub fn fill(self, quantity: Shares, price: i64) -> Position
         ensures { result ≡ applied self quantity.0 price }
     {
@@ -93,6 +96,7 @@ impl Position {
     }
 
     // Adding to the position.
+    #[tactic(auto, unfolding(crate::specs::Fills::grown))]
     fn grown(self, quantity: Shares, price: i64) -> Position
         ensures { result ≡ grown self quantity.0 price }
     {
@@ -106,6 +110,7 @@ impl Position {
     }
 
     // Reducing or flipping.
+    #[tactic(auto, unfolding(crate::specs::Fills::reduced))]
     fn reduced(self, quantity: Shares, price: i64) -> Position
         ensures { result ≡ reduced self quantity.0 price }
     {
@@ -122,6 +127,7 @@ impl Position {
     }
 
     // The realized profit with that of the part that a fill closes.
+    #[tactic(auto, unfolding(crate::specs::Fills::realized_by))]
     fn realized_by(self, quantity: Shares, price: i64) -> i64
         ensures { result ≡ realized_by self quantity.0 price }
     {
@@ -130,6 +136,7 @@ impl Position {
     }
 
     // long: sell higher = profit; short: buy lower = profit. On a sound position and a price of at least 0 neither difference saturates.
+    #[tactic(auto, unfolding(crate::specs::Fills::gain))]
     fn gain(self, price: i64) -> i64
         ensures { result ≡ gain self price }
     {
@@ -141,6 +148,7 @@ impl Position {
     }
 
     // The cost that leaves the total with the closed part, the same for a long and a short.
+    #[tactic(auto, unfolding(crate::specs::Fills::closed_cost))]
     fn closed_cost(self, part: Shares) -> i64
         ensures { result ≡ closed_cost self part.0 }
     {
@@ -148,6 +156,7 @@ impl Position {
     }
 
     // Fully closed.
+    #[tactic(auto, unfolding(crate::specs::Fills::closed))]
     fn closed(self, realized: i64) -> Position
         ensures { result ≡ closed self realized }
     {
@@ -162,6 +171,7 @@ impl Position {
     }
 
     // Partially closed, same side: the closed part's cost is subtracted, to preserve any fractional remainder in the total.
+    #[tactic(auto, unfolding(crate::specs::Fills::partly_closed))]
     fn partly_closed(self, quantity: Shares, realized: i64) -> Position
         ensures { result ≡ partly_closed self quantity.0 realized }
     {
@@ -171,6 +181,7 @@ impl Position {
     }
 
     // Current market value at the given price (cents).
+    #[tactic(auto, unfolding(crate::specs::Fills::market_value))]
     pub fn market_value(self, price: i64) -> i64
         ensures { result ≡ market_value self price }
     {
@@ -178,6 +189,7 @@ impl Position {
     }
 
     // Unrealized profit at the given market price (cents).
+    #[tactic(auto, unfolding(crate::specs::Fills::unrealized_pnl))]
     pub fn unrealized_pnl(self, price: i64) -> i64
         ensures { result ≡ unrealized_pnl self price }
     {
@@ -198,6 +210,7 @@ impl Position {
     }
 }
 
+#[tactic(auto, unfolding(crate::specs::Fills::sound_numbers))]
 fn sound_numbers(quantity: Shares, average: i64, total: i64) -> bool
     ensures { result ≡ sound_numbers quantity.0 average total }
 {
@@ -216,6 +229,7 @@ fn sound_numbers(quantity: Shares, average: i64, total: i64) -> bool
 }
 
 // Of two quantities that are not zero: whether both are long or both are short.
+#[tactic(auto, unfolding(crate::specs::Fills::same_side))]
 fn same_side(a: Shares, b: Shares) -> bool
     ensures { result ≡ same_side a.0 b.0 }
 {
@@ -227,6 +241,7 @@ fn same_side(a: Shares, b: Shares) -> bool
 }
 
 // The part of a holding that an opposite fill closes.
+#[tactic(auto, unfolding(crate::specs::Fills::closed_by))]
 fn closed_by(held: Shares, fill: Shares) -> Shares
     ensures { result.0 ≡ closed_by held.0 fill.0 }
 {
@@ -236,6 +251,7 @@ fn closed_by(held: Shares, fill: Shares) -> Shares
 }
 
 // A position entered whole at one price.
+#[tactic(auto, unfolding(crate::specs::Fills::entered))]
 fn entered(symbol: Symbol, quantity: Shares, realized: i64, price: i64) -> Position
     ensures { result ≡ entered symbol.0 quantity.0 realized price }
 {
@@ -249,6 +265,7 @@ fn entered(symbol: Symbol, quantity: Shares, realized: i64, price: i64) -> Posit
 }
 
 // A position whose average is recovered from its total cost.
+#[tactic(auto, unfolding(crate::specs::Fills::averaged))]
 fn averaged(symbol: Symbol, quantity: Shares, realized: i64, total: i64) -> Position
     ensures { result ≡ averaged symbol.0 quantity.0 realized total }
 {

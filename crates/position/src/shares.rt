@@ -48,6 +48,7 @@ impl Shares {
     }
 
     // The quantity as a fractional share count.
+    #[tactic(auto, unfolding(crate::specs::Shares::to_f64))]
     pub fn to_f64(self) -> f64
         ensures { result ≡ to_f64 self.0 }
     {
@@ -55,6 +56,7 @@ impl Shares {
     }
 
     // Truncate to a whole-share count (drops any fractional remainder).
+    #[tactic(auto, unfolding(crate::specs::Shares::whole_shares))]
     pub fn whole(self) -> i64
         ensures { result ≡ whole_shares self.0 }
     {
