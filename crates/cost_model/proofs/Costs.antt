@@ -1,5 +1,5 @@
 -- What callers need of costs: at least the floor and at most the ceiling, never falling as the notional rises, and the bounds of an effective price.
-use Prim.Native.Nat.{ℕ, zero, ◌≤◌, ◌<◌, ◌^◌}
+use Prim.Native.Nat.{ℕ, ◌≤◌, ◌<◌, ◌^◌}
 use mathlib.Core.Path.{◌≡◌, refl, sym, ◌∙◌, subst}
 use mathlib.Core.Bool.{Bool, true, false, cond, ◌||◌}
 use native.Mathlib.Omega.{arith}

@@ -23,6 +23,7 @@ pub struct CostModel {
 
 impl CostModel {
     // A zero-cost model (no fees, no slippage).
+    #[tactic(auto, using(crate::proofs::Constants::zero_is))]
     pub fn zero() -> CostModel
         ensures { result ≡ free }
     {
@@ -35,6 +36,7 @@ impl CostModel {
     }
 
     // Whether every part is in its bounds: document 01's, and for the ceiling document 02's.
+    #[tactic(auto, using(crate::proofs::Constants::zero_is, crate::proofs::Constants::ten_thousand_is), unfolding(crate::specs::Costs::good_costs))]
     pub fn is_good(self) -> bool
         ensures { result ≡ good_costs self }
     {
@@ -54,6 +56,7 @@ impl CostModel {
     }
 
     // Commission for a trade of the given notional (cents), for every notional, rate, floor and ceiling: a NaN counts 0, and what is too large saturates.
+    #[tactic(auto, unfolding(crate::specs::Costs::cost, crate::specs::Costs::uncapped))]
     pub fn compute_cost(self, notional: i64) -> i64
         ensures { result ≡ cost self notional }
     {
@@ -62,6 +65,7 @@ impl CostModel {
     }
 
     // The factor that slippage puts on a buy's price or on a sale's.
+    #[tactic(auto, using(crate::proofs::Constants::one_is, crate::proofs::Constants::ten_thousand_is), unfolding(crate::specs::Costs::slippage_factor))]
     pub fn slippage_factor(self, buying: bool) -> f64
         ensures { result ≡ slippage_factor self buying }
     {
@@ -70,6 +74,7 @@ impl CostModel {
 
     // The price after slippage of a fill of so many micro-shares, below 0 for a sale. Each side's factor does not depend on the quantity, so that
     // a compiler can take it out of a loop of fills.
+    #[tactic(auto, unfolding(crate::specs::Costs::effective))]
     pub fn effective_price(self, quantity: Shares, price: i64) -> i64
         ensures { result ≡ effective self (is_positive quantity.0) price }
     {
@@ -82,6 +87,7 @@ impl CostModel {
 }
 
 // A price times the factor, rounded: the price goes through a double even where the factor is 1.
+#[tactic(auto, unfolding(crate::specs::Costs::slipped))]
 pub fn slipped(factor: f64, price: i64) -> i64
     ensures { result ≡ slipped factor price }
 {
@@ -89,6 +95,7 @@ pub fn slipped(factor: f64, price: i64) -> i64
 }
 
 // "Commission is round(notional × bps / 10,000), multiplied first".
+#[tactic(auto, using(crate::proofs::Constants::ten_thousand_is), unfolding(crate::specs::Costs::commission))]
 fn commission(bps: f64, notional: i64) -> i64
     ensures { result ≡ commission bps (nat_abs notional) }
 {
@@ -97,6 +104,7 @@ fn commission(bps: f64, notional: i64) -> i64
 }
 
 // ".. and at least `min_commission`."
+#[tactic(auto, unfolding(crate::specs::Costs::at_least))]
 fn at_least(floor: i64, charged: i64) -> i64
     ensures { result ≡ at_least floor charged }
 {
@@ -104,6 +112,7 @@ fn at_least(floor: i64, charged: i64) -> i64
 }
 
 // "the lesser of today's commission and the ceiling", "0 meaning none"
+#[tactic(auto, unfolding(crate::specs::Costs::at_most))]
 fn at_most(ceiling: i64, charged: i64) -> i64
     ensures { result ≡ at_most ceiling charged }
 {
@@ -113,12 +122,14 @@ fn at_most(ceiling: i64, charged: i64) -> i64
     if ceiling < charged { ceiling } else { charged }
 }
 
+#[tactic(auto, using(crate::proofs::Constants::one_is, crate::proofs::Constants::minus_one_is))]
 fn side(buying: bool) -> f64
     ensures { result ≡ sign buying }
 {
     if buying { 1.0 } else { -1.0 }
 }
 
+#[tactic(auto, using(crate::proofs::Constants::zero_is), unfolding(crate::specs::Costs::good_rate))]
 fn good_rate(x: f64) -> bool
     ensures { result ≡ good_rate x }
 {
@@ -129,6 +140,7 @@ fn good_rate(x: f64) -> bool
 }
 
 // A ceiling equal to the floor is good: a flat fee.
+#[tactic(auto, unfolding(crate::specs::Costs::good_ceiling))]
 fn good_ceiling(floor: i64, ceiling: i64) -> bool
     ensures { result ≡ good_ceiling floor ceiling }
 {
