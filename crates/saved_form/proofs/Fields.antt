@@ -7,7 +7,6 @@ use mathlib.Core.List.{List, [], ◌∷◌, ◌++◌, map}
 use lib.Dec.{ltb}
 use lib.ListN.{length, get_or, take, drop, replicate}
 use borrow.Author.Tests.{le-leb, lt-leb, ltb-true, ltb-false}
-use Rattle.saved_form.specs.declared.field.Kind.{Kind}
 use Rattle.saved_form.specs.declared.field.Kind.TheVariants.{Any, Flag, AfterMark, Pattern, Positions}
 use Rattle.saved_form.specs.declared.field.Field.{Field}
 use Rattle.saved_form.specs.Fields.{since, head_fields, position_fields, field_at, follows, has_field}
