@@ -10,6 +10,7 @@ pub(crate) struct Curve {
 }
 
 // The other value where it is above the first. A NaN is above nothing.
+#[tactic(auto, unfolding(crate::specs::Curve::raised))]
 fn raised(value: f64, other: f64) -> f64
     ensures { result ≡ raised value other }
 {
@@ -29,6 +30,7 @@ impl Curve {
     }
 
     // After one more return.
+    #[tactic(auto, unfolding(crate::specs::Curve::curve_after, crate::specs::Curve::compounded, crate::specs::Curve::fallen))]
     pub(crate) fn after(self, r: f64) -> Self
         ensures { result ≡ curve_after self r }
     {

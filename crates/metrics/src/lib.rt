@@ -44,6 +44,7 @@ pub struct Metrics {
 }
 
 // "Each refusal returns its number with zero figures".
+#[tactic(auto, unfolding(crate::specs::Figures::no_figures))]
 fn refused(answer: Answer) -> Metrics
     ensures { result ≡ refusal answer }
 {
@@ -62,6 +63,7 @@ fn refused(answer: Answer) -> Metrics
 }
 
 // The figures of what one pass over `num_periods` returns gathered.
+#[tactic(auto, unfolding(crate::specs::Inner::Gathered::figures_from, crate::specs::Inner::Gathered::tally_payoff))]
 fn figures_of(num_periods: u64, curve: curve::Curve, tally: tally::Tally) -> Figures
     ensures { result ≡ figures_from num_periods curve tally }
 {
@@ -86,6 +88,7 @@ fn figures_of(num_periods: u64, curve: curve::Curve, tally: tally::Tally) -> Fig
 
 // Compute performance metrics from a series of periodic returns: answer 6 for a series over its bound,
 // then 12 for one that is empty or has a non-finite member.
+#[tactic(auto, using(crate::proofs::OnePass::figures_are), unfolding(crate::specs::Answers::metrics_of, crate::specs::Inner::Gathered::gathered))]
 pub fn compute_metrics(returns: &[f64]) -> Metrics
     ensures { result ≡ metrics_of returns.now }
 {

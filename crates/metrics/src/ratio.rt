@@ -21,6 +21,7 @@ fn absolute(x: f64) -> f64
     if x < 0.0 { -x } else { x }
 }
 
+#[tactic(auto, unfolding(crate::specs::Ratio::win_rate_of))]
 pub(crate) fn win_rate(winning_periods: u64, num_periods: u64) -> f64
     ensures { result ≡ win_rate_of winning_periods num_periods }
 {
@@ -28,6 +29,7 @@ pub(crate) fn win_rate(winning_periods: u64, num_periods: u64) -> f64
 }
 
 // The mean of `count` returns that come to `sum`, and 0 of none.
+#[tactic(auto, unfolding(crate::specs::Ratio::mean))]
 pub(crate) fn mean(sum: f64, count: u64) -> f64
     ensures { result ≡ mean sum count }
 {
@@ -40,6 +42,7 @@ pub(crate) fn mean(sum: f64, count: u64) -> f64
 
 // A gain over the loss that stands against it. Exact zero check is appropriate:
 // a loss is exactly 0.0 when there are no negative returns.
+#[tactic(auto, unfolding(crate::specs::Ratio::gain_over_loss))]
 pub(crate) fn gain_over_loss(gain: f64, loss: f64) -> f64
     ensures { result ≡ gain_over_loss gain loss }
 {
@@ -53,6 +56,7 @@ pub(crate) fn gain_over_loss(gain: f64, loss: f64) -> f64
 }
 
 // Kelly criterion: w - (1 - w) / b
+#[tactic(auto, unfolding(crate::specs::Ratio::kelly_of))]
 pub(crate) fn kelly(win_rate: f64, payoff_ratio: f64) -> f64
     ensures { result ≡ kelly_of win_rate payoff_ratio }
 {

@@ -42,6 +42,7 @@ impl Tally {
     }
 
     // After one more return.
+    #[tactic(auto, unfolding(crate::specs::Inner::Tally::tally_after))]
     pub(crate) fn after(self, r: f64) -> Self
         requires { (self.winning_periods < most_returns) × (self.losing_periods < most_returns) }
         ensures { result ≡ tally_after self r }
