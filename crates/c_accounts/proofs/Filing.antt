@@ -5,7 +5,6 @@ use mathlib.Core.Bool.{Bool, true, false}
 use mathlib.Core.List.{List}
 use lib.Dec.{eqb}
 use lib.IntN.{ℤ}
-use lib.ListN.{length}
 use mir.Syntax.{w64}
 use mir.Val.{to_z, of_z, SFits}
 use mir.ValLaws.{to_z-of_z}
@@ -15,13 +14,11 @@ use Rattle.answer.specs.Numbers.{is_done}
 use Rattle.answer.specs.Places.{word_of}
 use Rattle.answer.proofs.Places.{word_done}
 use Rattle.table.specs.Keyed.{pick, both}
-use Rattle.table.proofs.Keyed.{both_true}
-use Rattle.word_bytes.specs.Words.{words_of}
 use Rattle.account.specs.declared.account.Account.{Account}
 use Rattle.account.specs.declared.settings.Settings.{Settings}
 use Rattle.account.specs.declared.change.Changed.{Changed}
 use Rattle.account.specs.Settings.{good_settings}
-use Rattle.account.specs.Account.{sound_account, with_settings}
+use Rattle.account.specs.Account.{with_settings}
 use Rattle.account.specs.Calls.{answered, changed}
 use Rattle.account_bytes.specs.Account.{written_account}
 use Rattle.account_bytes.proofs.Sound.{sound_in_lem, written-sound}

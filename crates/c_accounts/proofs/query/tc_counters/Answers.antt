@@ -1,0 +1,14 @@
+-- The words of the counters, told.
+use mathlib.Core.Path.{refl, ◌∙◌}
+use Rattle.answer.specs.declared.Answer.TheVariants.{Done}
+use Rattle.account.specs.declared.account.Account.{Account}
+use Rattle.account_bytes.specs.Account.{counter_words}
+use Rattle.c_accounts.proofs.Telling.{told-queried}
+use Rattle.c_accounts.proofs.query.tc_counters.Goals as goal
+
+pub returns : goal.returns
+returns c =
+    let s = c.args in
+    c.tell.ensures
+    ∙ told-queried (λ (x : Account). counter_words x.counters) Done refl s.account.now s.out.now c.account_in-a.ensures c.unless_unsound-number.ensures
+    c.counter_words-words.ensures
