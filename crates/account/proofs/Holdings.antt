@@ -1,8 +1,8 @@
 -- What ordered columns hold: the position of a symbol, and the one at a place.
-use Prim.Native.Nat.{ℕ, ◌<◌, ◌≤◌}
+use Prim.Native.Nat.{ℕ, ◌<◌}
 use mathlib.Core.Path.{◌≡◌, sym, ap, ◌∙◌}
 use native.Mathlib.Omega.{arith}
-use lib.ListN.{length, take, get_or}
+use lib.ListN.{take, get_or}
 use Rattle.position.specs.Rows.{fresh, key_of}
 use Rattle.table.specs.Keyed.{seek}
 use Rattle.table.specs.Inner.Places.{found}

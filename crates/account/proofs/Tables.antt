@@ -1,22 +1,21 @@
 -- A table as a list of positions, and back.
-use Prim.Native.Nat.{ℕ, zero, suc, ◌+◌, ◌-◌, ◌≤◌, ◌<◌}
-use mathlib.Core.Path.{◌≡◌, refl, sym, ap, subst, ◌∙◌}
+use Prim.Native.Nat.{ℕ, zero, suc, ◌-◌, ◌≤◌}
+use mathlib.Core.Path.{◌≡◌, refl, sym, ap, ◌∙◌}
 use mathlib.Core.List.{List, [], ◌∷◌, ◌++◌, map}
-use mathlib.Core.Bool.{Bool, true, false}
+use mathlib.Core.Bool.{true}
 use native.Mathlib.Omega.{arith}
-use lib.IntN.{ℤ, pos}
-use lib.ListN.{length, take, drop, get_or, replicate, length-append, length-map, length-replicate, take-append-drop}
+use lib.IntN.{pos}
+use lib.ListN.{length, take, drop, replicate, length-append, length-map, length-replicate, take-append-drop}
 use lib.Seq.{take_at, drop_at}
 use Rattle.position.specs.Rows.{row, fresh, key_of, held, avg, realized, total}
 use Rattle.position.specs.declared.position.Position.{Position}
 use Rattle.table.specs.Keyed.{ascending}
-use Rattle.table.specs.Inner.Keyed.{Rising}
-use Rattle.table.specs.Rows.{zip2, give, padded_column, Cols, cols, columns_of, zipped, rows, Full}
+use Rattle.table.specs.Rows.{zip2, padded_column, Cols, columns_of, zipped, rows, Full}
 use Rattle.table.specs.Inner.Rows.{Ordered}
 use Rattle.table.specs.declared.table.Table.{Table}
 use Rattle.table.proofs.Keyed.{ascending_rises}
 use Rattle.table.proofs.Zipped.{map-take, symbols_of_lem, quantities_of, averages_of, realized_of, totals_of}
-use Rattle.account.specs.Account.{sound_columns, sound_table, held_in, table_of}
+use Rattle.account.specs.Account.{sound_table, held_in, table_of}
 use Rattle.account.specs.Inner.Account.{table_with}
 use Rattle.account.proofs.Columns.{all_sound, rows-length, sound-orders, orders-sound}
 

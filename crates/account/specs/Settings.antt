@@ -1,5 +1,5 @@
 -- Document 01, 'Numbers that bound an account': the settings.
-use Rattle.std.specs.Prelude.{ℕ, Bool, true, false, ℤ, pos, Float}
+use Rattle.std.specs.Prelude.{ℕ, Bool, false, ℤ, pos, Float}
 use Rattle.std.specs.Int.Signed.{le_z}
 use Rattle.doubles.specs.Doubles.{zero}
 use Rattle.table.specs.Keyed.{both}
@@ -8,7 +8,7 @@ use Rattle.cost_model.specs.Costs.{free, good_rate, good_costs}
 use Rattle.account.specs.declared.settings.Rules.{Rules}
 use Rattle.account.specs.declared.settings.Settings.{Settings}
 use Rattle.account.specs.declared.settings.TradeCap.{TradeCap}
-use Rattle.account.specs.declared.settings.TradeCap.TheVariants.{Absent, AtMost}
+use Rattle.account.specs.declared.settings.TradeCap.TheVariants.{Absent}
 
 -- "at least 0"
 abbrev pub is_at_least : ℕ → ℤ → Bool
