@@ -1,64 +1,84 @@
 -- The room is the end and b, which fits; a compared with it says whether the difference does.
-use Rattle.std.proofs.Common.{◌≡◌, ◌+ℤ◌, ◌-ℤ◌, sym, ◌∙◌, arith, to_z-of_z, w64, SFits, to_z, of_z}
+use Rattle.std.proofs.Common.{◌≡◌, true, false, ℤ, pos, ◌+ℤ◌, ◌-ℤ◌, sym, ◌∙◌, arith, to_z-of_z, w64, SFits, to_z, of_z}
+use lib.Signed.{lt_z, le_z}
 use Rattle.sums.specs.Sums.{sat_sub}
 use Rattle.sums.proofs.Ints.{P, N, P-add, P-sub, P-fits, N-fits, clamp_same}
 use Rattle.sums.proofs.Room.{MAX, MIN, not_below, below, top_fits, low_fits, over, at_most, under, at_least}
 use Rattle.sums.proofs.saturating_sub.Goals as goal
-use Rattle.sums.proofs.saturating_sub.Lts as lts
-use Rattle.sums.proofs.saturating_sub.Reads as reads
 
--- what the machine holds is the bits of a number: read back they are the number
-module _ (s : lts.Start reads.Pre reads.Post) where
-  ra : to_z w64 (of_z w64 s.args.a) ≡ s.args.a
-  ra = to_z-of_z s.ranges.a
+-- what the machine holds is the bits of a number
+abbrev held : ℤ → ℤ
+held z = to_z w64 (of_z w64 z)
 
-  rb : to_z w64 (of_z w64 s.args.b) ≡ s.args.b
-  rb = to_z-of_z s.ranges.b
+module _ (a b : ℤ) (fa : SFits w64 a) (fb : SFits w64 b) where
+  -- read back they are the number
+  ra : held a ≡ a
+  ra = to_z-of_z fa
+
+  rb : held b ≡ b
+  rb = to_z-of_z fb
+
+  module _ (h : le_z (pos 0) (held b) ≡ true) where
+    low-room : SFits w64 (MIN +ℤ held b)
+    low-room = rw rb (low_fits (MIN +ℤ b) (N b) (P b) (P-add MIN b) (not_below b (rw rb at h)) (omega (arith, P-fits b fb)))
+
+    rl : held (MIN +ℤ held b) ≡ MIN +ℤ b
+    rl = to_z-of_z low-room ∙ rw rb
+
+    fits_above : lt_z (held a) (held (MIN +ℤ held b)) ≡ false → SFits w64 (a -ℤ b)
+    fits_above g = at_least a (a -ℤ b) (MIN +ℤ b) (N b) (P b) (P-sub a b) (P-add MIN b) (not_below b (rw rb at h)) fa (rw (rl, ra) at g)
+
+  module _ (h : le_z (pos 0) (held b) ≡ false) where
+    top-room : SFits w64 (MAX +ℤ held b)
+    top-room = rw rb (top_fits (MAX +ℤ b) (N b) (P b) (P-add MAX b) (below b (rw rb at h)) (N-fits b fb))
+
+    rt : held (MAX +ℤ held b) ≡ MAX +ℤ b
+    rt = to_z-of_z top-room ∙ rw rb
+
+    fits_below : lt_z (held (MAX +ℤ held b)) (held a) ≡ false → SFits w64 (a -ℤ b)
+    fits_below g = at_most a (a -ℤ b) (MAX +ℤ b) (N b) (P b) (P-sub a b) (P-add MAX b) (below b (rw rb at h)) fa (rw (rt, ra) at g)
+
+  difference-fits : SFits w64 (a -ℤ b) → SFits w64 (held a -ℤ held b)
+  difference-fits f = simp (ra, rb) f
+
+  difference_is : SFits w64 (a -ℤ b) → held (held a -ℤ held b) ≡ sat_sub a b
+  unfolding sat_sub
+  difference_is f = simp (ra, rb) (to_z-of_z f ∙ sym (clamp_same _ f))
 
 pub overflow_add-low : goal.overflow_add-low
-overflow_add-low c =
-    rw (rb c.before) (low_fits (MIN +ℤ c.args.b) (N c.args.b) (P c.args.b) (P-add MIN c.args.b) (not_below c.args.b (rw (rb c.before) at c.if-b-ge0.true)) (omega (arith, P-fits c.args.b c.ranges.b)))
-
-module _ (c : lts.Then1 reads.Pre reads.Post) where
-  rl : to_z w64 (of_z w64 (MIN +ℤ to_z w64 (of_z w64 c.args.b))) ≡ MIN +ℤ c.args.b
-  rl = to_z-of_z (overflow_add-low c) ∙ rw (rb c.before)
+overflow_add-low c = low-room c.args.a c.args.b c.ranges.a c.ranges.b c.if-b-ge0.true
 
 pub overflow_sub-result : goal.overflow_sub-result
 overflow_sub-result c =
-    simp (ra c.before.before, rb c.before.before)
-    (at_least c.args.a (c.args.a -ℤ c.args.b) (MIN +ℤ c.args.b) (N c.args.b) (P c.args.b) (P-sub c.args.a c.args.b) (P-add MIN c.args.b) (not_below c.args.b (rw (rb c.before.before) at c.if-b-ge0.true)) c.ranges.a (rw (rl c.before, ra c.before.before) at c.if-a-low.false))
+    difference-fits c.args.a c.args.b c.ranges.a c.ranges.b (fits_above c.args.a c.args.b c.ranges.a c.ranges.b c.if-b-ge0.true c.if-a-low.false)
 
 pub overflow_add-top : goal.overflow_add-top
-overflow_add-top c =
-    rw (rb c.before) (top_fits (MAX +ℤ c.args.b) (N c.args.b) (P c.args.b) (P-add MAX c.args.b) (below c.args.b (rw (rb c.before) at c.if-b-ge0.false)) (N-fits c.args.b c.ranges.b))
-
-module _ (c : lts.Else1 reads.Pre reads.Post) where
-  rt : to_z w64 (of_z w64 (MAX +ℤ to_z w64 (of_z w64 c.args.b))) ≡ MAX +ℤ c.args.b
-  rt = to_z-of_z (overflow_add-top c) ∙ rw (rb c.before)
+overflow_add-top c = top-room c.args.a c.args.b c.ranges.a c.ranges.b c.if-b-ge0.false
 
 pub overflow_sub-result-else-top-a : goal.overflow_sub-result-else-top-a
 overflow_sub-result-else-top-a c =
-    simp (ra c.before.before, rb c.before.before)
-    (at_most c.args.a (c.args.a -ℤ c.args.b) (MAX +ℤ c.args.b) (N c.args.b) (P c.args.b) (P-sub c.args.a c.args.b) (P-add MAX c.args.b) (below c.args.b (rw (rb c.before.before) at c.if-b-ge0.false)) c.ranges.a (rw (rt c.before, ra c.before.before) at c.if-top-a.false))
+    difference-fits c.args.a c.args.b c.ranges.a c.ranges.b (fits_below c.args.a c.args.b c.ranges.a c.ranges.b c.if-b-ge0.false c.if-top-a.false)
 
 pub returns-then-a-low : goal.returns-then-a-low
 unfolding sat_sub
 returns-then-a-low c =
-    under c.args.a (c.args.a -ℤ c.args.b) (MIN +ℤ c.args.b) (N c.args.b) (P c.args.b) (P-sub c.args.a c.args.b) (P-add MIN c.args.b) (rw (rl c.before, ra c.before.before) at c.if-a-low.true)
+    let a = c.args.a in
+    let b = c.args.b in
+    under a (a -ℤ b) (MIN +ℤ b) (N b) (P b) (P-sub a b) (P-add MIN b)
+    (rw (rl a b c.ranges.a c.ranges.b c.if-b-ge0.true, ra a b c.ranges.a c.ranges.b) at c.if-a-low.true)
 
 pub returns-else-a-low : goal.returns-else-a-low
-unfolding sat_sub
 returns-else-a-low c =
-    let f : SFits w64 (c.args.a -ℤ c.args.b) = simp (ra c.before.before, rb c.before.before) at (overflow_sub-result c) in
-    simp (ra c.before.before, rb c.before.before) (to_z-of_z f ∙ sym (clamp_same _ f))
+    difference_is c.args.a c.args.b c.ranges.a c.ranges.b (fits_above c.args.a c.args.b c.ranges.a c.ranges.b c.if-b-ge0.true c.if-a-low.false)
 
 pub returns-then-top-a : goal.returns-then-top-a
 unfolding sat_sub
 returns-then-top-a c =
-    over c.args.a (c.args.a -ℤ c.args.b) (MAX +ℤ c.args.b) (N c.args.b) (P c.args.b) (P-sub c.args.a c.args.b) (P-add MAX c.args.b) (rw (rt c.before, ra c.before.before) at c.if-top-a.true)
+    let a = c.args.a in
+    let b = c.args.b in
+    over a (a -ℤ b) (MAX +ℤ b) (N b) (P b) (P-sub a b) (P-add MAX b)
+    (rw (rt a b c.ranges.a c.ranges.b c.if-b-ge0.false, ra a b c.ranges.a c.ranges.b) at c.if-top-a.true)
 
 pub returns-else-top-a : goal.returns-else-top-a
-unfolding sat_sub
 returns-else-top-a c =
-    let f : SFits w64 (c.args.a -ℤ c.args.b) = simp (ra c.before.before, rb c.before.before) at (overflow_sub-result-else-top-a c) in
-    simp (ra c.before.before, rb c.before.before) (to_z-of_z f ∙ sym (clamp_same _ f))
+    difference_is c.args.a c.args.b c.ranges.a c.ranges.b (fits_below c.args.a c.args.b c.ranges.a c.ranges.b c.if-b-ge0.false c.if-top-a.false)

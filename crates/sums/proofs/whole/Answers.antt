@@ -21,6 +21,7 @@ unfolding value_of
 returns c =
     let n = c.args.n in
     let e : to_z w64 (of_z w64 n) ≡ n = to_z-of_z c.ranges.n in
-    let m : 0 * 2 ^ 64 + c.scale_word-units.result.quotient ≡ nat_abs n / SCALE = zero-add _ ∙ c.scale_word-units.ensures.0 ∙ ap (λ (x : ℕ). x / SCALE) (c.unsigned_abs.ensures ∙ ap nat_abs e) in
+    let m : 0 * 2 ^ 64 + c.scale_word-units.result.quotient ≡ nat_abs n / SCALE =
+    zero-add _ ∙ c.scale_word-units.ensures.0 ∙ ap (λ (x : ℕ). x / SCALE) (c.unsigned_abs.ensures ∙ ap nat_abs e) in
     clamp_back _ _ (c.clamped.ensures ∙ (λ i. clamp64 (signed (lt_z (e i) (pos 0)) (m i))))
     ∙ ap clamp64 (by-magnitude n) ∙ clamp_same _ (whole-fits n c.ranges.n)
