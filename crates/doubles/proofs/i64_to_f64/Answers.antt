@@ -13,9 +13,6 @@ use mir.ValLaws.{to_z_pos}
 use lib.Ieee.{binary64, neg, of_int}
 use Rattle.doubles.proofs.Signs.{int_neg}
 use Rattle.doubles.proofs.i64_to_f64.Goals as goal
-use Rattle.doubles.proofs.i64_to_f64.Lts as lts
-use Rattle.doubles.proofs.i64_to_f64.Reads as reads
-use Rattle.doubles.proofs.i64_to_f64.Tie as tie
 
 -- a negative number, and the bits of its complement
 record Down (n z : ℤ) : Type 0 where
@@ -31,11 +28,8 @@ down (negsuc k) f h = record { rest = k; is = refl; bits = ap (to_z w64) (turn k
     turn : (k : ℕ) → k < 2 ^ 63 → 0xffff_ffff_ffff_ffff - (2 ^ 64 - suc k) ≡ k
     turn k l = omega arith
 
-below : (c : lts.Else1 tie.the-claims reads.Pre reads.Post) → Down c.args.n (to_z w64 (0xffff_ffff_ffff_ffff - of_z w64 c.args.n))
-below c = down c.args.n c.ranges.n c.if-n-ge0.false
-
 pub returns : goal.returns
 returns c =
-    let d = below c.before in
+    let d = down c.args.n c.ranges.n c.if-n-ge0.false in
     ap neg c.u64_to_f64-2.ensures ∙ ap (λ (z : ℤ). neg (of_int binary64 (pos (nat_abs z + 1)))) d.bits
     ∙ ap (λ (n : ℕ). neg (of_int binary64 (pos n))) (add-one d.rest) ∙ int_neg binary64 d.rest ∙ ap (of_int binary64) (sym d.is)

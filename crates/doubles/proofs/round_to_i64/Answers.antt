@@ -6,13 +6,10 @@ use mir.ValLaws.{to_z-of_z}
 use lib.Dec.{leb}
 use lib.Ieee.{binary64, to_bits, to_signed}
 use Rattle.doubles.specs.Doubles.{round_away}
-use Rattle.doubles.specs.Fields.{exponent_of, fraction_of, units_of, signed_size}
-use Rattle.doubles.proofs.Fields.{yes, Sized, unlike_itself, like_itself, sign_of_bits, sized}
+use Rattle.doubles.specs.Fields.{signed_size}
+use Rattle.doubles.proofs.Fields.{yes, unlike_itself, like_itself, sign_of_bits, sized}
 use Rattle.doubles.proofs.Away.{away-above, cast_below}
 use Rattle.doubles.proofs.round_to_i64.Goals as goal
-use Rattle.doubles.proofs.round_to_i64.Lts as lts
-use Rattle.doubles.proofs.round_to_i64.Reads as reads
-use Rattle.doubles.proofs.round_to_i64.Tie as tie
 
 pub returns-then-x : goal.returns-then-x
 unfolding to_signed round_away
@@ -21,9 +18,6 @@ returns-then-x c = ap (λ x. to_signed 63 (round_away x)) (sym (unlike_itself c.
 pub float_to_bits-bits : goal.float_to_bits-bits
 float_to_bits-bits c = like_itself c.args.x c.if-x.false
 
-size : (c : lts.Else1 tie.the-claims reads.Pre reads.Post) → Sized c.args.x (leb (2 ^ 63) (to_bits binary64 c.args.x)) (units_of (exponent_of (to_bits binary64 c.args.x)) (fraction_of (to_bits binary64 c.args.x)))
-size c = sized c.args.x (yes c.well_formed.0.1) (like_itself c.args.x c.if-x.false)
-
 pub returns-then-exponent-lt1075 : goal.returns-then-exponent-lt1075
 returns-then-exponent-lt1075 c =
     let x = c.args.x in
@@ -31,11 +25,13 @@ returns-then-exponent-lt1075 c =
     let b = to_bits binary64 x in
     to_z-of_z w64 c.signed.result (record { sfits = c.signed.type_inv }) ∙ c.signed.ensures
     ∙ (λ i. signed_size (sign_of_bits x h i) (c.nearest_whole.ensures i))
-    ∙ cast_below x h (leb (2 ^ 63) b) b c.exponent.result (size c.before.before.before.before) c.exponent.ensures c.if-exponent-lt1075.true
+    ∙ cast_below x h (leb (2 ^ 63) b) b c.exponent.result (sized x h (like_itself x c.if-x.false)) c.exponent.ensures c.if-exponent-lt1075.true
 
 pub returns : goal.returns
 returns c =
     let x = c.args.x in
+    let h = yes c.well_formed.0.1 in
     let b = to_bits binary64 x in
     to_z-of_z w64 c.to_i64.result (record { sfits = c.to_i64.type_inv }) ∙ c.to_i64.ensures
-    ∙ ap (to_signed 63) (away-above x (yes c.well_formed.0.1) (leb (2 ^ 63) b) b c.exponent.result (size c.before.before.before) c.exponent.ensures c.if-exponent-lt1075.false)
+    ∙ ap (to_signed 63)
+    (away-above x h (leb (2 ^ 63) b) b c.exponent.result (sized x h (like_itself x c.if-x.false)) c.exponent.ensures c.if-exponent-lt1075.false)

@@ -10,12 +10,6 @@ use lib.Ieee.{binary64, nan_bits, of_bits}
 use lib.Ieee.Nearest.{closest}
 use Rattle.doubles.proofs.Even.{Digits, digits, leading_ge, leading_le, pattern_no_nan, even_pattern}
 use Rattle.doubles.proofs.u64_to_f64.Goals as goal
-use Rattle.doubles.proofs.u64_to_f64.Lts as lts
-use Rattle.doubles.proofs.u64_to_f64.Reads as reads
-use Rattle.doubles.proofs.u64_to_f64.Tie as tie
-
-all : (c : lts.Else1 tie.the-claims reads.Pre reads.Post) → (count_leading_zeros 64 c.args.n ≤ 10) × Digits c.args.n (11 - count_leading_zeros 64 c.args.n)
-all c = digits c.args.n c.if-n-lt9007199254740992.false c.ranges.n.fits
 
 -- the pattern as the code writes it
 written : (n k q : ℕ) → Digits n k → q ≡ closest n (2 ^ k) → (k + 1074) * 2 ^ 52 % 2 ^ 64 + q ≡ (k + 1074) * 2 ^ 52 + closest n (2 ^ k)
@@ -27,23 +21,23 @@ written n k q d e =
     small k h = omega arith
 
 pub overflow_sub-k : goal.overflow_sub-k
-overflow_sub-k c = omega (arith, (all c).0)
+overflow_sub-k c = omega (arith, (digits c.args.n c.if-n-lt9007199254740992.false c.ranges.n.fits).0)
 
 pub shifted_to_even-requires : goal.shifted_to_even-requires
-shifted_to_even-requires c = omega (arith, (all c).1.some)
+shifted_to_even-requires c = omega (arith, (digits c.args.n c.if-n-lt9007199254740992.false c.ranges.n.fits).1.some)
 
 pub overflow_add-result-2 : goal.overflow_add-result-2
 overflow_add-result-2 c =
     let n = c.args.n in
     let k = 11 - count_leading_zeros 64 n in
-    let d = (all c.before).1 in
+    let d = (digits n c.if-n-lt9007199254740992.false c.ranges.n.fits).1 in
     omega (arith, written n k c.shifted_to_even.result d c.shifted_to_even.ensures, leading_le n k d.lo d.hi d.few)
 
 pub float_from_bits-result : goal.float_from_bits-result
 float_from_bits-result c =
     let n = c.args.n in
     let k = 11 - count_leading_zeros 64 n in
-    let d = (all c.before).1 in
+    let d = (digits n c.if-n-lt9007199254740992.false c.ranges.n.fits).1 in
     subst (λ (b : ℕ). T (not (nan_bits binary64 b))) (sym (written n k c.shifted_to_even.result d c.shifted_to_even.ensures))
     (pattern_no_nan (k + 1074) (closest n (2 ^ k)) (leading_ge n k d.lo d.hi d.few) (leading_le n k d.lo d.hi d.few) (omega arith))
 
@@ -51,5 +45,5 @@ pub returns : goal.returns
 returns c =
     let n = c.args.n in
     let k = 11 - count_leading_zeros 64 n in
-    let d = (all c.before).1 in
+    let d = (digits n c.if-n-lt9007199254740992.false c.ranges.n.fits).1 in
     ap (of_bits binary64) (written n k c.shifted_to_even.result d c.shifted_to_even.ensures) ∙ even_pattern n k d.lo d.hi d.few
