@@ -4,19 +4,14 @@ use mathlib.Core.Path.{◌≡◌}
 use mathlib.Core.Bool.{true, false}
 use mathlib.Core.List.{List, ◌++◌}
 use lib.ListN.{length, drop}
-use borrow.Author.Tests.{eq-eqb}
 use Rattle.answer.specs.Places.{word_of}
-use Rattle.table.proofs.Keyed.{both_true}
 use Rattle.word_bytes.specs.Words.{bytes_of}
-use Rattle.account.specs.declared.account.Account.{Account}
-use Rattle.account.specs.Account.{sound_account}
-use Rattle.account_bytes.specs.Sizes.{account_length}
-use Rattle.account_bytes.specs.Account.{account_words_of, read_account, written_account}
+use Rattle.account_bytes.specs.Account.{account_words_of}
 use Rattle.account_bytes.proofs.Sound.{written-sound}
 use Rattle.list_bytes.specs.Records.{all_bytes}
 use Rattle.portfolio.specs.Answers.{is_done}
 use Rattle.portfolio.specs.Rebalance.{Outcome}
-use Rattle.c_trades.specs.Asked.{account_in, sound_in}
+use Rattle.c_trades.specs.Asked.{sound_in}
 use Rattle.c_trades.specs.Told.{tell_trade, trade_told}
 
 -- ---- a call that trades
