@@ -19,7 +19,8 @@ pub overflow_mul-result : goal.overflow_mul-result
 overflow_mul-result c = omega (arith, R.fits_here c.loop-left.invariant (omega arith), R.group_fits c.loop-left.invariant c.byte-b.result 128 (omega arith))
 
 pub overflow_add-result : goal.overflow_add-result
-overflow_add-result c = omega (arith, R.fits_here c.loop-left.invariant (omega arith), R.group_fits c.loop-left.invariant c.byte-b.result 127 (omega arith), c.loop-left.invariant.small)
+overflow_add-result c =
+    omega (arith, R.fits_here c.loop-left.invariant (omega arith), R.group_fits c.loop-left.invariant c.byte-b.result 127 (omega arith), c.loop-left.invariant.small)
 
 pub returns-then-b-lt128 : goal.returns-then-b-lt128
 returns-then-b-lt128 c = R.last-number c.loop-left.invariant c.byte-b.result c.byte-b.ensures.0 (search rules) (search rules) (search rules) (search rules)
@@ -28,7 +29,8 @@ pub overflow_mul-sum : goal.overflow_mul-sum
 overflow_mul-sum c = omega (arith, R.fits_here c.loop-left.invariant (omega arith), R.group_fits c.loop-left.invariant (c.byte-b.result - 128) 127 (omega arith))
 
 pub overflow_add-sum : goal.overflow_add-sum
-overflow_add-sum c = omega (arith, R.fits_here c.loop-left.invariant (omega arith), R.group_fits c.loop-left.invariant (c.byte-b.result - 128) 127 (omega arith), c.loop-left.invariant.small)
+overflow_add-sum c =
+    omega (arith, R.fits_here c.loop-left.invariant (omega arith), R.group_fits c.loop-left.invariant (c.byte-b.result - 128) 127 (omega arith), c.loop-left.invariant.small)
 
 pub overflow_mul-scale : goal.overflow_mul-scale
 overflow_mul-scale c = omega (arith, R.fits_here c.loop-left.invariant (omega arith))
