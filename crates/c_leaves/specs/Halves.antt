@@ -1,6 +1,5 @@
 -- A number of two words, a word at a time: a C function takes and gives single numbers.
 use Rattle.std.specs.Prelude.{ℕ}
-use Rattle.sums.specs.declared.Wide.{Wide}
 use Rattle.sums.specs.Wide.{value_of, wide}
 
 abbrev pub upper : ℕ → ℕ
