@@ -48,7 +48,6 @@ impl Shares {
     }
 
     // The quantity as a fractional share count.
-    #[tactic(auto, unfolding(crate::specs::Shares::to_f64))]
     pub fn to_f64(self) -> f64
         ensures { result ≡ to_f64 self.0 }
     {
