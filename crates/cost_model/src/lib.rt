@@ -112,7 +112,6 @@ fn at_least(floor: i64, charged: i64) -> i64
 }
 
 // "the lesser of today's commission and the ceiling", "0 meaning none"
-#[tactic(auto, unfolding(crate::specs::Costs::at_most))]
 fn at_most(ceiling: i64, charged: i64) -> i64
     ensures { result ≡ at_most ceiling charged }
 {
@@ -140,7 +139,6 @@ fn good_rate(x: f64) -> bool
 }
 
 // A ceiling equal to the floor is good: a flat fee.
-#[tactic(auto, unfolding(crate::specs::Costs::good_ceiling))]
 fn good_ceiling(floor: i64, ceiling: i64) -> bool
     ensures { result ≡ good_ceiling floor ceiling }
 {
