@@ -1,5 +1,5 @@
 -- What sizing and truncation give: step multiples that fit, keep their sign, and are worth no more than was asked.
-use Rattle.std.proofs.Common.{◌≡◌, ℕ, zero, ◌-◌, ◌*◌, ◌/◌, ◌^◌, ◌<◌, ◌≤◌, min, Bool, true, false, ℤ, pos, negsuc, nat_abs, refl, ap, ◌∙◌, lt_of_le_of_lt, mul-le-mul_right, div-mul-le_self, arith, w64, SFits}
+use Rattle.std.proofs.Common.{◌≡◌, ℕ, ◌-◌, ◌*◌, ◌/◌, ◌^◌, ◌<◌, ◌≤◌, min, Bool, true, false, ℤ, pos, negsuc, nat_abs, refl, ap, ◌∙◌, lt_of_le_of_lt, mul-le-mul_right, div-mul-le_self, arith, w64, SFits}
 use lib.Signed.{lt_z, le_z}
 use Rattle.sums.specs.Sums.{SCALE, signed, snap, notional}
 use Rattle.sums.proofs.Ints.{P, N, N-pos, nat_abs_parts, P-signed, N-signed, signed-pos, N-zero, P_clamp, N_clamp, clamp_fits, clamp_same, fits_of, le_is}

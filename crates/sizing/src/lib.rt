@@ -16,6 +16,7 @@ use sums::Wide;
 const SCALE: u64 = 1_000_000;
 
 // The part of x above zero: a price or a step of 0 or less divides nothing.
+#[tactic(auto, unfolding(crate::specs::Sizing::above))]
 fn above(x: i64) -> u64
     ensures { result ≡ above x }
 {
@@ -84,6 +85,7 @@ pub fn drift_bps_of(value: i64, equity: i64) -> f64
 }
 
 // "A buy's need is notional plus commission, saturating."
+#[tactic(auto, unfolding(crate::specs::Afford::need))]
 pub fn buy_cash_required(quantity: Shares, price: i64, costs: CostModel) -> i64
     ensures { result ≡ need costs quantity.0 price }
 {
@@ -98,6 +100,7 @@ pub fn buy_cash_required(quantity: Shares, price: i64, costs: CostModel) -> i64
 }
 
 // "Cash falls by the signed value plus commission, saturating": by this much, for a fill at an effective price.
+#[tactic(auto, unfolding(crate::specs::Cash::cash_taken))]
 fn cash_taken(quantity: Shares, price: i64, costs: CostModel) -> i64
     ensures { result ≡ cash_taken costs quantity.0 price }
 {
@@ -208,6 +211,7 @@ fn affordable_steps(most: u64, cash: i64, step: u64, price: i64, costs: CostMode
 // "the largest step multiple, not above the request, whose need fits cash (a zero fill needs 0); at cash 0 it is nothing". At a
 // price of 0 or below every count needs 0; no buy is at such a price, and nothing is bought there. Under costs that no account may
 // have the need could fall as the quantity rises, and halving would miss the largest.
+#[tactic(auto, unfolding(crate::specs::Afford::affordable))]
 pub fn largest_affordable_buy_qty(
     requested: Shares,
     cash: i64,
