@@ -10,8 +10,10 @@ mod shares_rows;
 mod sizes_rows;
 mod wide_rows;
 
-use libc::STDOUT_FILENO;
 use row::Row;
+use std::fs::File;
+use std::io::{self, Read};
+use std::rt::HostRuntime;
 
 #[derive(Clone, Copy)]
 enum Outcome {
@@ -35,53 +37,55 @@ fn agrees(r: Row) -> bool {
     }
 }
 
+// How many bytes were read: fewer than there is room for at the file's end alone.
+fn read_full(file: &mut File, bytes: &mut [u8]) -> io::Result<usize> {
+    let mut at = 0usize;
+    while at < bytes.len() {
+        let n = file.read(&mut bytes[at..])?;
+        if n == 0 {
+            break;
+        }
+        at += n;
+    }
+    Ok(at)
+}
+
 // A row that is cut short differs too.
-fn replay_row(fd: i32) -> Outcome {
+fn replay_row(file: &mut File) -> io::Result<Outcome> {
     let mut bytes = [0u8; 72];
-    let n = io::read_full(fd, &mut bytes);
+    let n = read_full(file, &mut bytes)?;
     if n == 0 {
-        return Outcome::End;
+        return Ok(Outcome::End);
     }
     if n == 72 && agrees(row::read(&bytes)) {
-        return Outcome::Same;
+        return Ok(Outcome::Same);
     }
-    Outcome::Differs
+    Ok(Outcome::Differs)
 }
 
 // A proved loop has to end, and nothing says that a file does: no sample has as many rows as this.
 const MOST: u64 = 1_000_000;
 
-fn replay(fd: i32) {
+fn replay(rt: &HostRuntime, file: &mut File) -> io::Result<()> {
     let mut left = MOST;
     let mut differences = 0u64;
     while left > 0 {
-        let outcome = replay_row(fd);
+        let outcome = replay_row(file)?;
         match outcome {
             Outcome::End => break,
             Outcome::Same => {}
             Outcome::Differs => {
-                differences = std::num::wrapping_add_u64(differences, 1);
+                differences = differences.wrapping_add(1);
             }
         }
         left -= 1;
     }
-    summary(left, differences);
+    let rows = MOST.wrapping_sub(left);
+    println!(rt; "{rows} rows, {differences} differences")?;
+    Ok(())
 }
 
-fn summary(left: u64, differences: u64) {
-    io::print_decimal(STDOUT_FILENO, std::num::wrapping_sub_u64(MOST, left));
-    io::write_all(STDOUT_FILENO, b" rows, ");
-    io::print_decimal(STDOUT_FILENO, differences);
-    io::write_all(STDOUT_FILENO, b" differences\n");
-}
-
-fn main() {
-    let path = b"leaves";
-    let fd = os::open_read(path);
-    if fd < 0 {
-        os::fail(path);
-        return;
-    }
-    replay(fd);
-    libc::close(fd);
+fn main(rt: HostRuntime) -> io::Result<()> {
+    let mut file = File::open(&rt, "leaves")?;
+    replay(&rt, &mut file)
 }
