@@ -7,8 +7,10 @@ mod state;
 mod told;
 
 use account::Account;
-use libc::STDOUT_FILENO;
 use row::Row;
+use std::fs::File;
+use std::io::{self, Read};
+use std::rt::HostRuntime;
 
 #[derive(Clone, Copy)]
 enum Outcome {
@@ -36,18 +38,31 @@ fn agrees(r: Row, a: Account, told: &[u8]) -> bool {
     told::tell(r, a) && state::same_account(told, a)
 }
 
+// How many bytes were read: fewer than there is room for at the file's end alone.
+fn read_full(file: &mut File, bytes: &mut [u8]) -> io::Result<usize> {
+    let mut at = 0usize;
+    while at < bytes.len() {
+        let n = file.read(&mut bytes[at..])?;
+        if n == 0 {
+            break;
+        }
+        at += n;
+    }
+    Ok(at)
+}
+
 // The account that the row before told is in the lent words, and then the one that this row tells. A row that is cut short differs too.
-fn replay_row(fd: i32, account: &mut [u8]) -> Outcome {
+fn replay_row(file: &mut File, account: &mut [u8]) -> io::Result<Outcome> {
     let mut head = [0u8; 128];
     let mut targets = [0u8; 128];
     let mut prices = [0u8; 128];
     let mut made = [0u8; 768];
-    if io::read_full(fd, &mut head) == 0 {
-        return Outcome::End;
+    if read_full(file, &mut head)? == 0 {
+        return Ok(Outcome::End);
     }
-    io::read_full(fd, &mut targets);
-    io::read_full(fd, &mut prices);
-    io::read_full(fd, &mut made);
+    read_full(file, &mut targets)?;
+    read_full(file, &mut prices)?;
+    read_full(file, &mut made)?;
     let r = Row {
         head,
         targets,
@@ -55,60 +70,44 @@ fn replay_row(fd: i32, account: &mut [u8]) -> Outcome {
         made,
     };
     let a = state::account_of(account);
-    if io::read_full(fd, account) != 488 {
-        return Outcome::Differs;
+    if read_full(file, account)? != 488 {
+        return Ok(Outcome::Differs);
     }
     if agrees(r, a, account) {
-        return Outcome::Same;
+        return Ok(Outcome::Same);
     }
-    Outcome::Differs
+    Ok(Outcome::Differs)
 }
 
 // A proved loop has to end, and nothing says that a file does: no sample has as many rows as this.
 const MOST: u64 = 1_000_000;
 
 // Tells the first row that differs, counted from 0.
-fn replay(fd: i32) {
+fn replay(rt: &HostRuntime, file: &mut File) -> io::Result<()> {
     let mut account = [0u8; 488];
     let mut left = MOST;
     let mut differences = 0u64;
     while left > 0 {
-        let outcome = replay_row(fd, &mut account[..]);
+        let outcome = replay_row(file, &mut account[..])?;
         match outcome {
             Outcome::End => break,
             Outcome::Same => {}
             Outcome::Differs => {
                 if differences == 0 {
-                    first(left);
+                    let row = MOST.wrapping_sub(left);
+                    println!(rt; "row {row} differs")?;
                 }
-                differences = std::num::wrapping_add_u64(differences, 1);
+                differences = differences.wrapping_add(1);
             }
         }
         left -= 1;
     }
-    summary(left, differences);
+    let calls = MOST.wrapping_sub(left);
+    println!(rt; "{calls} calls, {differences} differences")?;
+    Ok(())
 }
 
-fn first(left: u64) {
-    io::write_all(STDOUT_FILENO, b"row ");
-    io::print_decimal(STDOUT_FILENO, std::num::wrapping_sub_u64(MOST, left));
-    io::write_all(STDOUT_FILENO, b" differs\n");
-}
-
-fn summary(left: u64, differences: u64) {
-    io::print_decimal(STDOUT_FILENO, std::num::wrapping_sub_u64(MOST, left));
-    io::write_all(STDOUT_FILENO, b" calls, ");
-    io::print_decimal(STDOUT_FILENO, differences);
-    io::write_all(STDOUT_FILENO, b" differences\n");
-}
-
-fn main() {
-    let path = b"accounts";
-    let fd = os::open_read(path);
-    if fd < 0 {
-        os::fail(path);
-        return;
-    }
-    replay(fd);
-    libc::close(fd);
+fn main(rt: HostRuntime) -> io::Result<()> {
+    let mut file = File::open(&rt, "accounts")?;
+    replay(&rt, &mut file)
 }
