@@ -15,7 +15,7 @@ use Rattle.position.specs.declared.position.Position.{Position}
 use Rattle.position.specs.Rows.{key_of}
 use Rattle.position.specs.Symbols.{good_symbol}
 use Rattle.position.specs.Fills.{sound}
-use Rattle.table.specs.Keyed.{both, all}
+use Rattle.table.specs.Keyed.{all}
 use Rattle.table.specs.Rows.{columns_of, is_zero, Full}
 use Rattle.table.proofs.Keyed.{by_test, both_true, rising_ascends}
 use Rattle.table.proofs.Zipped.{keys_of}

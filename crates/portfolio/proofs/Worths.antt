@@ -1,14 +1,13 @@
 -- What lent columns of a sound account are worth is its equity; prices that serve for others give the same.
-use Prim.Native.Nat.{ℕ, zero, suc, ◌≤◌}
-use mathlib.Core.Path.{◌≡◌, refl, sym, ap, ◌∙◌}
+use Prim.Native.Nat.{ℕ, zero, suc}
+use mathlib.Core.Path.{◌≡◌, refl, ap, ◌∙◌}
 use mathlib.Core.Bool.{true}
 use mathlib.Core.List.{List}
-use lib.IntN.{ℤ, pos}
+use lib.IntN.{ℤ}
 use Rattle.sums.specs.Sums.{sat_add}
 use Rattle.table.specs.Inner.Places.{shorter}
 use Rattle.table.proofs.Places.{shorter-same}
 use Rattle.table.specs.Rows.{columns_of, Full}
-use Rattle.call_lists.specs.Lists.{price_of}
 use Rattle.account.specs.declared.account.Account.{Account}
 use Rattle.account.specs.Account.{sound_account, held_in}
 use Rattle.account.proofs.SoundAccounts.{account-ordered}

@@ -1,5 +1,5 @@
 -- Recording a return: the equity and, where one is due, the return of a period.
-use Rattle.std.specs.Prelude.{ℕ, ◌+◌, Bool, true, false, List, ltb, length, set, ℤ, pos, Float}
+use Rattle.std.specs.Prelude.{ℕ, ◌+◌, Bool, true, List, ltb, length, set, ℤ, pos, Float}
 use Rattle.std.specs.Int.Signed.{lt_z}
 use Rattle.std.specs.Float.{binary64}
 use Rattle.std.specs.Float.Ieee.{div}
