@@ -26,6 +26,11 @@ returns-then-not-d c = sym (not_counted c.args.d c.args.b (not-true _ c.if-not-d
 pub returns : goal.returns
 returns c =
     let fr : SFits w64 c.saturating_add-shortfall.result = search rules in
-    let ea = simp (to_z-of_z (shortfall-fits c.before.before.before.before.before.before.before), to_z-of_z (lost-fits c.before.before.before.before.before.before.before)) at c.saturating_add-shortfall.ensures in
+    let ea = simp (
+      to_z-of_z (shortfall-fits c.before.before.before.before.before.before.before),
+      to_z-of_z
+          (lost-fits c.before.before.before.before.before.before.before),
+    ) at c.saturating_add-shortfall.ensures in
     let ba = to_z-of_z fr ∙ ea in
-    simp (ba, to_z-of_z (cash-fits c.before.before.before.before.before.before.before), c.next_count-trimmed.ensures) (sym (counted-once c.args.d c.args.b (not-false _ c.if-not-d.false)))
+    simp (ba, to_z-of_z (cash-fits c.before.before.before.before.before.before.before), c.next_count-trimmed.ensures)
+    (sym (counted-once c.args.d c.args.b (not-false _ c.if-not-d.false)))

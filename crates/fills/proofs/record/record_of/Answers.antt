@@ -34,4 +34,15 @@ returns c =
     let ed = simp (to_z-of_z (after-fits c.before.before.before.before.before.before.before.before.before), to_z-of_z c.ranges.cash) at c.saturating_sub-cash_delta.ensures in
     let bn = to_z-of_z fr ∙ en in
     let bd = to_z-of_z fd ∙ ed in
-    simp (to_z-of_z (listed-fits c.before.before.before.before.before.before.before.before.before), to_z-of_z (paid-fits c.before.before.before.before.before.before.before.before.before), to_z-of_z (notional-fits c.before.before.before.before.before.before.before.before.before), to_z-of_z (cost-fits c.before.before.before.before.before.before.before.before.before), to_z-of_z (after-fits c.before.before.before.before.before.before.before.before.before), bn, bd)
+    simp (
+      to_z-of_z (listed-fits c.before.before.before.before.before.before.before.before.before),
+      to_z-of_z
+          (paid-fits c.before.before.before.before.before.before.before.before.before),
+      to_z-of_z
+          (notional-fits c.before.before.before.before.before.before.before.before.before),
+      to_z-of_z
+          (cost-fits c.before.before.before.before.before.before.before.before.before),
+      to_z-of_z (after-fits c.before.before.before.before.before.before.before.before.before),
+      bn,
+      bd,
+    )
