@@ -17,8 +17,6 @@ use Rattle.call_lists.specs.Checks.{unless}
 use Rattle.account.specs.declared.account.Account.{Account}
 use Rattle.account.specs.Account.{sound_account}
 use Rattle.account_bytes.proofs.Sound.{sound_in_lem}
-use Rattle.word_bytes.specs.Words.{words_of}
-use Rattle.account_bytes.specs.Account.{got_account, no_account, account_of, hold_account, read_account}
 use Rattle.list_bytes.specs.declared.price.Prices.{Prices}
 use Rattle.list_bytes.specs.Entries.{whole_list}
 use Rattle.list_bytes.specs.Lists.{symbols_in, prices_in}
@@ -26,7 +24,7 @@ use Rattle.list_bytes.specs.Inner.Lists.{prices_of}
 use Rattle.list_bytes.proofs.Columns.{count_small}
 use Rattle.list_bytes.proofs.Lists.{price-symbols, price-prices}
 use Rattle.portfolio.specs.Answers.{is_done}
-use Rattle.c_queries.specs.Asked.{account_in, sound_in, asked_at_prices}
+use Rattle.c_queries.specs.Asked.{account_in, asked_at_prices}
 use Rattle.c_queries.specs.Inner.Asked.{early}
 
 -- ---- by soundness, and by the lengths
