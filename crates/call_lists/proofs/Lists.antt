@@ -1,5 +1,5 @@
 -- Laws of the lists of a call: a test that goes from place to place.
-use Prim.Native.Nat.{ℕ, zero, suc, ◌+◌, ◌-◌, ◌≤◌, ◌<◌}
+use Prim.Native.Nat.{ℕ, zero, suc, ◌+◌, ◌≤◌, ◌<◌}
 use mathlib.Core.Path.{◌≡◌, refl, sym, ap, ◌∙◌}
 use mathlib.Core.List.{List, [], ◌∷◌}
 use mathlib.Core.Bool.{Bool, true, false, not}
@@ -8,11 +8,11 @@ use native.Mathlib.Numerals.{add-one}
 use lib.Dec.{eqb}
 use lib.IntN.{ℤ, pos, negsuc}
 use lib.Signed.{le_z, lt_z}
-use lib.ListN.{length, take, drop, get_or, length-drop, drop_of_length-le}
-use lib.Seq.{drop-cons, take_all}
+use lib.ListN.{length, drop, get_or, drop_of_length-le}
+use lib.Seq.{drop-cons}
 use borrow.Author.Tests.{le-ltb, le-leb, eq-eqb, ne_eqb, not-true}
 use Rattle.call_lists.specs.Lists.{among, distinct, first_failing}
-use Rattle.table.specs.Keyed.{pick, all, ascending}
+use Rattle.table.specs.Keyed.{pick, ascending}
 use Rattle.table.specs.Inner.Keyed.{Over, Rising}
 use Rattle.table.proofs.Keyed.{ascending_rises, both_true}
 
