@@ -3,9 +3,7 @@ use Rattle.std.specs.Prelude.{ℕ, ◌*◌, List, eqb, length}
 use Rattle.answer.specs.Choice.{pick}
 use Rattle.answer.specs.Numbers.{number_of, is_done}
 use Rattle.answer.specs.Places.{word_of}
-use Rattle.answer.specs.declared.Answer.{Answer}
 use Rattle.answer.specs.declared.Answer.TheVariants.{Unsound}
-use Rattle.account.specs.declared.account.Account.{Account}
 use Rattle.account.specs.declared.change.Changed.{Changed}
 use Rattle.account_bytes.specs.Sizes.{account_length}
 use Rattle.account_bytes.specs.Account.{account_in, written_account}
