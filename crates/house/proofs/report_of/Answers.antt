@@ -23,7 +23,8 @@ returns-then-not-grown c =
     let e = sym inside ∙ c.if-not-fits.false in
     let positive = positive_is c.args.n c.args.m _ _ c.requires.0 c.requires.1 s.result s.ensures t.result t.ensures g.result g.ensures e w.result w.ensures in
     c.refused-then-not-grown.ensures
-    ∙ no_first-sum c.args.n c.args.m _ _ c.requires.0 c.requires.1 s.result s.ensures t.result t.ensures g.result g.ensures e w.result w.ensures (sym positive ∙ not-true w.result.positive c.if-not-grown.true)
+    ∙ no_first-sum c.args.n c.args.m _ _ c.requires.0 c.requires.1 s.result s.ensures t.result t.ensures g.result g.ensures e w.result w.ensures
+    (sym positive ∙ not-true w.result.positive c.if-not-grown.true)
 
 pub returns : goal.returns
 returns c =
@@ -35,4 +36,5 @@ returns c =
     let inside = all_fit c.args.n c.args.m _ _ c.requires.0 c.requires.1 s.result s.ensures t.result t.ensures g.result g.ensures in
     let e = sym inside ∙ c.if-not-fits.false in
     let positive = positive_is c.args.n c.args.m _ _ c.requires.0 c.requires.1 s.result s.ensures t.result t.ensures g.result g.ensures e w.result w.ensures in
-    rw z (reported c.args.n c.args.m _ _ c.requires.0 c.requires.1 s.result s.ensures t.result t.ensures g.result g.ensures e w.result w.ensures (sym positive ∙ not-false w.result.positive c.if-not-grown.false))
+    rw z (reported c.args.n c.args.m _ _ c.requires.0 c.requires.1 s.result s.ensures t.result t.ensures g.result g.ensures e w.result w.ensures
+    (sym positive ∙ not-false w.result.positive c.if-not-grown.false))

@@ -28,5 +28,10 @@ loop-p-preserved c =
     let zg : to_z w64 (of_z w64 gain) ≡ gain = to_z-of_z w64 gain (search rules) in
     let top : c.i64_to_f64.result ≡ of_i64 gain = c.i64_to_f64.ensures ∙ ap of_i64 zg in
     let below : c.i64_to_f64-in-loop-p.result ≡ of_i64 first = c.i64_to_f64-in-loop-p.ensures ∙ ap of_i64 zf in
-    let growth : div binary64 c.i64_to_f64.result c.i64_to_f64-in-loop-p.result ≡ growth_of gain first = rw (top, below) in
-    (omega arith, every_on _ l.p _ _ l.invariant.1 (ap (lt_z (pos 0)) zf), product-on _ l.p _ _ l.invariant.2 growth, filled_on 64 zero _ l.p _ _ (omega arith) l.invariant.3 growth)
+    let growth : div binary64 c.i64_to_f64.result c.i64_to_f64-in-loop-p.result ≡ growth_of gain first = rw (top, below) in (
+      omega arith,
+      every_on _ l.p _ _ l.invariant.1 (ap (lt_z (pos 0)) zf),
+      product-on _ l.p _ _ l.invariant.2 growth,
+      filled_on 64 zero _ l.p _ _ (omega arith)
+          l.invariant.3 growth,
+    )

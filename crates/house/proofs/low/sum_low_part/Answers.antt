@@ -29,7 +29,8 @@ loop-a-preserved c =
     let x : c.word_if.result ≡ of_z w64 (first_of (ends a d f g)) = from ∙ rw (there, to_z-of_z w64 f gf) (first_taken (of_z w64) f g a d) in
     let y : c.word_if-in-loop-a.result ≡ of_z w64 (last_of (ends a d f g)) = to ∙ rw (there, to_z-of_z w64 g gg) (last_taken (of_z w64) f g a d) in
     low_adding_on _ _ _ l.lo l.first l.gain l.spread l.a _ _ _ _ _ _ c.requires.n_bound.0 l.invariant c.loop-a-test.true (known_is f g gf gg a d)
-    (e.0 ∙ x) (e.1 ∙ rw (x, y)) (ap (bit_or l.spread) (e.2 ∙ rw (x, y))) c.wrapping_add_u64-first.ensures.value c.wrapping_add_u64-gain.ensures.value c.wrapping_add_u64-total.ensures.value
+    (e.0 ∙ x) (e.1 ∙ rw (x, y)) (ap (bit_or l.spread) (e.2 ∙ rw (x, y))) c.wrapping_add_u64-first.ensures.value c.wrapping_add_u64-gain.ensures.value
+    c.wrapping_add_u64-total.ensures.value
 
 pub returns : goal.returns
 returns c =

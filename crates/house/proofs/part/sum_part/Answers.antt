@@ -31,4 +31,5 @@ loop-a-preserved c =
     let zf : to_z w64 (of_z w64 f) ≡ f = to_z-of_z w64 f (search rules) in
     let zg : to_z w64 (of_z w64 g) ≡ g = to_z-of_z w64 g (search rules) in
     let e : Entered (ends_at c.args.marks.now c.args.equities.now (c.args.at + l.a)) c.entry_of-e.result = rw (zf, zg) at c.entry_of-e.ensures in
-    adding_on _ _ _ _ l.hi l.lo l.first l.gain l.fits l.a _ _ _ _ c.requires.n_bound.0 l.invariant c.loop-a-test.true e (omega (arith, c.entry_of-e.type_inv)) (omega (arith, c.entry_of-e.type_inv)) c.plus-first.ensures c.plus-gain.ensures c.plus-total.ensures
+    adding_on _ _ _ _ l.hi l.lo l.first l.gain l.fits l.a _ _ _ _ c.requires.n_bound.0 l.invariant c.loop-a-test.true e (omega (arith, c.entry_of-e.type_inv))
+    (omega (arith, c.entry_of-e.type_inv)) c.plus-first.ensures c.plus-gain.ensures c.plus-total.ensures

@@ -4,8 +4,6 @@ use lib.Signed.{lt_z}
 use mir.ValLaws.{to_z-of_z, to_z_pos}
 use Rattle.house.specs.Inner.Raised.{raised}
 use Rattle.house.proofs.sum.raise.Goals as goal
-use Rattle.house.proofs.sum.raise.Lts as lts
-use Rattle.house.proofs.sum.raise.Reads as reads
 
 record Low (x : ℤ) : Type 0 where
   k : ℕ
@@ -31,16 +29,8 @@ unfolding raised
 high (pos n) h e = record { k = n; is = to_z-of_z w64 (pos n) h; small = h.sfits; back = omega arith }
 high (negsuc n) h e = let g = rw (to_z-of_z w64 (negsuc n) h) at e in let z : ◌≡◌ {A = ℕ} 0 1 = cc in absurd (omega arith)
 
-module _ (c : lts.Then1 reads.Pre reads.Post) where
-  lowC : Low c.args.x
-  lowC = low c.args.x c.ranges.x c.if-x-lt0.true
-
-module _ (c : lts.Else1 reads.Pre reads.Post) where
-  highC : High c.args.x
-  highC = high c.args.x c.ranges.x c.if-x-lt0.false
-
 pub returns-then-x-lt0 : goal.returns-then-x-lt0
-returns-then-x-lt0 c = rw (lowC c).is (lowC c).back
+returns-then-x-lt0 c = let l = low c.args.x c.ranges.x c.if-x-lt0.true in rw l.is l.back
 
 pub returns-else-x-lt0 : goal.returns-else-x-lt0
-returns-else-x-lt0 c = rw (highC c).is (highC c).back
+returns-else-x-lt0 c = let h = high c.args.x c.ranges.x c.if-x-lt0.false in rw h.is h.back

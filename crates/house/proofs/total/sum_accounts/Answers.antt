@@ -16,5 +16,9 @@ unfolding value_of
 loop-a-preserved c =
     let f = c.finish-total in
     let l = c.loop-a in
-    let v = to_z-of_z w64 f.result.value (search rules) in
-    (omega arith, every_on _ l.a _ _ l.invariant.1 (ap (λ (x : Finished). x.fits) f.ensures), filled_on 32 (pos 0) _ l.a _ _ (omega arith) l.invariant.2 (v ∙ ap (λ (x : Finished). x.value) f.ensures))
+    let v = to_z-of_z w64 f.result.value (search rules) in (
+      omega arith,
+      every_on _ l.a _ _ l.invariant.1 (ap (λ (x : Finished). x.fits) f.ensures),
+      filled_on 32 (pos 0) _ l.a _ _ (omega arith) l.invariant.2
+          (v ∙ ap (λ (x : Finished). x.value) f.ensures),
+    )
