@@ -19,4 +19,5 @@ returns c =
     let l = c.args.bytes.now in
     let m = c.put_words.new.bytes in
     let w = c.put_words.ensures ∙ ap (sets (words_of l) series_from) c.series_words-words.ensures in
-    series-written t l m (octets l (λ j h. omega (arith, c.slice_known-1.given j))) (octets m (λ j h. omega (arith, c.slice_known-2-1.given j))) (sym c.is_account.ensures ∙ c.if-not-is_account.false) (omega (arith, c.put_words.auto.bytes)) w
+    series-written t l m (octets l (λ j h. omega (arith, c.slice_known-1.given j))) (octets m (λ j h. omega (arith, c.slice_known-2-1.given j)))
+    (sym c.is_account.ensures ∙ c.if-not-is_account.false) (omega (arith, c.put_words.auto.bytes)) w

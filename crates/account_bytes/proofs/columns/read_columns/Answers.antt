@@ -10,4 +10,11 @@ returns-then-bytes-ne-ACCOUNT_BYTES c = simp (ne_eqb _ _ c.if-bytes-ne-ACCOUNT_B
 pub returns : goal.returns
 unfolding read_columns account_of table_from
 returns c =
-    simp (eq-eqb _ _ c.if-bytes-ne-ACCOUNT_BYTES.false, c.read_symbols.ensures, c.read_numbers.ensures, c.read_numbers-2.ensures, c.read_numbers-3.ensures, c.read_numbers-4.ensures)
+    simp (
+      eq-eqb _ _ c.if-bytes-ne-ACCOUNT_BYTES.false,
+      c.read_symbols.ensures,
+      c.read_numbers.ensures,
+      c.read_numbers-2.ensures,
+      c.read_numbers-3.ensures,
+      c.read_numbers-4.ensures,
+    )

@@ -21,11 +21,17 @@ loop-i-preserved c =
     let n : length (numbers_at s.from ws) ≡ 64 = length_run signed_of 64 s.from ws (simp length-words (omega arith)) in
     let i = c.loop-i.i in
     let t : i < 64 = omega arith in
-    let e : (to_z w64 (of_z w64 c.number_at.result)) ≡ get_or (numbers_at s.from ws) i (pos 0) = to_z-of_z w64 c.number_at.result (record { sfits = c.number_at.type_inv }) ∙ c.number_at.ensures ∙ sym (at_run signed_of 64 s.from i ws t) in
-    (omega arith, simp length-set c.loop-i.invariant.1, read_on c.loop-i.column (numbers_at s.from ws) i (pos 0) (to_z w64 (of_z w64 c.number_at.result)) (omega arith) (omega arith) e c.loop-i.invariant.2)
+    let e : (to_z w64 (of_z w64 c.number_at.result)) ≡ get_or (numbers_at s.from ws) i (pos 0) =
+    to_z-of_z w64 c.number_at.result (record { sfits = c.number_at.type_inv }) ∙ c.number_at.ensures ∙ sym (at_run signed_of 64 s.from i ws t) in (
+      omega arith,
+      simp length-set c.loop-i.invariant.1,
+      read_on c.loop-i.column (numbers_at s.from ws) i (pos 0) (to_z w64 (of_z w64 c.number_at.result)) (omega arith)
+          (omega arith) e c.loop-i.invariant.2,
+    )
 
 pub returns : goal.returns
 returns c =
     let s = c.args in
     let ws = words_of s.bytes.now in
-    read_all c.loop-i.column (numbers_at s.from ws) 64 c.loop-i.i c.loop-i.invariant.1 (length_run signed_of 64 s.from ws (simp length-words (omega arith))) (omega arith) c.loop-i.invariant.2
+    read_all c.loop-i.column (numbers_at s.from ws) 64 c.loop-i.i c.loop-i.invariant.1 (length_run signed_of 64 s.from ws (simp length-words (omega arith)))
+    (omega arith) c.loop-i.invariant.2

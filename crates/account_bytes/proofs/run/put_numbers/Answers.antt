@@ -13,5 +13,12 @@ use Rattle.account_bytes.proofs.run.put_numbers.Goals as goal
 
 pub loop-i-preserved : goal.loop-i-preserved
 loop-i-preserved c =
-    let s = c.args in
-    (omega arith, c.loop-i.invariant.1, omega (arith, c.put_word.auto.bytes), write_on c.loop-i.bytes c.put_word.new.bytes (map unsigned_of s.column.now) s.from c.loop-i.i c.unsigned.result (simp length-map (omega arith)) c.put_word.ensures (c.unsigned.ensures ∙ ap unsigned_of (to_z-of_z w64 (get_or s.column.now c.loop-i.i (pos 0)) (search rules)) ∙ sym (get_or-map unsigned_of s.column.now c.loop-i.i (pos 0))) c.unsigned.type_inv ∙ c.loop-i.invariant.3)
+    let s = c.args in (
+      omega arith,
+      c.loop-i.invariant.1,
+      omega (arith, c.put_word.auto.bytes),
+      write_on c.loop-i.bytes c.put_word.new.bytes (map unsigned_of s.column.now) s.from
+          c.loop-i.i c.unsigned.result (simp length-map (omega arith)) c.put_word.ensures
+          (c.unsigned.ensures ∙ ap unsigned_of (to_z-of_z w64 (get_or s.column.now c.loop-i.i (pos 0)) (search rules))
+          ∙ sym (get_or-map unsigned_of s.column.now c.loop-i.i (pos 0))) c.unsigned.type_inv ∙ c.loop-i.invariant.3,
+    )

@@ -9,7 +9,8 @@ use Rattle.word_bytes.specs.Numbers.{unsigned_of}
 use Rattle.account_bytes.proofs.run.put_numbers.Given as goal
 
 abbrev pub invariant-loop-i : goal.invariant-loop-i
-invariant-loop-i l = (l.i ≤ 64) × (length l.column ≡ 64) × (length l.bytes ≡ length l.initial.bytes) × (sets (words_of l.bytes) (l.from + l.i) (drop l.i (map unsigned_of l.column)) ≡ sets (words_of l.initial.bytes) l.from (map unsigned_of l.column))
+invariant-loop-i l = (l.i ≤ 64) × (length l.column ≡ 64) × (length l.bytes ≡ length l.initial.bytes)
+    × (sets (words_of l.bytes) (l.from + l.i) (drop l.i (map unsigned_of l.column)) ≡ sets (words_of l.initial.bytes) l.from (map unsigned_of l.column))
 
 abbrev pub decreases-loop-i : goal.decreases-loop-i
 decreases-loop-i l = 64 - l.i

@@ -8,7 +8,8 @@ use mathlib.Core.List.{map}
 use Rattle.account_bytes.proofs.run.put_symbols.Given as goal
 
 abbrev pub invariant-loop-i : goal.invariant-loop-i
-invariant-loop-i l = (l.i ≤ 64) × (length l.column ≡ 64) × (length l.bytes ≡ length l.initial.bytes) × (sets (words_of l.bytes) (l.from + l.i) (drop l.i (map turned l.column)) ≡ sets (words_of l.initial.bytes) l.from (map turned l.column))
+invariant-loop-i l = (l.i ≤ 64) × (length l.column ≡ 64) × (length l.bytes ≡ length l.initial.bytes)
+    × (sets (words_of l.bytes) (l.from + l.i) (drop l.i (map turned l.column)) ≡ sets (words_of l.initial.bytes) l.from (map turned l.column))
 
 abbrev pub decreases-loop-i : goal.decreases-loop-i
 decreases-loop-i l = 64 - l.i

@@ -7,5 +7,9 @@ use Rattle.account_bytes.proofs.run.put_words.Goals as goal
 
 pub loop-i-preserved : goal.loop-i-preserved
 loop-i-preserved c =
-    let s = c.args in
-    (omega arith, omega (arith, c.put_word.auto.bytes), write_on c.loop-i.bytes c.put_word.new.bytes s.words.now s.from c.loop-i.i (get_or s.words.now c.loop-i.i 0) (omega arith) c.put_word.ensures refl (omega (arith, c.shared_slice_known-1.given c.loop-i.i)) ∙ c.loop-i.invariant.2)
+    let s = c.args in (
+      omega arith,
+      omega (arith, c.put_word.auto.bytes),
+      write_on c.loop-i.bytes c.put_word.new.bytes s.words.now s.from c.loop-i.i (get_or s.words.now c.loop-i.i 0)
+          (omega arith) c.put_word.ensures refl (omega (arith, c.shared_slice_known-1.given c.loop-i.i)) ∙ c.loop-i.invariant.2,
+    )

@@ -7,7 +7,8 @@ use Rattle.word_bytes.specs.Words.{words_of}
 use Rattle.account_bytes.proofs.run.put_words.Given as goal
 
 abbrev pub invariant-loop-i : goal.invariant-loop-i
-invariant-loop-i l = (l.i ≤ length l.words) × (length l.bytes ≡ length l.initial.bytes) × (sets (words_of l.bytes) (l.from + l.i) (drop l.i l.words) ≡ sets (words_of l.initial.bytes) l.from l.words)
+invariant-loop-i l = (l.i ≤ length l.words) × (length l.bytes ≡ length l.initial.bytes)
+    × (sets (words_of l.bytes) (l.from + l.i) (drop l.i l.words) ≡ sets (words_of l.initial.bytes) l.from l.words)
 
 abbrev pub decreases-loop-i : goal.decreases-loop-i
 decreases-loop-i l = length l.words - l.i

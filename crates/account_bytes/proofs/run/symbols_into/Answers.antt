@@ -24,4 +24,5 @@ pub returns : goal.returns
 returns c =
     let s = c.args in
     let ws = words_of s.bytes.now in
-    read_all c.loop-i.column (symbols_at s.from ws) 64 c.loop-i.i c.loop-i.invariant.1 (length_run turned 64 s.from ws (simp length-words (omega arith))) (omega arith) c.loop-i.invariant.2
+    read_all c.loop-i.column (symbols_at s.from ws) 64 c.loop-i.i c.loop-i.invariant.1 (length_run turned 64 s.from ws (simp length-words (omega arith))) (omega arith)
+    c.loop-i.invariant.2

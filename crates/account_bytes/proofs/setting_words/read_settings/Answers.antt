@@ -14,6 +14,7 @@ pub returns : goal.returns
 unfolding read_settings hold_settings
 returns c =
     elim c.if-bytes-eq-SETTINGS_BYTES.branch [
-      | then-bytes-eq-SETTINGS_BYTES+else-are_settings w ↦ simp (eq-eqb _ _ w.if-bytes-eq-SETTINGS_BYTES.true, sym w.are_settings.ensures ∙ w.if-are_settings.false, c.zero.ensures)
+      | then-bytes-eq-SETTINGS_BYTES+else-are_settings w ↦
+          simp (eq-eqb _ _ w.if-bytes-eq-SETTINGS_BYTES.true, sym w.are_settings.ensures ∙ w.if-are_settings.false, c.zero.ensures)
       | else-bytes-eq-SETTINGS_BYTES w ↦ simp (ne_eqb _ _ w.if-bytes-eq-SETTINGS_BYTES.false, c.zero.ensures)
     ]

@@ -26,4 +26,5 @@ returns c =
     let r : c.settings_words-words.result ≡ settings_words s.s = c.settings_words-words.ensures in
     let m : length (words_of l) ≡ length (settings_words s.s) = length-words (length l / 8) l ∙ omega (arith, length-settings s.s) in
     let w : words_of c.put_words.new.bytes ≡ settings_words s.s = c.put_words.ensures ∙ ap (sets (words_of l) 0) r ∙ sets_all (words_of l) (settings_words s.s) m in
-    simp (eq-eqb _ _ n) (bytes_are settings_size c.put_words.new.bytes (settings_words s.s) (octets c.put_words.new.bytes (λ i h. omega (arith, c.slice_known-2-1.given i))) (omega (arith, c.put_words.auto.bytes)) w)
+    simp (eq-eqb _ _ n) (bytes_are settings_size c.put_words.new.bytes (settings_words s.s)
+    (octets c.put_words.new.bytes (λ i h. omega (arith, c.slice_known-2-1.given i))) (omega (arith, c.put_words.auto.bytes)) w)
