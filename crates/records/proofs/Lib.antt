@@ -2,5 +2,3 @@
 pub mod Reading
 pub mod Fronting
 pub mod Writing
-pub mod Lending
-pub mod Again

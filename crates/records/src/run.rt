@@ -1,4 +1,4 @@
-// Records stored into a lent run of structs. The borrow checker covers no function over such a run, so each is short and proved by hand.
+// Records stored into a lent run of structs.
 ghost use Rattle.std.specs.Prelude.{◌≡◌, set};
 ghost use Rattle.records.specs.Run.{collected};
 
