@@ -28,5 +28,15 @@ returns c =
     let average : SFits w64 (get_or ns 1 (pos 0)) = record { sfits = c.position_of-arg-2-1.given } in
     let realized : SFits w64 (get_or ns 2 (pos 0)) = record { sfits = c.position_of-arg-3-1.given } in
     let total : SFits w64 (get_or ns 3 (pos 0)) = record { sfits = c.position_of-arg-4-1.given } in
-    let f : c.apply_fill-filled.result ≡ apply_fill (position_from c.args.symbol ns) c.args.quantity c.args.price = simp (c.position_of-position.ensures, c.from_raw.ensures, to_z-of_z held, to_z-of_z average, to_z-of_z realized, to_z-of_z total, to_z-of_z c.ranges.quantity, to_z-of_z c.ranges.price) at c.apply_fill-filled.ensures in
+    let f : c.apply_fill-filled.result ≡ apply_fill (position_from c.args.symbol ns) c.args.quantity c.args.price =
+    simp (
+      c.position_of-position.ensures,
+      c.from_raw.ensures,
+      to_z-of_z held,
+      to_z-of_z average,
+      to_z-of_z realized,
+      to_z-of_z total,
+      to_z-of_z c.ranges.quantity,
+      to_z-of_z c.ranges.price,
+    ) at c.apply_fill-filled.ensures in
     (c.word-2.ensures ∙ ap (λ (x : Filled). word_of x.answer) f ∙ simp yes, c.put.ensures ∙ ap (λ (x : Filled). numbers_of x.position) f ∙ simp yes)
