@@ -3,4 +3,6 @@ use Rattle.records.proofs.Writing.{all_is_handed}
 use Rattle.records.proofs.into.rebalance_into.Goals as goal
 
 pub returns : goal.returns
-returns c = all_is_handed c.rebalance_within-n.result _ c.args.out.now c.hand_over.new.out c.hand_over.result c.rebalance_within-n.ensures c.hand_over.ensures.0 c.hand_over.ensures.1
+returns c =
+    let n = c.rebalance_within-n in
+    all_is_handed n.result _ c.args.out.now c.hand_over.new.out c.hand_over.result n.ensures c.hand_over.ensures.0 c.hand_over.ensures.1
