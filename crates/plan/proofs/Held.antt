@@ -1,8 +1,8 @@
 -- The orders that the places ask for are those that the list of positions asks for.
 use Prim.Native.Nat.{ℕ, zero, suc, ◌+◌, ◌≤◌, ◌<◌}
-use mathlib.Core.Path.{◌≡◌, refl, sym, ap, ◌∙◌}
+use mathlib.Core.Path.{◌≡◌, refl, ap, ◌∙◌}
 use mathlib.Core.Bool.{Bool, true, false}
-use mathlib.Core.List.{List, [], ◌∷◌, ◌++◌}
+use mathlib.Core.List.{List, [], ◌∷◌}
 use native.Mathlib.Omega.{arith}
 use lib.Dec.{ltb}
 use lib.IntN.{ℤ, pos}
@@ -11,16 +11,15 @@ use lib.ListN.{length, take, drop, get_or, drop_of_length-le}
 use lib.Seq.{drop-cons}
 use Rattle.position.specs.Rows.{fresh}
 use Rattle.table.specs.Keyed.{pick}
-use Rattle.table.specs.Inner.Places.{shorter, found}
+use Rattle.table.specs.Inner.Places.{found}
 use Rattle.table.specs.declared.found.Found.{Found}
 use Rattle.table.specs.declared.found.Found.TheVariants.{At, Absent}
-use Rattle.table.specs.Rows.{Cols, zipped, rows, Full, holding, row_at}
+use Rattle.table.specs.Rows.{Cols, zipped, rows, Full, row_at}
 use Rattle.table.specs.Inner.Rows.{Ordered, held_at}
 use Rattle.table.proofs.Zipped.{zipped-length, zipped_at}
 use Rattle.table.proofs.Posting.{held_is_holding}
 use Rattle.table.proofs.Places.{shorter-same}
 use Rattle.account.specs.declared.settings.Settings.{Settings}
-use Rattle.wanted.specs.declared.planned.PlannedOrder.{PlannedOrder}
 use Rattle.wanted.specs.Plan.{closing, closings, targeting, targetings, wanted}
 use Rattle.admission.specs.Admission.{added_all, admitted}
 use Rattle.admission.specs.Running.{plan_of}
