@@ -1,5 +1,5 @@
 -- The orders that a rebalance wants, before any cap: "Priced open holdings absent from targets are closed, in symbol order [..] Then targets in list order".
-use Rattle.std.specs.Prelude.{ℕ, Bool, false, not, List, [], ◌∷◌, ◌++◌, ℤ, pos, Float}
+use Rattle.std.specs.Prelude.{ℕ, Bool, not, List, [], ◌∷◌, ◌++◌, ℤ, pos, Float}
 use Rattle.std.specs.Int.Signed.{lt_z, le_z}
 use Rattle.std.specs.Float.Ieee.{lt, le, mul}
 use Rattle.std.specs.Float.{binary64}
