@@ -17,7 +17,7 @@ loop-i-preserved c =
       omega arith,
       omega (arith, c.put_word.auto.bytes),
       write_on c.loop-i.out c.put_word.new.bytes s.words.now 0 c.loop-i.i w (omega arith)
-          (c.put_word.ensures ∙ ap (λ (k : ℕ). put_word c.loop-i.out k w) z) refl (omega (arith, c.shared_slice_known-1.given c.loop-i.i)) ∙ c.loop-i.invariant.2,
+          (c.put_word.ensures ∙ ap (λ (k : ℕ). put_word c.loop-i.out k w) z) refl (omega (arith, c.type_inv.words c.loop-i.i)) ∙ c.loop-i.invariant.2,
     )
 
 pub returns : goal.returns

@@ -26,7 +26,7 @@ pub returns : goal.returns
 returns c =
     let s = c.args in
     let l = c.put_words.new.out in
-    let o = octets l (λ i h. omega (arith, c.slice_known-2-1.given i)) in
+    let o = octets l (λ i h. omega (arith, c.type_inv.out i)) in
     let n : length l ≡ 8 * length s.words.now = omega (arith, c.put_words.auto.out, c.if-out-words.false) in
     tell_done s.number s.words.now s.out.now l c.if-number-eq11.false c.if-out-words.false c.if-number-ne0.false
     (bytes_are (length s.words.now) l s.words.now o n c.put_words.ensures)
