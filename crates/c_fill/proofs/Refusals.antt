@@ -3,7 +3,6 @@ use Prim.Native.Nat.{◌%◌}
 use mathlib.Core.Bool.{Bool, true, false}
 use mathlib.Core.Path.{◌≡◌, refl}
 use native.Mathlib.Omega.{arith}
-use lib.Dec.{eqb}
 use Rattle.answer.specs.Numbers.{is_done}
 use Rattle.answer.specs.Places.{word_of}
 use Rattle.table.specs.Keyed.{pick}

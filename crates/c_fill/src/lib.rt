@@ -109,6 +109,7 @@ fn is_good(a: Ask) -> bool
 }
 
 // What a fill is refused for, in the order of document 01.
+#[tactic(auto, unfolding(crate::specs::Single::refusal_of))]
 fn refusal(a: Ask, cash: i64, p: Position, words: usize, ints: usize) -> Answer
     ensures { result ≡ refusal_of a cash p words ints }
 {
