@@ -46,5 +46,5 @@ returns c =
     account-put a c.put_columns.ensures.0 (words_of l) (words_of c.put_word.new.bytes) (words_of c.put_words.new.bytes) (words_of c.put_word-2.new.bytes)
     (words_of c.put_columns.new.bytes) m e1 e2 counts c.put_columns.ensures.1 in
     simp (eq-eqb _ _ n) (bytes_are account_size c.put_columns.new.bytes (account_words_of a)
-    (octets c.put_columns.new.bytes (λ i h. omega (arith, c.slice_known-7-1.given i)))
+    (octets c.put_columns.new.bytes (search rules))
     (omega (arith, c.put_columns.auto.bytes, c.put_word-2.auto.bytes, c.put_words-3.auto.bytes, c.put_words-2.auto.bytes, c.put_words.auto.bytes, c.put_word.auto.bytes)) w)

@@ -1,4 +1,5 @@
 -- Three words are others, and bytes are those of their words.
+use borrow.Author.Rules.{rules}
 use mathlib.Core.Path.{sym, ap, ◌∙◌}
 use native.Mathlib.Omega.{arith}
 use lib.Seq.{sets}
@@ -19,5 +20,5 @@ returns c =
     let l = c.args.bytes.now in
     let m = c.put_words.new.bytes in
     let w = c.put_words.ensures ∙ ap (sets (words_of l) series_from) c.series_words-words.ensures in
-    series-written t l m (octets l (λ j h. omega (arith, c.slice_known-1.given j))) (octets m (λ j h. omega (arith, c.slice_known-2-1.given j)))
+    series-written t l m (octets l (search rules)) (octets m (search rules))
     (sym c.is_account.ensures ∙ c.if-not-is_account.false) (omega (arith, c.put_words.auto.bytes)) w

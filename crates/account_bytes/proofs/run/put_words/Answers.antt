@@ -1,4 +1,5 @@
 -- What is left to write gives, from the bytes as they are, what the whole gives from the bytes as found.
+use borrow.Author.Rules.{rules}
 use native.Mathlib.Omega.{arith}
 use mathlib.Core.Path.{refl, ◌∙◌}
 use lib.ListN.{get_or}
@@ -11,5 +12,5 @@ loop-i-preserved c =
       omega arith,
       omega (arith, c.put_word.auto.bytes),
       write_on c.loop-i.bytes c.put_word.new.bytes s.words.now s.from c.loop-i.i (get_or s.words.now c.loop-i.i 0)
-          (omega arith) c.put_word.ensures refl (omega (arith, c.shared_slice_known-1.given c.loop-i.i)) ∙ c.loop-i.invariant.2,
+          (omega arith) c.put_word.ensures refl (search rules) ∙ c.loop-i.invariant.2,
     )

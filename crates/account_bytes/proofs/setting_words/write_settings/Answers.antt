@@ -1,4 +1,5 @@
 -- Every word is written, so the bytes are those of the words.
+use borrow.Author.Rules.{rules}
 use mathlib.Core.Path.{◌≡◌, ap, ◌∙◌}
 use Prim.Native.Nat.{◌/◌}
 use native.Mathlib.Omega.{arith}
@@ -27,4 +28,4 @@ returns c =
     let m : length (words_of l) ≡ length (settings_words s.s) = length-words (length l / 8) l ∙ omega (arith, length-settings s.s) in
     let w : words_of c.put_words.new.bytes ≡ settings_words s.s = c.put_words.ensures ∙ ap (sets (words_of l) 0) r ∙ sets_all (words_of l) (settings_words s.s) m in
     simp (eq-eqb _ _ n) (bytes_are settings_size c.put_words.new.bytes (settings_words s.s)
-    (octets c.put_words.new.bytes (λ i h. omega (arith, c.slice_known-2-1.given i))) (omega (arith, c.put_words.auto.bytes)) w)
+    (octets c.put_words.new.bytes (search rules)) (omega (arith, c.put_words.auto.bytes)) w)
