@@ -1,4 +1,5 @@
 -- The numbers are taken as a position, filled, and put back; each signed number is read back from its bits.
+use borrow.Author.Rules.{rules}
 use mathlib.Core.Path.{◌≡◌, ◌∙◌, ap}
 use lib.IntN.{pos}
 use lib.ListN.{length, get_or}
@@ -24,10 +25,10 @@ unfolding answer_to_fill after_fill
 returns c =
     let yes = eq-eqb (length c.args.numbers.now) 4 c.if-numbers-ne4.false in
     let ns = c.args.numbers.now in
-    let held : SFits w64 (get_or ns 0 (pos 0)) = record { sfits = c.position_of-arg-1.given } in
-    let average : SFits w64 (get_or ns 1 (pos 0)) = record { sfits = c.position_of-arg-2-1.given } in
-    let realized : SFits w64 (get_or ns 2 (pos 0)) = record { sfits = c.position_of-arg-3-1.given } in
-    let total : SFits w64 (get_or ns 3 (pos 0)) = record { sfits = c.position_of-arg-4-1.given } in
+    let held : SFits w64 (get_or ns 0 (pos 0)) = search rules in
+    let average : SFits w64 (get_or ns 1 (pos 0)) = search rules in
+    let realized : SFits w64 (get_or ns 2 (pos 0)) = search rules in
+    let total : SFits w64 (get_or ns 3 (pos 0)) = search rules in
     let f : c.apply_fill-filled.result ≡ apply_fill (position_from c.args.symbol ns) c.args.quantity c.args.price =
     simp (
       c.position_of-position.ensures,
