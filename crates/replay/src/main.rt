@@ -80,6 +80,10 @@ fn replay(rt: &HostRuntime, file: &mut File) -> io::Result<()> {
         }
         left -= 1;
     }
+    summary(rt, left, differences)
+}
+
+fn summary(rt: &HostRuntime, left: u64, differences: u64) -> io::Result<()> {
     let rows = MOST.wrapping_sub(left);
     println!(rt; "{rows} rows, {differences} differences")?;
     Ok(())
