@@ -94,14 +94,23 @@ fn replay(rt: &HostRuntime, file: &mut File) -> io::Result<()> {
             Outcome::Same => {}
             Outcome::Differs => {
                 if differences == 0 {
-                    let row = MOST.wrapping_sub(left);
-                    println!(rt; "row {row} differs")?;
+                    first(rt, left)?;
                 }
                 differences = differences.wrapping_add(1);
             }
         }
         left -= 1;
     }
+    summary(rt, left, differences)
+}
+
+fn first(rt: &HostRuntime, left: u64) -> io::Result<()> {
+    let row = MOST.wrapping_sub(left);
+    println!(rt; "row {row} differs")?;
+    Ok(())
+}
+
+fn summary(rt: &HostRuntime, left: u64, differences: u64) -> io::Result<()> {
     let calls = MOST.wrapping_sub(left);
     println!(rt; "{calls} calls, {differences} differences")?;
     Ok(())
