@@ -1,5 +1,6 @@
 -- By whether anything remains.
 use mathlib.Core.Path.{◌≡◌, sym, ◌∙◌}
+use lib.IntN.{ℤ}
 use mir.Syntax.{w64}
 use mir.Val.{SFits, to_z, of_z}
 use mir.Facts.{to_z-of_z}
@@ -7,31 +8,30 @@ use Rattle.sums.specs.Sums.{sat_sub, notional}
 use Rattle.fills.specs.Inner.Deal.{trimmed_to}
 use borrow.Author.Rules.{rules}
 use Rattle.fills.proofs.deal.trimmed_to.Goals as goal
-use Rattle.fills.proofs.deal.trimmed_to.Lts as lts
-use Rattle.fills.proofs.deal.trimmed_to.Reads as reads
-use Rattle.fills.proofs.deal.trimmed_to.Tie as tie
 
--- what the request lost, either way
-lost-is : (z : lts.After-is_zero tie.the-claims reads.Pre reads.Post)
-    → to_z w64 (of_z w64 z.saturating_sub-lost.result) ≡ sat_sub (notional z.args.requested.0 z.args.price) (notional z.args.got.0 z.args.price)
-lost-is z =
-    let fa : SFits w64 z.notional_of-asked.result = search rules in
-    let fg : SFits w64 z.notional_of.result = search rules in
-    let fl : SFits w64 z.saturating_sub-lost.result = search rules in
-    let ea = simp (to_z-of_z z.ranges.price) at z.notional_of-asked.ensures in
-    let eg = simp (to_z-of_z z.ranges.price) at z.notional_of.ensures in
-    to_z-of_z fl ∙ simp (to_z-of_z fa ∙ ea, to_z-of_z fg ∙ eg) at z.saturating_sub-lost.ensures
+-- what the request lost, either way: v of the request less w of what remains
+lost-is : (q g p v w l : ℤ) → SFits w64 p → SFits w64 v → SFits w64 w → SFits w64 l
+    → v ≡ notional q (to_z w64 (of_z w64 p)) → w ≡ notional g (to_z w64 (of_z w64 p)) → l ≡ sat_sub (to_z w64 (of_z w64 v)) (to_z w64 (of_z w64 w))
+    → to_z w64 (of_z w64 l) ≡ sat_sub (notional q p) (notional g p)
+lost-is q g p v w l fp fv fw fl ev ew el =
+    let a = simp (to_z-of_z fp) at ev in
+    let b = simp (to_z-of_z fp) at ew in
+    to_z-of_z fl ∙ simp (to_z-of_z fv ∙ a, to_z-of_z fw ∙ b) at el
 
 pub returns-then-is_zero : goal.returns-then-is_zero
 unfolding trimmed_to
 returns-then-is_zero c =
-    let f = c.ranges in
+    let a = c.args in
     let h = sym c.is_zero.ensures ∙ c.if-is_zero.true in
-    rw h (simp (to_z-of_z f.price, to_z-of_z f.cash, lost-is c.before.before) at c.no_deal.ensures)
+    let lost = lost-is a.requested.0 a.got.0 a.price c.notional_of-asked.result c.notional_of.result c.saturating_sub-lost.result
+    c.ranges.price (search rules) (search rules) (search rules) c.notional_of-asked.ensures c.notional_of.ensures c.saturating_sub-lost.ensures in
+    rw h (simp (to_z-of_z c.ranges.price, to_z-of_z c.ranges.cash, lost) at c.no_deal.ensures)
 
 pub returns : goal.returns
 unfolding trimmed_to
 returns c =
-    let f = c.ranges in
+    let a = c.args in
     let h = sym c.is_zero.ensures ∙ c.if-is_zero.false in
-    rw h (simp (to_z-of_z f.price, to_z-of_z f.cash, lost-is c.before.before) at c.dealt.ensures)
+    let lost = lost-is a.requested.0 a.got.0 a.price c.notional_of-asked.result c.notional_of.result c.saturating_sub-lost.result
+    c.ranges.price (search rules) (search rules) (search rules) c.notional_of-asked.ensures c.notional_of.ensures c.saturating_sub-lost.ensures in
+    rw h (simp (to_z-of_z c.ranges.price, to_z-of_z c.ranges.cash, lost) at c.dealt.ensures)
