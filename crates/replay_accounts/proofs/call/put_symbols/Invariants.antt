@@ -1,7 +1,7 @@
+-- The loop ends, since the places that are left grow fewer; the column has as many places as it had.
 use Rattle.std.proofs.Common.{◌≡◌, ◌-◌, length, refl, arith, length-set, rules}
 use Rattle.replay_accounts.proofs.call.put_symbols.Given as goal
 
--- The loop ends, since the places that are left grow fewer; the column has as many places as it had.
 abbrev pub invariant-loop-k : goal.invariant-loop-k
 invariant-loop-k l = length l.column ≡ length l.initial.column
 

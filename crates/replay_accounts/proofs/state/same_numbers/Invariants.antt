@@ -1,7 +1,7 @@
+-- The loop ends, since the places that are left grow fewer; both columns have 64.
 use Rattle.std.proofs.Common.{◌-◌, arith, rules}
 use Rattle.replay_accounts.proofs.state.same_numbers.Given as goal
 
--- The loop ends, since the places that are left grow fewer; both columns have 64.
 abbrev pub invariant-loop-k : goal.invariant-loop-k
 invariant-loop-k l = Unit {0}
 
