@@ -131,11 +131,11 @@ abbrev pub sale_first : State
 sale_first =
     fill_all (terms_at free (whole (pos 1))) (order 2 (whole (negsuc 0)) (pos 80) ∷ order 1 (whole (pos 1)) (pos 100) ∷ []) (cash_only (pos 50))
 
-abbrev pub case_l_lem : Row
-case_l_lem =
+abbrev pub case_l : Row
+case_l =
     says (amount 1 sale_first ∷ amount 2 sale_first ∷ pos sale_first.trimmed ∷ sale_first.cash ∷ [])
     (whole (pos 1) ∷ whole (negsuc 0) ∷ pos 0 ∷ pos 30 ∷ [])
 
 abbrev pub table : List Row
 table =
-    case_a ∷ case_b ∷ case_c ∷ case_d ∷ case_e ∷ case_f ∷ case_g ∷ case_h ∷ case_i ∷ case_j ∷ case_k ∷ case_l_lem ∷ []
+    case_a ∷ case_b ∷ case_c ∷ case_d ∷ case_e ∷ case_f ∷ case_g ∷ case_h ∷ case_i ∷ case_j ∷ case_k ∷ case_l ∷ []
