@@ -13,7 +13,8 @@ use Rattle.position.specs.Rows.{fresh}
 use Rattle.position.specs.Fills.{sound}
 use Rattle.position.specs.declared.position.Position.{Position}
 use Rattle.table.specs.Keyed.{both, all}
-use Rattle.table.specs.Rows.{Cols, zipped, rows, row_at, Full, ordered}
+use Rattle.table.specs.Rows.{zipped, rows, row_at, Full, ordered}
+use Rattle.table.specs.declared.table.Columns.{Columns}
 use Rattle.table.specs.Inner.Rows.{held_at, Ordered}
 use Rattle.table.specs.declared.found.Found.TheVariants.{At}
 use Rattle.table.proofs.Keyed.{both_true, both_false}
@@ -22,10 +23,10 @@ use Rattle.table.proofs.Ordering.{test_orders, ordered_tests}
 use Rattle.account.specs.Account.{sound_places, sound_columns}
 
 -- ---- a walk over the first n places
-pub held-row : (i s : ℕ) (c : Cols) → i < 64 → held_at (At i) s c ≡ row_at i c
+pub held-row : (i s : ℕ) (c : Columns) → i < 64 → held_at (At i) s c ≡ row_at i c
 held-row i s c h = simp (lt-ltb _ _ h)
 
-module _ (i : ℕ) (c : Cols) (h : i < 64) where
+module _ (i : ℕ) (c : Columns) (h : i < 64) where
   pub sound_on : sound_places i c ≡ true → sound (held_at (At i) 0 c) ≡ true → sound_places (i + 1) c ≡ true
   unfolding sound_places
   sound_on e g = rw add-one (simp (e, sym (ap sound (held-row i 0 c h)) ∙ g))
@@ -63,7 +64,7 @@ all_below [] e i h = absurd (omega arith)
 all_below (p ∷ ps) e zero h = (both_true (sound p) _ e).0
 all_below (p ∷ ps) e (suc i) h = all_below ps (both_true (sound p) _ e).1 i (omega arith)
 
-module _ (c : Cols) (f : Full c) where
+module _ (c : Columns) (f : Full c) where
   pub rows-length : (n : ℕ) → n ≤ 64 → length (rows n c) ≡ n
   rows-length n h = length-take-le n (zipped c) (omega (arith, zipped-length c f))
 
@@ -79,11 +80,11 @@ module _ (c : Cols) (f : Full c) where
       sym (ap all_sound (take-suc (zipped c) n (fresh 0) l) ∙ all_snoc (take n (zipped c)) _ ∙ rw (zipped_at c n f, sym (places-rows n m)))
 
 -- ---- what callers cite
-pub ordered-small : (n : ℕ) (c : Cols) → ordered n c ≡ true → n ≤ 64
+pub ordered-small : (n : ℕ) (c : Columns) → ordered n c ≡ true → n ≤ 64
 unfolding ordered
 ordered-small n c e = leb-true n 64 (both_true (leb n 64) _ e).0
 
-module _ (n : ℕ) (c : Cols) (f : Full c) where
+module _ (n : ℕ) (c : Columns) (f : Full c) where
   pub sound-orders : sound_columns n c ≡ true → Ordered n c
   unfolding sound_columns
   sound-orders e = test_orders n c f (both_true (ordered n c) _ e).0
@@ -101,6 +102,6 @@ module _ (n : ℕ) (c : Cols) (f : Full c) where
       let l : i < length (rows n c) = omega (arith, rows-length c f n o.small) in
       sym (ap sound (row_of c f n i h)) ∙ all_below (rows n c) (sound-rows e) i l
 
-pub orders-sound : (n : ℕ) (c : Cols) → Ordered n c → all_sound (rows n c) ≡ true → sound_columns n c ≡ true
+pub orders-sound : (n : ℕ) (c : Columns) → Ordered n c → all_sound (rows n c) ≡ true → sound_columns n c ≡ true
 unfolding sound_columns
 orders-sound n c o e = simp (ordered_tests n c o, places-rows c o.full n o.small, e)

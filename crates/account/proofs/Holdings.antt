@@ -6,7 +6,8 @@ use lib.ListN.{take, get_or}
 use Rattle.position.specs.Rows.{fresh, key_of}
 use Rattle.table.specs.Keyed.{seek}
 use Rattle.table.specs.Inner.Places.{found}
-use Rattle.table.specs.Rows.{Cols, rows}
+use Rattle.table.specs.Rows.{rows}
+use Rattle.table.specs.declared.table.Columns.{Columns}
 use Rattle.table.specs.Inner.Rows.{held_at, Ordered}
 use Rattle.table.specs.declared.found.Found.{Found}
 use Rattle.table.specs.declared.found.Found.TheVariants.{At, Absent}
@@ -16,10 +17,10 @@ use Rattle.account.specs.Calls.{present, present_or}
 use Rattle.account.specs.Inner.Calls.{found_in}
 use Rattle.account.proofs.Columns.{held-row, rows-length, row_of}
 
-pub place_holds : (n i : ℕ) (c : Cols) → Ordered n c → i < n → held_at (At i) 0 c ≡ get_or (rows n c) i (fresh 0)
+pub place_holds : (n i : ℕ) (c : Columns) → Ordered n c → i < n → held_at (At i) 0 c ≡ get_or (rows n c) i (fresh 0)
 place_holds n i c o h = held-row i 0 c (omega (arith, o.small)) ∙ sym (row_of c o.full n i h)
 
-pub found-holds : (n s : ℕ) (c : Cols) (f : Found) → Ordered n c → f ≡ found s (take n c.symbol) → found_in f c ≡ present_or (seek key_of s (rows n c))
+pub found-holds : (n s : ℕ) (c : Columns) (f : Found) → Ordered n c → f ≡ found s (take n c.symbol) → found_in f c ≡ present_or (seek key_of s (rows n c))
 found-holds n s c (At i) o e =
     let g = stands key_of (fresh 0) (fresh s) (rows n c) 0 i (ap (found s) (keys_of n c o.full) ∙ sym e) in
     let q : i ≡ g.j = omega (arith, g.from) in

@@ -5,3 +5,4 @@ pub mod Tables
 pub mod Holdings
 pub mod Changes
 pub mod SoundAccounts
+mod Checks

@@ -10,7 +10,8 @@ use lib.Seq.{take_at, drop_at}
 use Rattle.position.specs.Rows.{row, fresh, key_of, held, avg, realized, total}
 use Rattle.position.specs.declared.position.Position.{Position}
 use Rattle.table.specs.Keyed.{ascending}
-use Rattle.table.specs.Rows.{zip2, padded_column, Cols, columns_of, zipped, rows, Full}
+use Rattle.table.specs.Rows.{zip2, padded_column, columns_of, zipped, rows, Full}
+use Rattle.table.specs.declared.table.Columns.{Columns}
 use Rattle.table.specs.Inner.Rows.{Ordered}
 use Rattle.table.specs.declared.table.Table.{Table}
 use Rattle.table.proofs.Keyed.{ascending_rises}
@@ -42,7 +43,7 @@ map_same (p ∷ ps) = ap (λ l. p ∷ l) (map_same ps)
 
 -- ---- from columns to a list and back
 -- "Unused places are zero, so equal views are equal accounts"
-module _ (n : ℕ) (c : Cols) (o : Ordered n c) where
+module _ (n : ℕ) (c : Columns) (o : Ordered n c) where
   column : {A : Type 0} (g : Position → A) (l : List A) → map g (zipped c) ≡ l → padded_column 64 (g (fresh 0)) (map g (rows n c)) ≡ l
   column g l e =
       let used : length (map g (rows n c)) ≡ n = length-map (rows n c) g ∙ rows-length c o.full n o.small in

@@ -5,19 +5,20 @@ use Rattle.position.specs.Rows.{key_of, held, avg, realized, total}
 use Rattle.position.specs.Fills.{sound}
 use Rattle.table.specs.declared.table.Table.{Table}
 use Rattle.table.specs.Keyed.{both}
-use Rattle.table.specs.Rows.{Cols, columns_of, rows, row_at, ordered, padded_column}
+use Rattle.table.specs.Rows.{cols, columns_of, rows, row_at, ordered, padded_column}
+use Rattle.table.specs.declared.table.Columns.{Columns}
 use Rattle.account.specs.declared.settings.Settings.{Settings}
 use Rattle.account.specs.declared.account.Account.{Account}
 use Rattle.account.specs.declared.account.Series.{Series}
 use Rattle.account.specs.Settings.{is_at_least, good_settings}
 
 -- each of the positions at the first n places is sound
-unfoldable pub sound_places : ℕ → Cols → Bool
+unfoldable pub sound_places : ℕ → Columns → Bool
 sound_places zero c = true
 sound_places (suc n) c = both (sound_places n c) (sound (row_at n c))
 
 -- "positions with good symbols, strictly ascending, unused places zero"
-unfoldable pub sound_columns : ℕ → Cols → Bool
+unfoldable pub sound_columns : ℕ → Columns → Bool
 sound_columns n c = both (ordered n c) (sound_places n c)
 
 -- the positions of a table, in symbol order
@@ -39,11 +40,13 @@ sound_account a = both (sound_scalars a.cash a.settings) (sound_table a.position
 unfoldable pub table_of : List Position → Table
 table_of ps = record {
   count = length ps;
-  symbol = padded_column 64 0 (map key_of ps);
-  quantity = padded_column 64 (pos 0) (map held ps);
-  avg_entry_price = padded_column 64 (pos 0) (map avg ps);
-  realized_pnl = padded_column 64 (pos 0) (map realized ps);
-  total_cost = padded_column 64 (pos 0) (map total ps);
+  columns =
+      cols
+      (padded_column 64 0 (map key_of ps))
+      (padded_column 64 (pos 0) (map held ps))
+      (padded_column 64 (pos 0) (map avg ps))
+      (padded_column 64 (pos 0) (map realized ps))
+      (padded_column 64 (pos 0) (map total ps));
 }
 
 -- ---- one field changed

@@ -7,7 +7,8 @@ use Rattle.answer.specs.declared.Answer.TheVariants.{Done, BadSetting, BadSymbol
 use Rattle.answer.specs.Places.{alone}
 use Rattle.cost_model.specs.declared.CostModel.{CostModel}
 use Rattle.cost_model.specs.Costs.{free}
-use Rattle.position.specs.Rows.{fresh, key_of}
+use Rattle.position.specs.Rows.{fresh, key_of, shares}
+use Rattle.position.specs.declared.shares.Shares.{Shares}
 use Rattle.position.specs.Symbols.{good_symbol}
 use Rattle.position.specs.declared.position.Position.{Position}
 use Rattle.table.specs.Keyed.{pick, seek}
@@ -19,13 +20,7 @@ use Rattle.account.specs.declared.settings.TradeCap.TheVariants.{Absent as Uncap
 use Rattle.account.specs.declared.account.Account.{Account}
 use Rattle.account.specs.declared.account.Series.{Series}
 use Rattle.account.specs.declared.change.Changed.{Changed}
-use Rattle.account.specs.declared.query.Cents.{Cents}
-use Rattle.account.specs.declared.query.Count.{Count}
-use Rattle.account.specs.declared.query.Rate.{Rate}
-use Rattle.account.specs.declared.query.Cap.{Cap}
-use Rattle.account.specs.declared.query.Step.{Step}
-use Rattle.account.specs.declared.query.Flag.{Flag}
-use Rattle.account.specs.declared.query.Costs.{Costs}
+use Rattle.account.specs.declared.query.Told.{Told}
 use Rattle.account.specs.declared.holding.Held.{Held}
 use Rattle.account.specs.Settings.{good_settings, opening_settings, zero_settings}
 use Rattle.account.specs.Account.{held_in, sound_scalars, sound_account, with_settings}
@@ -83,26 +78,32 @@ changed s a =
     (answered Unsound a)
 
 -- ---- queries: of a sound account the figure, of another "its number with zero figures"
-unfoldable pub told_cents : Bool → ℤ → Cents
-told_cents sound x = pick sound (record { answer = Done; cents = x }) (record { answer = Unsound; cents = pos 0 })
+unfoldable pub told : {A : Type 0} → A → Bool → A → Told A
+told z sound x = pick sound (record { answer = Done; value = x }) (record { answer = Unsound; value = z })
 
-unfoldable pub told_step : Bool → ℤ → Step
-told_step sound x = pick sound (record { answer = Done; micro_shares = x }) (record { answer = Unsound; micro_shares = pos 0 })
+-- money in cents
+abbrev pub told_cents : Bool → ℤ → Told ℤ
+told_cents = told (pos 0)
 
-unfoldable pub told_count : Bool → ℕ → Count
-told_count sound n = pick sound (record { answer = Done; count = n }) (record { answer = Unsound; count = 0 })
+-- a share count, kept apart from money
+abbrev pub told_step : Bool → ℤ → Told Shares
+told_step sound x = told (shares (pos 0)) sound (shares x)
 
-unfoldable pub told_rate : Bool → Float → Rate
-told_rate sound x = pick sound (record { answer = Done; bps = x }) (record { answer = Unsound; bps = zero })
+abbrev pub told_count : Bool → ℕ → Told ℕ
+told_count = told 0
 
-unfoldable pub told_flag : Bool → Bool → Flag
-told_flag sound on = pick sound (record { answer = Done; on = on }) (record { answer = Unsound; on = false })
+-- in basis points
+abbrev pub told_rate : Bool → Float → Told Float
+told_rate = told zero
 
-unfoldable pub told_cap : Bool → TradeCap → Cap
-told_cap sound c = pick sound (record { answer = Done; cap = c }) (record { answer = Unsound; cap = Uncapped })
+abbrev pub told_flag : Bool → Bool → Told Bool
+told_flag = told false
 
-unfoldable pub told_costs : Bool → CostModel → Costs
-told_costs sound m = pick sound (record { answer = Done; cost_model = m }) (record { answer = Unsound; cost_model = free })
+abbrev pub told_cap : Bool → TradeCap → Told TradeCap
+told_cap = told Uncapped
+
+abbrev pub told_costs : Bool → CostModel → Told CostModel
+told_costs = told free
 
 -- ---- positions
 -- "a position the account lacks is 0 with an absent mark"

@@ -1,9 +1,13 @@
 // An account, which goes in and comes back by value, and the ledger that stands for it where its columns are lent.
 ghost use Rattle.std.specs.Prelude.{◌≡◌};
+ghost use Rattle.answer.specs.declared.Answer.TheVariants.{Done};
+ghost use Rattle.answer.specs.Numbers.{checked};
 ghost use Rattle.account.specs.Account.{sound_account};
+ghost use Rattle.account.specs.Inner.Answers.{unless_unsound};
 
 use crate::settings::Settings;
 use crate::soundness::{sound_columns, sound_scalars};
+use answer::Answer;
 use table::Table;
 
 // What calls report beside the positions.
@@ -52,17 +56,18 @@ impl Account {
     pub fn is_sound(self) -> bool
         ensures { result ≡ sound_account self }
     {
-        if !sound_scalars(self.cash, self.settings) {
-            return false;
-        }
         let t = self.positions;
-        sound_columns(
-            &t.symbol,
-            &t.quantity,
-            &t.avg_entry_price,
-            &t.realized_pnl,
-            &t.total_cost,
-            t.count,
-        )
+        sound_scalars(self.cash, self.settings) && sound_columns(&t.columns, t.count)
+    }
+
+    // 11 for an account that is not sound.
+    pub fn check_sound(self) -> Result<(), Answer>
+        ensures { result ≡ checked (unless_unsound self Done) }
+    {
+        if self.is_sound() {
+            Ok(())
+        } else {
+            Err(Answer::Unsound)
+        }
     }
 }

@@ -1,17 +1,18 @@
 // One position of an account: by its symbol, or by its place in symbol order.
-ghost use Rattle.std.specs.Prelude.{◌≡◌};
+ghost use Rattle.std.specs.Prelude.{◌≡◌, Ok};
 ghost use Rattle.table.specs.Rows.{columns_of};
 ghost use Rattle.table.specs.Inner.Rows.{held_at};
 ghost use Rattle.table.specs.declared.found.Found.TheVariants.{At};
-ghost use Rattle.account.specs.Calls.{absent, present, position_of, position_at_of};
-ghost use Rattle.account.specs.Inner.Calls.{found_in};
+ghost use Rattle.account.specs.Calls.{absent, position_of, position_at_of};
+ghost use Rattle.account.specs.Inner.Calls.{found_in, held_of};
 
 use crate::account::Account;
 use answer::{Answer, Entry};
 use position::{Position, Symbol};
-use table::{Found, Table, find, held};
+use table::{Found, Table, find};
 
 // "a position the account lacks is 0 with an absent mark"
+// Kept: that sentence of document 01, and "Each refusal returns its number with zero figures".
 #[derive(Clone, Copy)]
 pub struct Held {
     pub answer: Answer,
@@ -19,6 +20,22 @@ pub struct Held {
     pub position: Position,
 }
 
+// What is told of the position that was looked for.
+fn told(looked_for: Result<Option<Position>, Answer>) -> Held
+    ensures { result ≡ held_of looked_for }
+{
+    match looked_for {
+        Ok(Some(position)) => Held {
+            answer: Answer::Done,
+            present: true,
+            position,
+        },
+        Ok(None) => absent(Answer::Done),
+        Err(answer) => absent(answer),
+    }
+}
+
+// "0 with an absent mark", of an account that lacks the position or a call that is refused.
 fn absent(answer: Answer) -> Held
     ensures { result ≡ absent answer }
 {
@@ -33,28 +50,16 @@ fn absent(answer: Answer) -> Held
 fn row(t: Table, i: usize) -> Position
     ensures { result ≡ held_at (At i) 0 (columns_of t) }
 {
-    held(
-        &t.symbol,
-        &t.quantity,
-        &t.avg_entry_price,
-        &t.realized_pnl,
-        &t.total_cost,
-        Found::At(i),
-        0,
-    )
+    t.columns.held(Found::At(i), 0)
 }
 
 // What a search in a table's symbols found.
-fn found_in(t: Table, f: Found) -> Held
-    ensures { result ≡ found_in f (columns_of t) }
+fn found_in(t: Table, f: Found) -> Option<Position>
+    ensures { held_of (Ok result) ≡ found_in f (columns_of t) }
 {
     match f {
-        Found::At(i) => Held {
-            answer: Answer::Done,
-            present: true,
-            position: row(t, i),
-        },
-        Found::Absent(_) => absent(Answer::Done),
+        Found::At(i) => Some(row(t, i)),
+        Found::Absent(_) => None,
     }
 }
 
@@ -63,33 +68,36 @@ impl Account {
     pub fn position(self, symbol: Symbol) -> Held
         ensures { result ≡ position_of symbol.0 self }
     {
-        if !self.is_sound() {
-            return absent(Answer::Unsound);
-        }
+        told(self.find_position(symbol))
+    }
+
+    fn find_position(self, symbol: Symbol) -> Result<Option<Position>, Answer>
+        ensures { held_of result ≡ position_of symbol.0 self }
+    {
+        self.check_sound()?;
         if !symbol.is_good() {
-            return absent(Answer::BadSymbol(Entry::Price(0)));
+            return Err(Answer::BadSymbol(Entry::Price(0)));
         }
         let t = self.positions;
-        let n = t.count;
-        let f = find(&t.symbol[..], n, symbol.0, 0);
-        found_in(t, f)
+        Ok(found_in(t, find(&t.columns.symbol, t.count, symbol.0, 0)))
     }
 
     // The position at a place, the lowest symbol at place 0: for a walk over all of them.
     pub fn position_at(self, index: usize) -> Held
         ensures { result ≡ position_at_of index self }
     {
-        if !self.is_sound() {
-            return absent(Answer::Unsound);
-        }
+        told(self.nth_position(index))
+    }
+
+    fn nth_position(self, index: usize) -> Result<Option<Position>, Answer>
+        ensures { held_of result ≡ position_at_of index self }
+    {
+        self.check_sound()?;
         let t = self.positions;
-        if t.count <= index {
-            return absent(Answer::Done);
-        }
-        Held {
-            answer: Answer::Done,
-            present: true,
-            position: row(t, index),
+        if index < t.count {
+            Ok(Some(row(t, index)))
+        } else {
+            Ok(None)
         }
     }
 }

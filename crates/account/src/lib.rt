@@ -13,6 +13,6 @@ pub use account::{Account, Counters, Ledger, Series};
 pub use change::Changed;
 pub use holding::Held;
 pub use opening::{open, with_quantity_step};
-pub use query::{Cap, Cents, Costs, Count, Flag, Rate, Step};
+pub use query::Told;
 pub use settings::{Rules, Settings, TradeCap};
 pub use soundness::{sound_account, sound_columns, sound_scalars};

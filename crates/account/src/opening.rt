@@ -2,7 +2,8 @@
 ghost use Rattle.std.specs.Prelude.{◌≡◌, pos};
 ghost use Rattle.sums.specs.Sums.{SCALE};
 ghost use Rattle.account.specs.Settings.{of_costs, opening_settings, zero_settings};
-ghost use Rattle.account.specs.Calls.{answered, empty_account, zero_account, open_account, opened_with, opening};
+ghost use Rattle.account.specs.Calls.{empty_account, zero_account, open_account, opened_with, opening};
+ghost use Rattle.account.specs.Inner.Calls.{opened_or_zero};
 
 use crate::account::{Account, Counters, Series};
 use crate::change::Changed;
@@ -34,20 +35,18 @@ fn opening_settings(rules: Rules, quantity_step: i64) -> Settings
 fn empty_account(cash: i64, settings: Settings, series: Series) -> Account
     ensures { result ≡ empty_account cash settings series }
 {
-    let counters = Counters {
-        last_rebalance_order_count: 0,
-        last_rebalance_notional: 0,
-        trimmed_fill_count: 0,
-        trimmed_shortfall_cents: 0,
-        record_count: 0,
-    };
-    let positions = Table::empty();
     Account {
         cash,
         settings,
-        counters,
+        counters: Counters {
+            last_rebalance_order_count: 0,
+            last_rebalance_notional: 0,
+            trimmed_fill_count: 0,
+            trimmed_shortfall_cents: 0,
+            record_count: 0,
+        },
         series,
-        positions,
+        positions: Table::empty(),
     }
 }
 
@@ -86,11 +85,24 @@ impl Account {
     }
 }
 
-fn refused(answer: Answer) -> Changed
-    ensures { result ≡ answered answer zero_account }
+// The account that opens, with its cash as the first equity: 1 for a bad setting or bad cash, then 10 for a buffer without a place.
+fn try_open(
+    cash: i64,
+    rules: Rules,
+    quantity_step: i64,
+    equity: &mut [i64],
+) -> Result<Account, Answer>
+    ensures { opened_with (opened_or_zero result) equity.new ≡ opening cash rules quantity_step equity.old }
 {
-    let account = Account::zero();
-    Changed { answer, account }
+    let settings = opening_settings(rules, quantity_step);
+    if !sound_scalars(cash, settings) {
+        return Err(Answer::BadSetting);
+    }
+    if equity.is_empty() {
+        return Err(Answer::BufferFull);
+    }
+    equity[0] = cash;
+    Ok(Account::opened(cash, settings))
 }
 
 // An account that trades whole shares.
@@ -109,17 +121,19 @@ pub fn with_quantity_step(
 ) -> Changed
     ensures { opened_with result equity.new ≡ opening initial_cash (of_costs cost_model) quantity_step equity.old }
 {
-    let settings = opening_settings(Rules::of_costs(cost_model), quantity_step);
-    if !sound_scalars(initial_cash, settings) {
-        return refused(Answer::BadSetting);
-    }
-    if equity.len() == 0 {
-        return refused(Answer::BufferFull);
-    }
-    equity[0] = initial_cash;
-    let account = Account::opened(initial_cash, settings);
-    Changed {
-        answer: Answer::Done,
-        account,
+    match try_open(
+        initial_cash,
+        Rules::of_costs(cost_model),
+        quantity_step,
+        equity,
+    ) {
+        Ok(account) => Changed {
+            answer: Answer::Done,
+            account,
+        },
+        Err(answer) => Changed {
+            answer,
+            account: Account::zero(),
+        },
     }
 }

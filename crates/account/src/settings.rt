@@ -6,7 +6,8 @@ use cost_model::CostModel;
 use doubles::is_finite;
 
 // The most orders that one rebalance admits.
-#[derive(Clone, Copy)]
+// Kept: document 01 says of the trade cap that "`Option` becomes an enum".
+#[derive(Clone, Copy, PartialEq, Eq)]
 pub enum TradeCap {
     Absent,
     // 0 admits nothing.
@@ -57,22 +58,12 @@ impl Settings {
     pub fn is_good(self) -> bool
         ensures { result ≡ good_settings self }
     {
-        if !self.rules.is_good() {
-            return false;
-        }
-        if self.quantity_step < 1 {
-            return false;
-        }
-        if self.min_order_value < 0 {
-            return false;
-        }
-        if self.max_order_value < 0 {
-            return false;
-        }
-        if !is_good_band(self.no_trade_band_bps) {
-            return false;
-        }
-        self.max_rebalance_notional >= 0
+        self.rules.is_good()
+            && self.quantity_step >= 1
+            && self.min_order_value >= 0
+            && self.max_order_value >= 0
+            && is_good_band(self.no_trade_band_bps)
+            && self.max_rebalance_notional >= 0
     }
 }
 
@@ -80,8 +71,5 @@ impl Settings {
 fn is_good_band(x: f64) -> bool
     ensures { result ≡ good_band x }
 {
-    if !is_finite(x) {
-        return false;
-    }
-    0.0 <= x
+    is_finite(x) && 0.0 <= x
 }

@@ -6,74 +6,39 @@ ghost use Rattle.account.specs.Inner.Account.{account_with};
 
 use crate::account::Ledger;
 use crate::settings::Settings;
-use table::{Found, held, is_ordered};
+use table::{Columns, Found};
 
 // Whether each of the first n positions is sound.
-fn sound_positions<'a>(
-    symbol: &'a [u64; 64],
-    quantity: &'a [i64; 64],
-    average: &'a [i64; 64],
-    realized: &'a [i64; 64],
-    total: &'a [i64; 64],
-    n: usize,
-) -> bool
+fn sound_positions<'a>(columns: &'a Columns, n: usize) -> bool
     requires { n ≤ 64 }
-    ensures { let c = cols symbol.now quantity.now average.now realized.now total.now in
-        result ≡ sound_places n c }
+    ensures { result ≡ sound_places n columns.now }
 {
-    let mut i = 0usize;
-    while i < n {
-        let p = held(symbol, quantity, average, realized, total, Found::At(i), 0);
+    for i in 0..n {
+        let p = columns.held(Found::At(i), 0);
         if !p.is_sound() {
             return false;
         }
-        i += 1;
     }
     true
 }
 
 // Whether the first n places hold sound positions in ascending order of their symbols and every other place is zero.
-pub fn sound_columns<'a>(
-    symbol: &'a [u64; 64],
-    quantity: &'a [i64; 64],
-    average: &'a [i64; 64],
-    realized: &'a [i64; 64],
-    total: &'a [i64; 64],
-    n: usize,
-) -> bool
-    ensures { let c = cols symbol.now quantity.now average.now realized.now total.now in
-        result ≡ sound_columns n c }
+pub fn sound_columns<'a>(columns: &'a Columns, n: usize) -> bool
+    ensures { result ≡ sound_columns n columns.now }
 {
-    if !is_ordered(symbol, quantity, average, realized, total, n) {
-        return false;
-    }
-    sound_positions(symbol, quantity, average, realized, total, n)
+    columns.is_ordered(n) && sound_positions(columns, n)
 }
 
 // "good settings, cash at least 0"
 pub fn sound_scalars(cash: i64, s: Settings) -> bool
     ensures { result ≡ sound_scalars cash s }
 {
-    if cash < 0 {
-        return false;
-    }
-    s.is_good()
+    cash >= 0 && s.is_good()
 }
 
 // Whether the account of a ledger and five columns is sound.
-pub fn sound_account<'a>(
-    h: Ledger,
-    symbol: &'a [u64; 64],
-    quantity: &'a [i64; 64],
-    average: &'a [i64; 64],
-    realized: &'a [i64; 64],
-    total: &'a [i64; 64],
-) -> bool
-    ensures { let c = cols symbol.now quantity.now average.now realized.now total.now in
-        result ≡ sound_account (account_with h c) }
+pub fn sound_account<'a>(h: Ledger, columns: &'a Columns) -> bool
+    ensures { result ≡ sound_account (account_with h columns.now) }
 {
-    if !sound_scalars(h.cash, h.settings) {
-        return false;
-    }
-    sound_columns(symbol, quantity, average, realized, total, h.count)
+    sound_scalars(h.cash, h.settings) && sound_columns(columns, h.count)
 }

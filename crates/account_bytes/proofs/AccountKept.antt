@@ -1,6 +1,7 @@
 -- An account that is written is read back, and bytes of an account that are read are written back.
+use Rattle.std.specs.Prelude.{Some}
 use mathlib.Core.Path.{◌≡◌, refl, sym, ◌∙◌, ap}
-use mathlib.Core.Bool.{Bool, true, false}
+use mathlib.Core.Bool.{true}
 use Prim.Native.Nat.{ℕ, ◌+◌, ◌/◌, ◌<◌, ◌^◌}
 use native.Mathlib.Omega.{arith}
 use mathlib.Core.List.{List, [], ◌∷◌, ◌++◌, map, append-nil}
@@ -9,8 +10,8 @@ use lib.Seq.{sets, take_at, drop_at, drop-cons, drop-drop, take_all}
 use mir.Syntax.{w64}
 use mir.Val.{SFits}
 use borrow.Author.Tests.{eq-eqb, eqb-true}
-use Rattle.table.specs.Keyed.{pick}
-use Rattle.table.specs.Rows.{Cols, Full, columns_of}
+use Rattle.table.specs.Rows.{Full, columns_of}
+use Rattle.table.specs.declared.table.Columns.{Columns}
 use Rattle.table.proofs.Keyed.{both_true}
 use Rattle.table.specs.declared.table.Table.{Table}
 use Rattle.account.specs.declared.account.Account.{Account}
@@ -24,7 +25,7 @@ use Rattle.word_bytes.proofs.Words.{Words, Octets, length-words, words-bytes, le
 use Rattle.word_bytes.proofs.Numbers.{signed_unsigned, unsigned_signed, unsigned_lt}
 use Rattle.account_bytes.specs.Sizes.{settings_size, settings_from, counters_size, counters_from, last_notional_at, shortfall_at, open_count_at, closed_total_at, series_from, prev_equity_at, counts_size, column_size, symbols_from, quantities_from, averages_from, realized_from, totals_from, account_size, account_length}
 use Rattle.account_bytes.specs.Settings.{settings_words, settings_at, are_settings}
-use Rattle.account_bytes.specs.Account.{count_words, counters_of, spare_counters, series_words, series_of, column_words, symbols_at, numbers_at, table_from, account_words_of, account_of, got_account, no_account, hold_account, read_account, written_account, written_series}
+use Rattle.account_bytes.specs.Account.{count_words, counters_of, spare_counters, series_words, series_of, column_words, symbols_at, numbers_at, table_from, account_words_of, account_of, hold_account, read_account, account_in, written_account, written_series}
 use Rattle.account_bytes.proofs.Writing.{length-account, bytes_are}
 use Rattle.account_bytes.proofs.Lists.{Numbers, words_append, words_take, words-drop, word_lt, words-turned, words_unsigned, turned_back, signed_back, unsigned_back, run, run_is, rejoined}
 use Rattle.account_bytes.proofs.SettingsKept.{NoNan, Kept, good-rates, settings_back, are_back, settings_fit, settings-after, are_after, words_back}
@@ -33,11 +34,11 @@ use Rattle.account_bytes.proofs.SettingsKept.{NoNan, Kept, good-rates, settings_
 pub record KeptTable (t : Table) : Type 0 where
   pub full : Full (columns_of t)
   pub count : t.count < 2 ^ 64
-  pub symbols : Words t.symbol
-  pub quantities : Numbers t.quantity
-  pub averages : Numbers t.avg_entry_price
-  pub realized : Numbers t.realized_pnl
-  pub totals : Numbers t.total_cost
+  pub symbols : Words t.columns.symbol
+  pub quantities : Numbers t.columns.quantity
+  pub averages : Numbers t.columns.average
+  pub realized : Numbers t.columns.realized
+  pub totals : Numbers t.columns.total
 
 pub record KeptCounts (k : Counters) (s : Series) : Type 0 where
   pub orders : k.last_rebalance_order_count < 2 ^ 64
@@ -73,15 +74,15 @@ counts_fit k s n c h =
 columns_fit : (t : Table) → KeptTable t → Words (column_words (columns_of t))
 unfolding column_words
 columns_fit t k =
-    let q : List ℕ = map unsigned_of t.quantity in
-    let a : List ℕ = map unsigned_of t.avg_entry_price in
-    let r : List ℕ = map unsigned_of t.realized_pnl in
-    let c : List ℕ = map unsigned_of t.total_cost in
-    words_append (map turned t.symbol) (q ++ (a ++ (r ++ c))) (words-turned t.symbol)
-    (words_append q (a ++ (r ++ c)) (words_unsigned t.quantity k.quantities)
-    (words_append a (r ++ c) (words_unsigned t.avg_entry_price k.averages)
-    (words_append r c (words_unsigned t.realized_pnl k.realized)
-    (words_unsigned t.total_cost k.totals))))
+    let q : List ℕ = map unsigned_of t.columns.quantity in
+    let a : List ℕ = map unsigned_of t.columns.average in
+    let r : List ℕ = map unsigned_of t.columns.realized in
+    let c : List ℕ = map unsigned_of t.columns.total in
+    words_append (map turned t.columns.symbol) (q ++ (a ++ (r ++ c))) (words-turned t.columns.symbol)
+    (words_append q (a ++ (r ++ c)) (words_unsigned t.columns.quantity k.quantities)
+    (words_append a (r ++ c) (words_unsigned t.columns.average k.averages)
+    (words_append r c (words_unsigned t.columns.realized k.realized)
+    (words_unsigned t.columns.total k.totals))))
 
 account_fit : (a : Account) → KeptAccount a → Words (account_words_of a)
 unfolding account_words_of
@@ -104,14 +105,14 @@ unfolding account_words_of settings_words count_words
 series_back a c = simp (signed_unsigned a.series.prev_equity c.previous)
 
 -- the columns, each 64 words after the one before it
-record Cut (c : Cols) : Type 0 where
+record Cut (c : Columns) : Type 0 where
   symbol : take 64 (column_words c) ≡ map turned c.symbol
   quantity : take 64 (drop 64 (column_words c)) ≡ map unsigned_of c.quantity
   average : take 64 (drop 128 (column_words c)) ≡ map unsigned_of c.average
   realized : take 64 (drop 192 (column_words c)) ≡ map unsigned_of c.realized
   total : take 64 (drop 256 (column_words c)) ≡ map unsigned_of c.total
 
-cut : (c : Cols) → Full c → Cut c
+cut : (c : Columns) → Full c → Cut c
 unfolding column_words
 cut c f =
     let s : List ℕ = map turned c.symbol in
@@ -143,11 +144,11 @@ table_back a k =
     let t = a.positions in
     let c = cut (columns_of t) k.full in
     simp (
-      ap (map turned) c.symbol ∙ turned_back t.symbol k.symbols,
-      ap (map signed_of) c.quantity ∙ signed_back t.quantity k.quantities,
-      ap (map signed_of) c.average ∙ signed_back t.avg_entry_price k.averages,
-      ap (map signed_of) c.realized ∙ signed_back t.realized_pnl k.realized,
-      ap (map signed_of) c.total ∙ signed_back t.total_cost k.totals,
+      ap (map turned) c.symbol ∙ turned_back t.columns.symbol k.symbols,
+      ap (map signed_of) c.quantity ∙ signed_back t.columns.quantity k.quantities,
+      ap (map signed_of) c.average ∙ signed_back t.columns.average k.averages,
+      ap (map signed_of) c.realized ∙ signed_back t.columns.realized k.realized,
+      ap (map signed_of) c.total ∙ signed_back t.columns.total k.totals,
     )
 
 cash_back : (a : Account) → SFits w64 a.cash → signed_of (get_or (account_words_of a) 0 0) ≡ a.cash
@@ -242,22 +243,13 @@ account-words ws p =
 
 -- ---- bytes
 -- An account that is written is read back as it was.
-pub account-read_back : (a : Account) → KeptAccount a → (l : List ℕ) → length l ≡ account_length → read_account (written_account a l) ≡ got_account a
+pub account-read_back : (a : Account) → KeptAccount a → (l : List ℕ) → length l ≡ account_length → read_account (written_account a l) ≡ Some a
 unfolding read_account hold_account written_account
 account-read_back a k l n =
     let ws : List ℕ = account_words_of a in
     let w : words_of (bytes_of ws) ≡ ws = words-bytes ws (account_fit a k) in
     let m : length (bytes_of ws) ≡ account_length = length-bytes ws ∙ omega (arith, length-account a k.positions.full) in
     simp (eq-eqb (length l) account_length n) (simp (eq-eqb (length (bytes_of ws)) account_length m, w, are_first a ∙ are_back a.settings k.settings, spare_first a, account_back a k))
-
-good_by : (t : Bool) (a : Account) → (pick t (got_account a) no_account).good ≡ t
-good_by true a = refl
-good_by false a = refl
-
--- Bytes hold an account by their length, their settings and their spare words.
-pub good_is : (l : List ℕ) → (read_account l).good ≡ hold_account l
-unfolding read_account
-good_is l = good_by _ _
 
 -- what is known of bytes that hold one
 record Good (l : List ℕ) : Type 0 where
@@ -267,28 +259,28 @@ record Good (l : List ℕ) : Type 0 where
 words_pass : (l : List ℕ) → length l ≡ account_length → are_settings settings_from (words_of l) ≡ true → spare_counters (words_of l) ≡ true → Octets l → Passed (words_of l)
 words_pass l n s z o = record { fit = words_fit (length l / 8) l o (omega arith); long = length-words (length l / 8) l ∙ omega arith; settings = s; spare = z }
 
-good : (l : List ℕ) → (read_account l).good ≡ true → Good l
+good : (l : List ℕ) → hold_account l ≡ true → Good l
 unfolding hold_account
 good l g =
-    let b = both_true _ _ (sym (good_is l) ∙ g) in
+    let b = both_true _ _ g in
     let c = both_true _ _ b.1 in
     let n : length l ≡ account_length = eqb-true (length l) account_length b.0 in
     record { long = n; passed = words_pass l n c.0 c.1 }
 
-pub good-long : (l : List ℕ) → (read_account l).good ≡ true → length l ≡ account_length
+pub good-long : (l : List ℕ) → hold_account l ≡ true → length l ≡ account_length
 good-long l g = (good l g).long
 
 -- Bytes that hold an account, read and written, are as they were.
-pub account-written_back : (l : List ℕ) → Octets l → (read_account l).good ≡ true → (m : List ℕ) → length m ≡ account_length → written_account (read_account l).account m ≡ l
-unfolding read_account written_account
+pub account-written_back : (l : List ℕ) → Octets l → hold_account l ≡ true → (m : List ℕ) → length m ≡ account_length → written_account (account_in l) m ≡ l
+unfolding account_in written_account
 account-written_back l o g m k =
     let d = good l g in
     let n = d.long in
     let z : length l / 8 ≡ account_size = omega arith in
-    simp (eq-eqb (length m) account_length k, sym (good_is l) ∙ g) (ap bytes_of (account-words (words_of l) (d.passed o)) ∙ ap (λ (i : ℕ). bytes_of (words_in i l)) z ∙ bytes-words account_size l o n)
+    simp (eq-eqb (length m) account_length k, g) (ap bytes_of (account-words (words_of l) (d.passed o)) ∙ ap (λ (i : ℕ). bytes_of (words_in i l)) z ∙ bytes-words account_size l o n)
 
 -- Where the words of an account's series are those of another, the bytes are those of the account with it.
-pub series-written : (s : Series) (l m : List ℕ) → Octets l → Octets m → (read_account l).good ≡ true → length m ≡ length l → words_of m ≡ sets (words_of l) series_from (series_words s) → m ≡ written_series s l
+pub series-written : (s : Series) (l m : List ℕ) → Octets l → Octets m → hold_account l ≡ true → length m ≡ length l → words_of m ≡ sets (words_of l) series_from (series_words s) → m ≡ written_series s l
 unfolding written_series written_account
 series-written s l m o p g k h =
     let d = good l g in

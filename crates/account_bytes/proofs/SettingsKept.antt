@@ -1,4 +1,5 @@
 -- Settings that are written are read back, and bytes of settings that are read are written back.
+use Rattle.std.specs.Prelude.{Some}
 use mathlib.Core.Path.{◌≡◌, refl, sym, ◌∙◌, ap, subst}
 use mathlib.Core.Bool.{Bool, true, false, not}
 use Prim.Native.Nat.{ℕ, zero, suc, ◌+◌, ◌/◌, ◌<◌, ◌^◌}
@@ -12,7 +13,6 @@ use lib.Ieee.Scale.{finite}
 use mir.Syntax.{w64}
 use mir.Val.{SFits}
 use borrow.Author.Tests.{eq-eqb, ne_eqb, eqb-true, ltb-true}
-use Rattle.table.specs.Keyed.{pick}
 use Rattle.table.proofs.Keyed.{both_true}
 use Rattle.account.specs.declared.settings.Settings.{Settings}
 use Rattle.account.specs.declared.settings.TradeCap.{TradeCap}
@@ -27,7 +27,7 @@ use Rattle.word_bytes.specs.Numbers.{signed_of, unsigned_of, float_of, pattern_o
 use Rattle.word_bytes.proofs.Words.{Words, Octets, length-words, words-bytes, length-bytes, words_fit, bytes-words}
 use Rattle.word_bytes.proofs.Numbers.{signed_unsigned, unsigned_signed, unsigned_lt, float_pattern, pattern_float, pattern_lt}
 use Rattle.account_bytes.specs.Sizes.{settings_size, settings_length, commission_at, slippage_at, band_at, cap_mark_at, cap_count_at, recording_at, cash_first_at, cover_rule_at, long_only_at}
-use Rattle.account_bytes.specs.Settings.{flag_word, flag_of, is_flag, is_number, cap_mark, cap_count, cap_of, is_cap, costs_of, settings_words, settings_at, are_rates, are_flags, spare_settings, are_settings, got_settings, no_settings, hold_settings, read_settings, written_settings}
+use Rattle.account_bytes.specs.Settings.{flag_word, flag_of, is_flag, is_number, cap_mark, cap_count, cap_of, is_cap, costs_of, settings_words, settings_at, are_rates, are_flags, spare_settings, are_settings, given_settings, hold_settings, read_settings, written_settings}
 use Rattle.account_bytes.proofs.Writing.{length-settings}
 use Rattle.account_bytes.proofs.Lists.{run, run_is, word_lt}
 
@@ -257,23 +257,19 @@ words_back from ws o e =
 
 -- ---- bytes
 -- Settings that are written are read back as they were.
-pub settings-read_back : (s : Settings) → Kept s → (l : List ℕ) → length l ≡ settings_length → read_settings (written_settings s l) ≡ got_settings s
+pub settings-read_back : (s : Settings) → Kept s → (l : List ℕ) → length l ≡ settings_length → read_settings (written_settings s l) ≡ Some s
 unfolding read_settings hold_settings written_settings
 settings-read_back s k l n =
     let w : words_of (bytes_of (settings_words s)) ≡ settings_words s = words-bytes (settings_words s) (settings_fit s k) in
     let m : length (bytes_of (settings_words s)) ≡ settings_length = length-bytes (settings_words s) ∙ omega (arith, length-settings s) in
     simp (eq-eqb (length l) settings_length n) (simp (eq-eqb (length (bytes_of (settings_words s))) settings_length m, w, are_back s k, settings_back s k))
 
-good_by : (t : Bool) (s : Settings) → (pick t (got_settings s) no_settings).good ≡ true → t ≡ true
-good_by true s e = refl
-good_by false s e = e
-
 -- Bytes that hold settings, read and written, are as they were.
-pub settings-written_back : (l : List ℕ) → Octets l → (read_settings l).good ≡ true → (m : List ℕ) → length m ≡ settings_length → written_settings (read_settings l).settings m ≡ l
-unfolding read_settings hold_settings written_settings
+pub settings-written_back : (l : List ℕ) → Octets l → hold_settings l ≡ true → (m : List ℕ) → length m ≡ settings_length → written_settings (given_settings l) m ≡ l
+unfolding given_settings hold_settings written_settings
 settings-written_back l o g m k =
     let ws : List ℕ = words_of l in
-    let b = both_true _ _ (good_by _ _ g) in
+    let b = both_true _ _ g in
     let n : length l ≡ settings_length = eqb-true (length l) settings_length b.0 in
     let z : length l / 8 ≡ settings_size = omega arith in
     let f : Words ws = words_fit (length l / 8) l o (omega arith) in

@@ -10,24 +10,25 @@ use Rattle.table.specs.Keyed.{pick, both}
 use Rattle.table.proofs.Keyed.{both_true}
 use Rattle.account.specs.declared.account.Account.{Account}
 use Rattle.account.specs.Account.{sound_account}
+use Rattle.account.specs.Calls.{zero_account}
 use Rattle.account.proofs.SoundAccounts.{zero_unsound}
 use Rattle.word_bytes.specs.Words.{words_of, bytes_of}
 use Rattle.account_bytes.specs.Sizes.{account_length}
-use Rattle.account_bytes.specs.Account.{account_words_of, account_of, got_account, no_account, hold_account, read_account, account_in, sound_in, written_account}
+use Rattle.account_bytes.specs.Account.{account_words_of, account_of, hold_account, account_in, sound_in, written_account}
 use Rattle.account_bytes.proofs.AccountKept.{good-long}
 
-good_or_zero : (t : Bool) (a : Account) → let r = pick t (got_account a) no_account in both r.good (sound_account r.account) ≡ sound_account r.account
+good_or_zero : (t : Bool) (a : Account) → let r = pick t a zero_account in both t (sound_account r) ≡ sound_account r
 good_or_zero true a = refl
 good_or_zero false a = sym zero_unsound
 
 pub sound_in_lem : (l : List ℕ) → sound_in l ≡ sound_account (account_in l)
-unfolding sound_in read_account
+unfolding sound_in account_in
 sound_in_lem l = good_or_zero (hold_account l) (account_of (words_of l))
 
 -- the bytes of a sound account are as many as are written
 pub sound-length : (l : List ℕ) → sound_in l ≡ true → eqb (length l) account_length ≡ true
 unfolding sound_in
-sound-length l e = eq-eqb (length l) account_length (good-long l (both_true (read_account l).good (sound_account (account_in l)) e).0)
+sound-length l e = eq-eqb (length l) account_length (good-long l (both_true (hold_account l) (sound_account (account_in l)) e).0)
 
 pub written-sound : (a : Account) (l : List ℕ) → sound_in l ≡ true → written_account a l ≡ bytes_of (account_words_of a)
 unfolding written_account

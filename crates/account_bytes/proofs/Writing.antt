@@ -5,7 +5,8 @@ use native.Mathlib.Omega.{arith}
 use mathlib.Core.List.{List, [], ◌∷◌, ◌++◌, map}
 use lib.ListN.{length, set, length-append, length-map}
 use lib.Seq.{sets}
-use Rattle.table.specs.Rows.{Cols, Full, columns_of}
+use Rattle.table.specs.Rows.{Full, columns_of}
+use Rattle.table.specs.declared.table.Columns.{Columns}
 use Rattle.table.proofs.Stores.{sets_append, sets_all}
 use Rattle.account.specs.declared.settings.Settings.{Settings}
 use Rattle.account.specs.declared.account.Account.{Account}
@@ -25,12 +26,12 @@ bytes_are n l ws o e h =
     sym (bytes-words n l o e) ∙ ap (λ (k : ℕ). bytes_of (words_in k l)) (sym z) ∙ ap bytes_of h
 
 -- ---- the account
-pub length-columns : (c : Cols) → Full c → length (column_words c) ≡ 5 * column_size
+pub length-columns : (c : Columns) → Full c → length (column_words c) ≡ 5 * column_size
 unfolding column_words
 length-columns c f = simp (length-append, length-map, f.symbol, f.quantity, f.average, f.realized, f.total)
 
 -- column after column
-pub columns-put : (c : Cols) → Full c → (w0 w1 w2 w3 w4 w5 : List ℕ)
+pub columns-put : (c : Columns) → Full c → (w0 w1 w2 w3 w4 w5 : List ℕ)
     → w1 ≡ sets w0 symbols_from (map turned c.symbol)
     → w2 ≡ sets w1 quantities_from (map unsigned_of c.quantity)
     → w3 ≡ sets w2 averages_from (map unsigned_of c.average)

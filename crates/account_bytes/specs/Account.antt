@@ -1,16 +1,16 @@
 -- An account as words and as bytes. Definitions only.
-use Rattle.std.specs.Prelude.{ℕ, Bool, true, false, List, [], ◌∷◌, ◌++◌, map, eqb, length, get_or, take, drop, ℤ}
+use Rattle.std.specs.Prelude.{ℕ, Bool, List, [], ◌∷◌, ◌++◌, map, eqb, length, get_or, take, drop, ℤ, Option, Some, None}
 use Rattle.word_bytes.specs.Words.{words_of, bytes_of, turned}
 use Rattle.word_bytes.specs.Numbers.{signed_of, unsigned_of}
 use Rattle.table.specs.Keyed.{pick, both}
-use Rattle.table.specs.Rows.{Cols, columns_of}
+use Rattle.table.specs.Rows.{cols, columns_of}
+use Rattle.table.specs.declared.table.Columns.{Columns}
 use Rattle.table.specs.declared.table.Table.{Table}
 use Rattle.account.specs.declared.account.Account.{Account}
 use Rattle.account.specs.declared.account.Counters.{Counters}
 use Rattle.account.specs.declared.account.Series.{Series}
 use Rattle.account.specs.Account.{sound_account, with_series}
 use Rattle.account.specs.Calls.{series, zero_account}
-use Rattle.account_bytes.specs.declared.account_words.ReadAccount.{ReadAccount}
 use Rattle.account_bytes.specs.Sizes.{cash_at, settings_from, order_count_at, last_notional_at, trimmed_count_at, shortfall_at, record_count_at, open_count_at, closed_total_at, equity_count_at, return_count_at, prev_equity_at, count_at_of, column_size, symbols_from, quantities_from, averages_from, realized_from, totals_from, account_length}
 use Rattle.account_bytes.specs.Settings.{is_spare, settings_words, settings_at, are_settings}
 
@@ -48,13 +48,17 @@ abbrev pub series_of : List ℕ → Series
 series_of ws = series (get_or ws equity_count_at 0) (get_or ws return_count_at 0) (signed_of (get_or ws prev_equity_at 0))
 
 -- ---- five columns
+-- a column of the words from a place on, as f reads a word
+abbrev pub column_at : {A : Type 0} → (ℕ → A) → ℕ → List ℕ → List A
+column_at f from ws = map f (take column_size (drop from ws))
+
 abbrev pub symbols_at : ℕ → List ℕ → List ℕ
-symbols_at from ws = map turned (take column_size (drop from ws))
+symbols_at from ws = column_at turned from ws
 
 abbrev pub numbers_at : ℕ → List ℕ → List ℤ
-numbers_at from ws = map signed_of (take column_size (drop from ws))
+numbers_at from ws = column_at signed_of from ws
 
-unfoldable pub column_words : Cols → List ℕ
+unfoldable pub column_words : Columns → List ℕ
 column_words c =
     map turned c.symbol
     ++ (map unsigned_of c.quantity
@@ -65,11 +69,7 @@ column_words c =
 unfoldable pub table_from : List ℕ → Table
 table_from ws = record {
   count = get_or ws count_at_of 0;
-  symbol = symbols_at symbols_from ws;
-  quantity = numbers_at quantities_from ws;
-  avg_entry_price = numbers_at averages_from ws;
-  realized_pnl = numbers_at realized_from ws;
-  total_cost = numbers_at totals_from ws;
+  columns = cols (symbols_at symbols_from ws) (numbers_at quantities_from ws) (numbers_at averages_from ws) (numbers_at realized_from ws) (numbers_at totals_from ws);
 }
 
 -- ---- the account
@@ -85,36 +85,31 @@ account_of ws = record {
   positions = table_from ws;
 }
 
-abbrev pub got_account : Account → ReadAccount
-got_account a = record { good = true; account = a }
-
-abbrev pub no_account : ReadAccount
-no_account = record { good = false; account = zero_account }
-
 -- ---- bytes
 -- "Account bytes of the wrong length answer 11", and so do words that no account has; whether the account is sound is for the calls to refuse.
 unfoldable pub hold_account : List ℕ → Bool
 hold_account l = both (eqb (length l) account_length) (both (are_settings settings_from (words_of l)) (spare_counters (words_of l)))
 
-unfoldable pub read_account : List ℕ → ReadAccount
-read_account l = pick (hold_account l) (got_account (account_of (words_of l))) no_account
+-- none where they hold none
+unfoldable pub read_account : List ℕ → Option Account
+read_account l = pick (hold_account l) (Some (account_of (words_of l))) None
 
 -- the account that bytes hold, all zeros where they hold none
-abbrev pub account_in : List ℕ → Account
-account_in l = (read_account l).account
+unfoldable pub account_in : List ℕ → Account
+account_in l = pick (hold_account l) (account_of (words_of l)) zero_account
 
 -- "Account bytes of the wrong length answer 11", as do a bad mark or flag and a NaN, and an account that is not sound
 unfoldable pub sound_in : List ℕ → Bool
-sound_in l = both (read_account l).good (sound_account (account_in l))
+sound_in l = both (hold_account l) (sound_account (account_in l))
 
 -- as found where the length is another
 unfoldable pub written_account : Account → List ℕ → List ℕ
 written_account a l = pick (eqb (length l) account_length) (bytes_of (account_words_of a)) l
 
 -- the columns of the account; as found where the length is another
-unfoldable pub read_columns : List ℕ → Cols → Cols
+unfoldable pub read_columns : List ℕ → Columns → Columns
 read_columns l c = pick (eqb (length l) account_length) (columns_of (account_of (words_of l)).positions) c
 
 -- an account's bytes with another series; as found where they hold no account
 unfoldable pub written_series : Series → List ℕ → List ℕ
-written_series s l = pick (read_account l).good (written_account (with_series s (account_of (words_of l))) l) l
+written_series s l = pick (hold_account l) (written_account (with_series s (account_of (words_of l))) l) l

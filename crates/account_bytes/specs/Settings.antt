@@ -1,5 +1,5 @@
 -- Settings as words and as bytes. Definitions only.
-use Rattle.std.specs.Prelude.{ℕ, ◌+◌, Bool, true, false, cond, not, List, [], ◌∷◌, ◌++◌, eqb, ltb, length, get_or}
+use Rattle.std.specs.Prelude.{ℕ, ◌+◌, Bool, cond, not, List, [], ◌∷◌, ◌++◌, eqb, ltb, length, get_or, Option, Some, None}
 use Rattle.std.specs.Float.Ieee.{is_nan}
 use Rattle.word_bytes.specs.Words.{words_of, bytes_of}
 use Rattle.word_bytes.specs.Numbers.{signed_of, unsigned_of, float_of, pattern_of}
@@ -12,7 +12,6 @@ use Rattle.account.specs.declared.settings.TradeCap.{TradeCap}
 use Rattle.account.specs.declared.settings.TradeCap.TheVariants.{Absent, AtMost}
 use Rattle.account.specs.Settings.{settings, zero_settings}
 use Rattle.account_bytes.specs.Sizes.{settings_length, commission_at, slippage_at, min_commission_at, step_at, min_order_at, max_order_at, band_at, cap_mark_at, cap_count_at, max_notional_at, recording_at, cash_first_at, max_commission_at, cover_rule_at, long_only_at}
-use Rattle.account_bytes.specs.declared.setting_words.ReadSettings.{ReadSettings}
 
 -- ---- marks: 1 for yes, 0 for no
 abbrev pub flag_word : Bool → ℕ
@@ -120,18 +119,17 @@ are_settings from ws =
     (both (are_flags from ws)
     (spare_settings from ws)))
 
-abbrev pub got_settings : Settings → ReadSettings
-got_settings s = record { good = true; settings = s }
-
-abbrev pub no_settings : ReadSettings
-no_settings = record { good = false; settings = zero_settings }
-
 -- ---- bytes
 unfoldable pub hold_settings : List ℕ → Bool
 hold_settings l = both (eqb (length l) settings_length) (are_settings 0 (words_of l))
 
-unfoldable pub read_settings : List ℕ → ReadSettings
-read_settings l = pick (hold_settings l) (got_settings (settings_at 0 (words_of l))) no_settings
+-- none where they hold none
+unfoldable pub read_settings : List ℕ → Option Settings
+read_settings l = pick (hold_settings l) (Some (settings_at 0 (words_of l))) None
+
+-- all zeros, which are no good settings, where the bytes hold none
+unfoldable pub given_settings : List ℕ → Settings
+given_settings l = pick (hold_settings l) (settings_at 0 (words_of l)) zero_settings
 
 -- as found where the length is another
 unfoldable pub written_settings : Settings → List ℕ → List ℕ

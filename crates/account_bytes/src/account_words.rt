@@ -4,35 +4,28 @@ ghost use Rattle.word_bytes.specs.Words.{words_of};
 ghost use Rattle.table.specs.Rows.{cols};
 ghost use Rattle.account.specs.Inner.Account.{account_with, ledger_of};
 ghost use Rattle.account_bytes.specs.Sizes.{account_length};
-ghost use Rattle.account_bytes.specs.Account.{counter_words, series_words, counters_of, spare_counters, series_of, account_of, read_account, account_in, written_account, written_series};
+ghost use Rattle.account_bytes.specs.Account.{counter_words, series_words, counters_of, spare_counters, series_of, account_of, hold_account, read_account, account_in, written_account, written_series};
 
 use crate::columns::{put_columns, read_columns};
-use crate::run::{number_at, put_words};
-use crate::setting_words::{are_settings, both, is_spare, settings_at, settings_words};
+use crate::run::{put_words, value_at};
+use crate::setting_words::{are_settings, is_spare, settings_at, settings_words};
 use crate::sizes::{
     ACCOUNT_BYTES, CASH_AT, CLOSED_TOTAL_AT, COUNT_AT, COUNTER_WORDS, COUNTERS_AT, EQUITY_COUNT_AT,
     LAST_NOTIONAL_AT, OPEN_COUNT_AT, ORDER_COUNT_AT, PREV_EQUITY_AT, RECORD_COUNT_AT,
     RETURN_COUNT_AT, SERIES_AT, SERIES_WORDS, SETTINGS_AT, SHORTFALL_AT, TRIMMED_COUNT_AT,
 };
 use account::{Account, Counters, Ledger, Series};
-use table::Table;
+use table::{Columns, Table};
 use word_bytes::{put_word, unsigned, word_at};
-
-// All zeros where the bytes hold no account.
-#[derive(Clone, Copy)]
-pub struct ReadAccount {
-    pub good: bool,
-    pub account: Account,
-}
 
 fn counters_of(bytes: &[u8]) -> Counters
     ensures { result ≡ counters_of (words_of bytes.now) }
 {
     Counters {
         last_rebalance_order_count: word_at(bytes, ORDER_COUNT_AT),
-        last_rebalance_notional: number_at(bytes, LAST_NOTIONAL_AT),
+        last_rebalance_notional: value_at(bytes, LAST_NOTIONAL_AT),
         trimmed_fill_count: word_at(bytes, TRIMMED_COUNT_AT),
-        trimmed_shortfall_cents: number_at(bytes, SHORTFALL_AT),
+        trimmed_shortfall_cents: value_at(bytes, SHORTFALL_AT),
         record_count: word_at(bytes, RECORD_COUNT_AT),
     }
 }
@@ -41,9 +34,7 @@ fn counters_of(bytes: &[u8]) -> Counters
 fn spare_counters(bytes: &[u8]) -> bool
     ensures { result ≡ spare_counters (words_of bytes.now) }
 {
-    let open_count = is_spare(word_at(bytes, OPEN_COUNT_AT));
-    let closed_total = is_spare(word_at(bytes, CLOSED_TOTAL_AT));
-    both(open_count, closed_total)
+    is_spare(word_at(bytes, OPEN_COUNT_AT)) && is_spare(word_at(bytes, CLOSED_TOTAL_AT))
 }
 
 fn series_of(bytes: &[u8]) -> Series
@@ -52,7 +43,7 @@ fn series_of(bytes: &[u8]) -> Series
     Series {
         equity_count: word_at(bytes, EQUITY_COUNT_AT),
         return_count: word_at(bytes, RETURN_COUNT_AT),
-        prev_equity: number_at(bytes, PREV_EQUITY_AT),
+        prev_equity: value_at(bytes, PREV_EQUITY_AT),
     }
 }
 
@@ -60,17 +51,12 @@ fn series_of(bytes: &[u8]) -> Series
 pub fn read_ledger(bytes: &[u8]) -> Ledger
     ensures { result ≡ ledger_of (account_of (words_of bytes.now)) }
 {
-    let cash = number_at(bytes, CASH_AT);
-    let settings = settings_at(bytes, SETTINGS_AT);
-    let counters = counters_of(bytes);
-    let series = series_of(bytes);
-    let count = word_at(bytes, COUNT_AT) as usize;
     Ledger {
-        cash,
-        settings,
-        counters,
-        series,
-        count,
+        cash: value_at(bytes, CASH_AT),
+        settings: settings_at(bytes, SETTINGS_AT),
+        counters: counters_of(bytes),
+        series: series_of(bytes),
+        count: word_at(bytes, COUNT_AT) as usize,
     }
 }
 
@@ -78,37 +64,18 @@ fn account_of(bytes: &[u8]) -> Account
     requires { length bytes.now ≡ account_length }
     ensures { result ≡ account_of (words_of bytes.now) }
 {
-    let mut symbol = [0u64; 64];
-    let mut quantity = [0i64; 64];
-    let mut avg_entry_price = [0i64; 64];
-    let mut realized_pnl = [0i64; 64];
-    let mut total_cost = [0i64; 64];
-    read_columns(
-        bytes,
-        &mut symbol,
-        &mut quantity,
-        &mut avg_entry_price,
-        &mut realized_pnl,
-        &mut total_cost,
-    );
+    let mut columns = Columns::empty();
+    read_columns(bytes, &mut columns);
     let h = read_ledger(bytes);
-    let settings = h.settings;
-    let counters = h.counters;
-    let series = h.series;
-    let positions = Table {
-        count: h.count,
-        symbol,
-        quantity,
-        avg_entry_price,
-        realized_pnl,
-        total_cost,
-    };
     Account {
         cash: h.cash,
-        settings,
-        counters,
-        series,
-        positions,
+        settings: h.settings,
+        counters: h.counters,
+        series: h.series,
+        positions: Table {
+            count: h.count,
+            columns,
+        },
     }
 }
 
@@ -136,89 +103,59 @@ pub fn series_words(s: Series) -> [u64; SERIES_WORDS]
 
 // Whether bytes hold an account: so many of them, with words of settings, and 0 where no counter stands.
 pub fn is_account(bytes: &[u8]) -> bool
-    ensures { result ≡ (read_account bytes.now).good }
+    ensures { result ≡ hold_account bytes.now }
 {
-    if bytes.len() == ACCOUNT_BYTES {
-        return both(are_settings(bytes, SETTINGS_AT), spare_counters(bytes));
-    }
-    false
+    bytes.len() == ACCOUNT_BYTES && are_settings(bytes, SETTINGS_AT) && spare_counters(bytes)
 }
 
 // The account that bytes hold. Whether it is sound is for the calls to refuse.
-pub fn read_account(bytes: &[u8]) -> ReadAccount
+pub fn read_account(bytes: &[u8]) -> Option<Account>
     ensures { result ≡ read_account bytes.now }
 {
-    if !is_account(bytes) {
-        return ReadAccount {
-            good: false,
-            account: Account::zero(),
-        };
-    }
-    ReadAccount {
-        good: true,
-        account: account_of(bytes),
+    if is_account(bytes) {
+        Some(account_of(bytes))
+    } else {
+        None
     }
 }
 
-// The same without the mark. All zeros are no sound account, so every call on bytes that hold none answers 11.
+// The same, with zeros where there is none. All zeros are no sound account, so every call on bytes that hold none answers 11.
 pub fn account_in(bytes: &[u8]) -> Account
     ensures { result ≡ account_in bytes.now }
 {
-    let r = read_account(bytes);
-    r.account
+    match read_account(bytes) {
+        Some(a) => a,
+        None => Account::zero(),
+    }
 }
 
 // The account of a ledger and five columns into its bytes. Nothing is written where the length is another.
-pub fn write_ledger<'a>(
-    h: Ledger,
-    symbol: &'a [u64; 64],
-    quantity: &'a [i64; 64],
-    average: &'a [i64; 64],
-    realized: &'a [i64; 64],
-    total: &'a [i64; 64],
-    bytes: &mut [u8],
-)
-    ensures { let c = cols symbol.now quantity.now average.now realized.now total.now in
-        bytes.new ≡ written_account (account_with h c) bytes.old }
+pub fn write_ledger<'a>(h: Ledger, columns: &'a Columns, bytes: &mut [u8])
+    ensures { bytes.new ≡ written_account (account_with h columns.now) bytes.old }
 {
     if bytes.len() != ACCOUNT_BYTES {
         return;
     }
     put_word(bytes, CASH_AT, unsigned(h.cash));
-    let settings = settings_words(h.settings);
-    put_words(bytes, SETTINGS_AT, &settings[..]);
-    let counters = counter_words(h.counters);
-    put_words(bytes, COUNTERS_AT, &counters[..]);
-    let series = series_words(h.series);
-    put_words(bytes, SERIES_AT, &series[..]);
+    put_words(bytes, SETTINGS_AT, &settings_words(h.settings));
+    put_words(bytes, COUNTERS_AT, &counter_words(h.counters));
+    put_words(bytes, SERIES_AT, &series_words(h.series));
     put_word(bytes, COUNT_AT, h.count as u64);
-    put_columns(bytes, symbol, quantity, average, realized, total);
+    put_columns(bytes, columns);
 }
 
 // The account into its bytes. Nothing is written where the length is another.
 pub fn write_account(a: Account, bytes: &mut [u8])
     ensures { bytes.new ≡ written_account a bytes.old }
 {
-    let settings = a.settings;
-    let counters = a.counters;
-    let series = a.series;
-    let t = a.positions;
     let h = Ledger {
         cash: a.cash,
-        settings,
-        counters,
-        series,
-        count: t.count,
+        settings: a.settings,
+        counters: a.counters,
+        series: a.series,
+        count: a.positions.count,
     };
-    write_ledger(
-        h,
-        &t.symbol,
-        &t.quantity,
-        &t.avg_entry_price,
-        &t.realized_pnl,
-        &t.total_cost,
-        bytes,
-    );
+    write_ledger(h, &a.positions.columns, bytes);
 }
 
 // A series into the bytes of an account, whose other words stay. Nothing is written where they hold none.
@@ -228,6 +165,5 @@ pub fn write_series(s: Series, bytes: &mut [u8])
     if !is_account(bytes) {
         return;
     }
-    let words = series_words(s);
-    put_words(bytes, SERIES_AT, &words[..]);
+    put_words(bytes, SERIES_AT, &series_words(s));
 }

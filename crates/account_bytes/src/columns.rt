@@ -6,47 +6,31 @@ ghost use Rattle.table.specs.Rows.{cols, Full};
 ghost use Rattle.account_bytes.specs.Sizes.{symbols_from};
 ghost use Rattle.account_bytes.specs.Account.{column_words, read_columns};
 
-use crate::run::{put_numbers, put_symbols, read_numbers, read_symbols};
+use crate::run::{put_column, read_column};
 use crate::sizes::{ACCOUNT_BYTES, AVERAGES_AT, QUANTITIES_AT, REALIZED_AT, SYMBOLS_AT, TOTALS_AT};
+use table::Columns;
 
 // The columns of the account in its bytes. Nothing is read where the length is another.
-pub fn read_columns(
-    bytes: &[u8],
-    symbol: &mut [u64; 64],
-    quantity: &mut [i64; 64],
-    average: &mut [i64; 64],
-    realized: &mut [i64; 64],
-    total: &mut [i64; 64],
-)
-    ensures { let c = cols symbol.old quantity.old average.old realized.old total.old in
-        let d = cols symbol.new quantity.new average.new realized.new total.new in
-        d ≡ read_columns bytes.now c }
+pub fn read_columns(bytes: &[u8], columns: &mut Columns)
+    ensures { columns.new ≡ read_columns bytes.now columns.old }
 {
     if bytes.len() != ACCOUNT_BYTES {
         return;
     }
-    read_symbols(bytes, SYMBOLS_AT, symbol);
-    read_numbers(bytes, QUANTITIES_AT, quantity);
-    read_numbers(bytes, AVERAGES_AT, average);
-    read_numbers(bytes, REALIZED_AT, realized);
-    read_numbers(bytes, TOTALS_AT, total);
+    read_column(bytes, SYMBOLS_AT, &mut columns.symbol);
+    read_column(bytes, QUANTITIES_AT, &mut columns.quantity);
+    read_column(bytes, AVERAGES_AT, &mut columns.average);
+    read_column(bytes, REALIZED_AT, &mut columns.realized);
+    read_column(bytes, TOTALS_AT, &mut columns.total);
 }
 
 // Columns into an account's words.
-pub(crate) fn put_columns<'a>(
-    bytes: &mut [u8],
-    symbol: &'a [u64; 64],
-    quantity: &'a [i64; 64],
-    average: &'a [i64; 64],
-    realized: &'a [i64; 64],
-    total: &'a [i64; 64],
-)
-    ensures { let c = cols symbol.now quantity.now average.now realized.now total.now in
-        (Full c) × (words_of bytes.new ≡ sets (words_of bytes.old) symbols_from (column_words c)) }
+pub(crate) fn put_columns<'a>(bytes: &mut [u8], columns: &'a Columns)
+    ensures { (Full columns.now) × (words_of bytes.new ≡ sets (words_of bytes.old) symbols_from (column_words columns.now)) }
 {
-    put_symbols(bytes, SYMBOLS_AT, symbol);
-    put_numbers(bytes, QUANTITIES_AT, quantity);
-    put_numbers(bytes, AVERAGES_AT, average);
-    put_numbers(bytes, REALIZED_AT, realized);
-    put_numbers(bytes, TOTALS_AT, total);
+    put_column(bytes, SYMBOLS_AT, &columns.symbol);
+    put_column(bytes, QUANTITIES_AT, &columns.quantity);
+    put_column(bytes, AVERAGES_AT, &columns.average);
+    put_column(bytes, REALIZED_AT, &columns.realized);
+    put_column(bytes, TOTALS_AT, &columns.total);
 }

@@ -1,78 +1,29 @@
-// Numbers at places, and runs of them.
+// Values at places, and runs of them.
 ghost use Rattle.std.specs.Prelude.{◌≡◌, map, ◌+◌, ◌≤◌, ◌/◌, length};
 ghost use Rattle.std.proofs.lemmas.List.Edits.{sets};
-ghost use Rattle.word_bytes.specs.Words.{words_of, word_at, turned};
-ghost use Rattle.word_bytes.specs.Numbers.{signed_of, unsigned_of, float_of};
+ghost use Rattle.word_bytes.specs.Words.{words_of, word_at};
 ghost use Rattle.account_bytes.specs.Sizes.{column_size, account_size};
-ghost use Rattle.account_bytes.specs.Account.{symbols_at, numbers_at};
+ghost use Rattle.account_bytes.specs.Account.{column_at};
 
-use word_bytes::{float, put_symbol, put_word, signed, symbol_at, unsigned, word_at};
+use word_bytes::{Stored, put_word, word_at};
 
-// The signed number at place i.
-pub(crate) fn number_at(bytes: &[u8], i: usize) -> i64
-    ensures { result ≡ signed_of (word_at bytes.now i) }
+// The value at place i.
+pub(crate) fn value_at<T: Stored>(bytes: &[u8], i: usize) -> T
+    ensures { result ≡ T.of_word (word_at bytes.now i) }
 {
-    signed(word_at(bytes, i))
+    T::from_word(word_at(bytes, i))
 }
 
-// The double at place i.
-pub(crate) fn rate_at(bytes: &[u8], i: usize) -> f64
-    ensures { result ≡ float_of (word_at bytes.now i) }
-{
-    float(word_at(bytes, i))
-}
-
-// An array of 64 has 64 places. A lent column is known to have them by its copy, passed here; copy and call compile to nothing.
-fn whole_symbols(column: [u64; 64])
-    ensures { length column ≡ 64 }
-{}
-
-fn whole_numbers(column: [i64; 64])
-    ensures { length column ≡ 64 }
-{}
-
-// A column of 64 symbols, from a place on.
-fn symbols_into(bytes: &[u8], from: usize, column: &mut [u64; 64])
+// A column of 64 values, from a place on. Of bytes that end with it each of its places has a word, and the loop compiles to one with no test of that.
+pub(crate) fn read_column<T: Stored>(bytes: &[u8], from: usize, column: &mut [T; 64])
     requires { from + column_size ≤ length bytes.now / 8 }
-    ensures { column.new ≡ symbols_at from (words_of bytes.now) }
+    ensures { column.new ≡ column_at T.of_word from (words_of bytes.now) }
 {
-    whole_symbols(*column);
-    let mut i = 0;
-    while i < 64 {
-        column[i] = symbol_at(bytes, from + i);
-        i += 1;
+    // Kept: an index, since what `iter_mut` leaves in a column of a type parameter has no name in a proof.
+    let part = &bytes[..8 * (from + 64)];
+    for i in 0..64 {
+        column[i] = value_at(part, from + i);
     }
-}
-
-// The same from the bytes that end with it: they have a word at each of its places, and the loop compiles to one with no test of that.
-pub(crate) fn read_symbols(bytes: &[u8], from: usize, column: &mut [u64; 64])
-    requires { from + column_size ≤ length bytes.now / 8 }
-    ensures { column.new ≡ symbols_at from (words_of bytes.now) }
-{
-    let end = 8 * (from + 64);
-    symbols_into(&bytes[..end], from, column);
-}
-
-// A column of 64 signed numbers, from a place on.
-fn numbers_into(bytes: &[u8], from: usize, column: &mut [i64; 64])
-    requires { from + column_size ≤ length bytes.now / 8 }
-    ensures { column.new ≡ numbers_at from (words_of bytes.now) }
-{
-    whole_numbers(*column);
-    let mut i = 0;
-    while i < 64 {
-        column[i] = number_at(bytes, from + i);
-        i += 1;
-    }
-}
-
-// The same from the bytes that end with it.
-pub(crate) fn read_numbers(bytes: &[u8], from: usize, column: &mut [i64; 64])
-    requires { from + column_size ≤ length bytes.now / 8 }
-    ensures { column.new ≡ numbers_at from (words_of bytes.now) }
-{
-    let end = 8 * (from + 64);
-    numbers_into(&bytes[..end], from, column);
 }
 
 // Words, from a place on.
@@ -80,36 +31,17 @@ pub(crate) fn put_words(bytes: &mut [u8], from: usize, words: &[u64])
     requires { from + length words.now ≤ account_size }
     ensures { words_of bytes.new ≡ sets (words_of bytes.old) from words.now }
 {
-    let mut i = 0;
-    while i < words.len() {
-        put_word(bytes, from + i, words[i]);
-        i += 1;
+    for (i, w) in words.iter().enumerate() {
+        put_word(bytes, from + i, *w);
     }
 }
 
-// A column of symbols, each as its text.
-pub(crate) fn put_symbols(bytes: &mut [u8], from: usize, column: &[u64; 64])
+// A column of values.
+pub(crate) fn put_column<T: Stored>(bytes: &mut [u8], from: usize, column: &[T; 64])
     requires { from + column_size ≤ account_size }
-    ensures { (length column.now ≡ 64) × (words_of bytes.new ≡ sets (words_of bytes.old) from (map turned column.now)) }
+    ensures { words_of bytes.new ≡ sets (words_of bytes.old) from (map T.word_of column.now) }
 {
-    whole_symbols(*column);
-    let mut i = 0;
-    while i < 64 {
-        put_symbol(bytes, from + i, column[i]);
-        i += 1;
-    }
-}
-
-// A column of signed numbers.
-pub(crate) fn put_numbers(bytes: &mut [u8], from: usize, column: &[i64; 64])
-    requires { from + column_size ≤ account_size }
-    ensures { (length column.now ≡ 64) × (words_of bytes.new ≡ sets (words_of bytes.old) from (map unsigned_of column.now)) }
-{
-    whole_numbers(*column);
-    let mut i = 0;
-    while i < 64 {
-        let n = column[i];
-        put_word(bytes, from + i, unsigned(n));
-        i += 1;
+    for (i, x) in column.iter().enumerate() {
+        put_word(bytes, from + i, x.to_word());
     }
 }

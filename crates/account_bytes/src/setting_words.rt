@@ -1,11 +1,10 @@
 // Settings as words.
 ghost use Rattle.std.specs.Prelude.{◌≡◌, ◌+◌, ◌≤◌};
 ghost use Rattle.word_bytes.specs.Words.{words_of};
-ghost use Rattle.table.specs.Keyed.{both};
 ghost use Rattle.account_bytes.specs.Sizes.{settings_from};
 ghost use Rattle.account_bytes.specs.Settings.{flag_word, is_flag, is_number, is_spare, cap_mark, cap_count, cap_of, is_cap, costs_at, settings_words, settings_at, are_rates, are_flags, spare_settings, are_settings, read_settings, written_settings};
 
-use crate::run::{number_at, put_words, rate_at};
+use crate::run::{put_words, value_at};
 use crate::sizes::{
     BAND_AT, CAP_COUNT_AT, CAP_MARK_AT, CASH_FIRST_AT, COMMISSION_AT, COVER_RULE_AT, LONG_ONLY_AT,
     MAX_COMMISSION_AT, MAX_NOTIONAL_AT, MAX_ORDER_AT, MIN_COMMISSION_AT, MIN_ORDER_AT,
@@ -13,20 +12,13 @@ use crate::sizes::{
 };
 use account::{Rules, Settings, TradeCap};
 use cost_model::CostModel;
-use word_bytes::{pattern, unsigned, word_at};
-
-// All zeros where the bytes hold no settings.
-#[derive(Clone, Copy)]
-pub struct ReadSettings {
-    pub good: bool,
-    pub settings: Settings,
-}
+use word_bytes::{float, pattern, unsigned, word_at};
 
 // A flag is 0 or 1.
 pub fn flag_word(on: bool) -> u64
     ensures { result ≡ flag_word on }
 {
-    if on { 1 } else { 0 }
+    u64::from(on)
 }
 
 pub fn is_flag(w: u64) -> bool
@@ -39,7 +31,7 @@ pub fn is_flag(w: u64) -> bool
 fn is_number(w: u64) -> bool
     ensures { result ≡ is_number w }
 {
-    w % 0x8000_0000_0000_0000 <= 0x7ff0_0000_0000_0000
+    !float(w).is_nan()
 }
 
 // A word that stands for nothing is 0.
@@ -47,12 +39,6 @@ pub(crate) fn is_spare(w: u64) -> bool
     ensures { result ≡ is_spare w }
 {
     w == 0
-}
-
-pub(crate) fn both(a: bool, b: bool) -> bool
-    ensures { result ≡ both a b }
-{
-    if a { b } else { false }
 }
 
 // The trade cap is two words: 1 where it is present, and its count, 0 where it is absent.
@@ -96,28 +82,23 @@ fn are_rates(bytes: &[u8], from: usize) -> bool
     requires { from ≤ settings_from }
     ensures { result ≡ are_rates from (words_of bytes.now) }
 {
-    let commission = is_number(word_at(bytes, from + COMMISSION_AT));
-    let slippage = is_number(word_at(bytes, from + SLIPPAGE_AT));
-    let band = is_number(word_at(bytes, from + BAND_AT));
-    both(commission, both(slippage, band))
+    is_number(word_at(bytes, from + COMMISSION_AT))
+        && is_number(word_at(bytes, from + SLIPPAGE_AT))
+        && is_number(word_at(bytes, from + BAND_AT))
 }
 
 fn are_flags(bytes: &[u8], from: usize) -> bool
     requires { from ≤ settings_from }
     ensures { result ≡ are_flags from (words_of bytes.now) }
 {
-    let recording = is_flag(word_at(bytes, from + RECORDING_AT));
-    let cash_first = is_flag(word_at(bytes, from + CASH_FIRST_AT));
-    both(recording, cash_first)
+    is_flag(word_at(bytes, from + RECORDING_AT)) && is_flag(word_at(bytes, from + CASH_FIRST_AT))
 }
 
 fn spare_settings(bytes: &[u8], from: usize) -> bool
     requires { from ≤ settings_from }
     ensures { result ≡ spare_settings from (words_of bytes.now) }
 {
-    let cover_rule = is_spare(word_at(bytes, from + COVER_RULE_AT));
-    let long_only = is_spare(word_at(bytes, from + LONG_ONLY_AT));
-    both(cover_rule, long_only)
+    is_spare(word_at(bytes, from + COVER_RULE_AT)) && is_spare(word_at(bytes, from + LONG_ONLY_AT))
 }
 
 // Whether the words from a place on are words of settings.
@@ -125,13 +106,13 @@ pub(crate) fn are_settings(bytes: &[u8], from: usize) -> bool
     requires { from ≤ settings_from }
     ensures { result ≡ are_settings from (words_of bytes.now) }
 {
-    let rates = are_rates(bytes, from);
-    let mark = word_at(bytes, from + CAP_MARK_AT);
-    let count = word_at(bytes, from + CAP_COUNT_AT);
-    let cap = is_cap(mark, count);
-    let flags = are_flags(bytes, from);
-    let spare = spare_settings(bytes, from);
-    both(rates, both(cap, both(flags, spare)))
+    are_rates(bytes, from)
+        && is_cap(
+            word_at(bytes, from + CAP_MARK_AT),
+            word_at(bytes, from + CAP_COUNT_AT),
+        )
+        && are_flags(bytes, from)
+        && spare_settings(bytes, from)
 }
 
 fn costs_at(bytes: &[u8], from: usize) -> CostModel
@@ -139,10 +120,10 @@ fn costs_at(bytes: &[u8], from: usize) -> CostModel
     ensures { result ≡ costs_at from (words_of bytes.now) }
 {
     CostModel {
-        commission_bps: rate_at(bytes, from + COMMISSION_AT),
-        slippage_bps: rate_at(bytes, from + SLIPPAGE_AT),
-        min_commission: number_at(bytes, from + MIN_COMMISSION_AT),
-        max_commission: number_at(bytes, from + MAX_COMMISSION_AT),
+        commission_bps: value_at(bytes, from + COMMISSION_AT),
+        slippage_bps: value_at(bytes, from + SLIPPAGE_AT),
+        min_commission: value_at(bytes, from + MIN_COMMISSION_AT),
+        max_commission: value_at(bytes, from + MAX_COMMISSION_AT),
     }
 }
 
@@ -151,18 +132,18 @@ pub(crate) fn settings_at(bytes: &[u8], from: usize) -> Settings
     requires { from ≤ settings_from }
     ensures { result ≡ settings_at from (words_of bytes.now) }
 {
-    let cost_model = costs_at(bytes, from);
-    let rules = Rules { cost_model };
     let mark = word_at(bytes, from + CAP_MARK_AT);
     let count = word_at(bytes, from + CAP_COUNT_AT);
     Settings {
-        rules,
-        quantity_step: number_at(bytes, from + STEP_AT),
-        min_order_value: number_at(bytes, from + MIN_ORDER_AT),
-        max_order_value: number_at(bytes, from + MAX_ORDER_AT),
-        no_trade_band_bps: rate_at(bytes, from + BAND_AT),
+        rules: Rules {
+            cost_model: costs_at(bytes, from),
+        },
+        quantity_step: value_at(bytes, from + STEP_AT),
+        min_order_value: value_at(bytes, from + MIN_ORDER_AT),
+        max_order_value: value_at(bytes, from + MAX_ORDER_AT),
+        no_trade_band_bps: value_at(bytes, from + BAND_AT),
         max_trades_per_rebalance: cap_of(mark, count),
-        max_rebalance_notional: number_at(bytes, from + MAX_NOTIONAL_AT),
+        max_rebalance_notional: value_at(bytes, from + MAX_NOTIONAL_AT),
         recording: word_at(bytes, from + RECORDING_AT) == 1,
         cash_first: word_at(bytes, from + CASH_FIRST_AT) == 1,
     }
@@ -194,20 +175,13 @@ pub(crate) fn settings_words(s: Settings) -> [u64; SETTINGS_WORDS]
 }
 
 // The settings that so many bytes hold.
-pub fn read_settings(bytes: &[u8]) -> ReadSettings
+pub fn read_settings(bytes: &[u8]) -> Option<Settings>
     ensures { result ≡ read_settings bytes.now }
 {
-    if bytes.len() == SETTINGS_BYTES {
-        if are_settings(bytes, 0) {
-            return ReadSettings {
-                good: true,
-                settings: settings_at(bytes, 0),
-            };
-        }
-    }
-    ReadSettings {
-        good: false,
-        settings: Settings::zero(),
+    if bytes.len() == SETTINGS_BYTES && are_settings(bytes, 0) {
+        Some(settings_at(bytes, 0))
+    } else {
+        None
     }
 }
 
@@ -218,6 +192,5 @@ pub fn write_settings(s: Settings, bytes: &mut [u8])
     if bytes.len() != SETTINGS_BYTES {
         return;
     }
-    let words = settings_words(s);
-    put_words(bytes, 0, &words[..]);
+    put_words(bytes, 0, &settings_words(s));
 }

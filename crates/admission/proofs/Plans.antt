@@ -53,33 +53,20 @@ plans-next i c h =
     let e : 0 + i ≡ i = omega arith in
     plans-few (i + 1) c (omega arith) ∙ ap (from (order_at c) 0) (add-one i) ∙ rw (plans-few i c (omega arith)) (rw e at (from_last (order_at c) 0 i))
 
--- ---- the first place of which a test holds
-module _ (test : PlannedOrder → Bool) (f : ℕ → PlannedOrder) (i m : ℕ) where
-  pub place_on : i < m → test (f i) ≡ false → (i + 1) + place_of test (from f (i + 1) (m - (i + 1))) ≡ i + place_of test (from f i (m - i))
-  place_on h e = rw (from_on f i m h) (rw e (omega arith))
-
-  pub place_here : i < m → test (f i) ≡ true → i ≡ i + place_of test (from f i (m - i))
-  place_here h e = rw (from_on f i m h) (rw e (omega arith))
-
-  pub place_end : m ≤ i → i ≡ i + place_of test (from f i (m - i))
-  place_end h = rw (from_end f i m h) (omega arith)
-
-pub place_start : (test : PlannedOrder → Bool) (n m : ℕ) (c : PlanCols) → m ≡ shorter n 64 → 0 + place_of test (from (order_at c) 0 (m - 0)) ≡ place_of test (plans n c)
-place_start test n m c h = let e : m - 0 ≡ m = omega arith in rw (plans_start n m c h) (rw e (omega arith))
-
--- where it fails before place i and holds from there on, the first is i
+-- ---- the first place of which a test holds: it fails before place i, and holds there
 module _ (test : PlannedOrder → Bool) (f : ℕ → PlannedOrder) (i : ℕ) (fails : (j : ℕ) → j < i → test (f j) ≡ false) where
-  place_from : (b k : ℕ) → b ≤ i → i ≤ b + k → ((j : ℕ) → i ≤ j → j < b + k → test (f j) ≡ true) → b + place_of test (from f b k) ≡ i
+  place_from : (b k : ℕ) → b ≤ i → i ≤ b + k → (i < b + k → test (f i) ≡ true) → b + place_of test (from f b k) ≡ i
   place_from b zero l m holds = omega arith
-  place_from b (suc k) l m holds = go (ltb b i) refl (λ h. place_from (suc b) k (omega arith) (omega arith) (λ j p q. holds j p (omega arith)))
+  place_from b (suc k) l m holds = go (ltb b i) refl (λ h. place_from (suc b) k (omega arith) (omega arith) (λ q. holds (omega arith)))
     where
       go : (t : Bool) → ltb b i ≡ t → (b < i → suc b + place_of test (from f (suc b) k) ≡ i) → b + place_of test (from f b (suc k)) ≡ i
       go true e later =
           let h : b < i = ltb-true b i e in
           rw (fails b h) (omega (arith, later h))
       go false e later =
-          let h : i ≤ b = ltb-false b i e in
-          rw (holds b h (omega arith)) (omega arith)
+          let z : i ≡ b = omega (arith, ltb-false b i e) in
+          let here : test (f b) ≡ true = rw z at (holds (omega arith)) in
+          rw here (omega arith)
 
-  pub place_is : (m : ℕ) → i ≤ m → ((j : ℕ) → i ≤ j → j < m → test (f j) ≡ true) → i ≡ place_of test (from f 0 m)
-  place_is m h holds = omega (arith, place_from 0 m (omega arith) (omega arith) (λ j p q. holds j p (omega arith)))
+  pub place_is : (m : ℕ) → i ≤ m → (i < m → test (f i) ≡ true) → i ≡ place_of test (from f 0 m)
+  place_is m h holds = omega (arith, place_from 0 m (omega arith) (omega arith) (λ q. holds (omega arith)))

@@ -5,10 +5,9 @@ ghost use Rattle.admission.specs.Inner.Admission.{most_of};
 ghost use Rattle.admission.specs.Inner.Columns.{plan_cols, counted_plan};
 ghost use Rattle.admission.specs.Inner.Offers.{part_offered, offered, cut_plan};
 
-use crate::column::whole_numbers;
 use account::{Settings, TradeCap};
 use position::Shares;
-use table::used;
+use table::{Columns, used};
 
 // What becomes of an order that is offered to the caps.
 #[derive(Clone, Copy)]
@@ -25,8 +24,7 @@ pub(crate) enum Offered {
 pub fn is_capped(s: Settings) -> bool
     ensures { result ≡ capped s }
 {
-    let cap = s.max_trades_per_rebalance;
-    match cap {
+    match s.max_trades_per_rebalance {
         TradeCap::AtMost(_) => true,
         TradeCap::Absent => 0 < s.max_rebalance_notional,
     }
@@ -46,8 +44,7 @@ fn is_reached(cap: TradeCap, n: usize) -> bool
 pub fn most_of(s: Settings) -> usize
     ensures { result ≡ most_of s }
 {
-    let cap = s.max_trades_per_rebalance;
-    match cap {
+    match s.max_trades_per_rebalance {
         TradeCap::AtMost(most) => used(most as usize, 64),
         TradeCap::Absent => 64,
     }
@@ -58,21 +55,18 @@ fn offer_part(s: Settings, left: i64, quantity: Shares, price: i64) -> Offered
     ensures { result ≡ part_offered s left quantity.0 price }
 {
     let cut = sizing::truncate_qty_to_max_value(quantity, price, s.quantity_step, left);
-    if cut.is_zero() {
-        return Offered::Ends;
+    if cut.is_zero() || sizing::notional_of(cut, price) < s.min_order_value {
+        Offered::Ends
+    } else {
+        Offered::Part(cut)
     }
-    if sizing::notional_of(cut, price) < s.min_order_value {
-        return Offered::Ends;
-    }
-    Offered::Part(cut)
 }
 
 // The order after n admitted ones, with left of the notional cap.
 fn offer(s: Settings, n: usize, left: i64, quantity: Shares, price: i64) -> Offered
     ensures { result ≡ offered s n left quantity.0 price }
 {
-    let cap = s.max_trades_per_rebalance;
-    if is_reached(cap, n) {
+    if is_reached(s.max_trades_per_rebalance, n) {
         return Offered::Ends;
     }
     if s.max_rebalance_notional <= 0 {
@@ -94,27 +88,17 @@ pub fn admit(quantity: &mut [i64; 64], price: &[i64; 64], n: usize, s: Settings)
     ensures { (k : List ℕ) (d : List Float) → counted_plan result (plan_cols k quantity.new price.now d)
         ≡ cut_plan s (counted_plan n (plan_cols k quantity.old price.now d)) }
 {
-    whole_numbers(*quantity);
     let m = used(n, 64);
     let mut left = s.max_rebalance_notional;
-    let mut i = 0usize;
-    while i < m {
-        let q = quantity[i];
-        let p = price[i];
-        let o = offer(s, i, left, Shares::from_raw(q), p);
-        match o {
-            Offered::Whole(rest) => {
-                left = rest;
-            }
+    for i in 0..m {
+        match offer(s, i, left, Shares::from_raw(quantity[i]), price[i]) {
+            Offered::Whole(rest) => left = rest,
             Offered::Part(cut) => {
                 quantity[i] = cut.raw();
                 return i + 1;
             }
-            Offered::Ends => {
-                return i;
-            }
+            Offered::Ends => return i,
         }
-        i += 1;
     }
     m
 }

@@ -2,7 +2,6 @@
 #![tactic(auto)]
 
 mod cap;
-mod column;
 mod insert;
 mod place;
 mod run;

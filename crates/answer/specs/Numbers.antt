@@ -1,5 +1,5 @@
 -- Document 01, 'Answer numbers', and the refusals of document 02's requests: the number of each answer, given exactly when the table or the request says, and how one check follows another.
-use Rattle.std.specs.Prelude.{ℕ, Bool, eqb}
+use Rattle.std.specs.Prelude.{ℕ, Bool, eqb, Result, Ok, Err}
 use Rattle.answer.specs.declared.Answer.{Answer}
 use Rattle.answer.specs.declared.Answer.TheVariants.{Done, BadSetting, BadSymbol, Twice, BadPrice, BadWeight, TooLong, TooMany, NoRecordRoom, NotHeld, BufferFull, Unsound, BadSeries, BadGroup, NoFirstSum, OutOfRange, EndsEarly, BadNumber, LeftOver, NoFileRoom}
 use Rattle.answer.specs.Choice.{pick}
@@ -57,3 +57,7 @@ unless ok refusal later = pick ok later refusal
 -- the later answer where this one is done
 abbrev pub or_later : Answer → Answer → Answer
 or_later answer later = pick (is_done answer) later answer
+
+-- an answer that is done as nothing wrong, and any other as the error that a check gives
+abbrev pub checked : Answer → Result Unit Answer
+checked answer = pick (is_done answer) (Ok tt) (Err answer)

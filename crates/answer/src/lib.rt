@@ -6,14 +6,15 @@ ghost use Rattle.answer.specs.Numbers.{number_of, is_done};
 ghost use Rattle.answer.specs.Places.{above, entry_place, place_of, word_of};
 
 // An entry of a call's lists: the list, and the index in it.
-#[derive(Clone, Copy)]
+#[derive(Clone, Copy, PartialEq, Eq)]
 pub enum Entry {
     Target(usize),
     Price(usize),
 }
 
 // Those of an entry tell it, and those of a file's bytes tell the byte.
-#[derive(Clone, Copy)]
+// Kept: Done is one of them, and no Ok, as document 01's table has "0 done" among the answer numbers.
+#[derive(Clone, Copy, PartialEq, Eq)]
 pub enum Answer {
     Done,
     BadSetting,
@@ -38,6 +39,7 @@ pub enum Answer {
 }
 
 // The number that the documents give an answer.
+// Kept: a match, as these numbers are the table's and what C is told.
 pub fn number(a: Answer) -> u64
     ensures { result ≡ number_of a }
 {
@@ -68,7 +70,7 @@ pub fn number(a: Answer) -> u64
 pub fn is_done(a: Answer) -> bool
     ensures { result ≡ is_done a }
 {
-    number(a) == 0
+    a == Answer::Done
 }
 
 // The place of an entry, above the lowest byte of a word.
@@ -86,26 +88,9 @@ fn place_above(a: Answer) -> u64
     ensures { result ≡ above (place_of a) }
 {
     match a {
-        Answer::Done => 0,
-        Answer::BadSetting => 0,
-        Answer::BadSymbol(e) => entry_above(e),
-        Answer::Twice(e) => entry_above(e),
-        Answer::BadPrice(e) => entry_above(e),
-        Answer::BadWeight => 0,
-        Answer::TooLong => 0,
-        Answer::TooMany => 0,
-        Answer::NoRecordRoom => 0,
-        Answer::NotHeld => 0,
-        Answer::BufferFull => 0,
-        Answer::Unsound => 0,
-        Answer::BadSeries => 0,
-        Answer::BadGroup => 0,
-        Answer::NoFirstSum => 0,
-        Answer::OutOfRange => 0,
-        Answer::EndsEarly(at) => (at as u64) << 8,
-        Answer::BadNumber(at) => (at as u64) << 8,
-        Answer::LeftOver(at) => (at as u64) << 8,
-        Answer::NoFileRoom => 0,
+        Answer::BadSymbol(e) | Answer::Twice(e) | Answer::BadPrice(e) => entry_above(e),
+        Answer::EndsEarly(at) | Answer::BadNumber(at) | Answer::LeftOver(at) => (at as u64) << 8,
+        _ => 0,
     }
 }
 

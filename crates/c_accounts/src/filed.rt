@@ -1,37 +1,28 @@
-// What is answered of an account in lent bytes, and the account back into them.
+// The account in lent bytes changed, and back into them.
 ghost use Rattle.std.specs.Prelude.{◌≡◌};
-ghost use Rattle.answer.specs.Places.{word_of};
-ghost use Rattle.account.specs.Inner.Answers.{unless_unsound};
-ghost use Rattle.c_accounts.specs.Entries.{account_told};
+ghost use Rattle.account.specs.declared.change.Changed.{Changed};
+ghost use Rattle.c_accounts.specs.Entries.{account_in, account_told};
 ghost use Rattle.c_accounts.specs.Inner.Setters.{setter_told};
 
 use account::{Account, Changed};
-use account_bytes::write_account;
-use answer::Answer;
+use account_bytes::{account_in, write_account};
+use answer::{Answer, is_done};
 
-// The word of an answer, which 11 goes before.
-pub(crate) fn unless_unsound(a: Account, answer: Answer) -> u64
-    ensures { result ≡ word_of (unless_unsound a answer) }
-{
-    if a.is_sound() {
-        return answer::word(answer);
-    }
-    answer::word(Answer::Unsound)
-}
-
+// Kept: a setter's answer beside its account, since "Each refusal returns its number with zero figures, the account as given".
 // The account after a call that was done, unless what it was given is no mark or flag; else the bytes stay.
-pub(crate) fn file(given: bool, c: Changed, bytes: &mut [u8]) -> u64
-    ensures { account_told result bytes.new ≡ setter_told given c bytes.old }
+pub(crate) fn change<F: FnOnce(Account) -> Changed>(given: bool, bytes: &mut [u8], call: F) -> u64
+    requires { F.IsAlwaysCallable call }
+    ensures { (c : Changed)
+        × F.post call (account_in bytes.old) c
+        × (account_told result bytes.new ≡ setter_told given c bytes.old) }
 {
-    let answer = c.answer;
-    let number = answer::word(answer);
-    if number != 0 {
-        return number;
+    let c = call(account_in(bytes));
+    if !is_done(c.answer) {
+        return answer::word(c.answer);
     }
     if !given {
         return answer::word(Answer::BadSetting);
     }
-    let a = c.account;
-    write_account(a, bytes);
-    number
+    write_account(c.account, bytes);
+    answer::word(Answer::Done)
 }

@@ -6,7 +6,7 @@ use account::{Account, sound_scalars};
 use account_bytes::{ACCOUNT_BYTES, read_settings, write_account};
 use answer::Answer;
 
-// All settings are given at once, as their bytes; bytes that hold none give zeros, which are no good settings. A refusal leaves account and equities as
+// All settings are given at once, as their bytes; bytes that hold none are refused as bad settings. A refusal leaves account and equities as
 // found.
 #[unsafe(no_mangle)]
 pub extern "C" fn tc_open(
@@ -20,16 +20,16 @@ pub extern "C" fn tc_open(
     if account.len() != ACCOUNT_BYTES {
         return answer::word(Answer::Unsound);
     }
-    let r = read_settings(settings);
-    let s = r.settings;
+    let Some(s) = read_settings(settings) else {
+        return answer::word(Answer::BadSetting);
+    };
     if !sound_scalars(cash, s) {
         return answer::word(Answer::BadSetting);
     }
-    if equities.len() == 0 {
+    if equities.is_empty() {
         return answer::word(Answer::BufferFull);
     }
     equities[0] = cash;
-    let a = Account::opened(cash, s);
-    write_account(a, account);
+    write_account(Account::opened(cash, s), account);
     answer::word(Answer::Done)
 }

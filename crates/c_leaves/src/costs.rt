@@ -1,5 +1,6 @@
 // Commission and slippage: the two rates and the floor, one number each, and the ceiling where a leaf asks for one. Total as in the Rust,
 // whatever the rates. A leaf without a ceiling has none: 0.
+// Kept: a leaf with a ceiling beside one without, here and in sizes.rt, as C calls both names.
 ghost use Rattle.std.specs.Prelude.{◌≡◌};
 ghost use Rattle.position.specs.Shares.{is_positive};
 ghost use Rattle.cost_model.specs.Costs.{model, with_ceiling, cost, effective, good_costs};

@@ -1,10 +1,12 @@
 // A position as numbers: its symbol, and quantity, average, realized profit and total cost.
+// Kept: one parameter a number, as C gives them.
 ghost use Rattle.std.specs.Prelude.{◌≡◌, length};
 ghost use Rattle.position.specs.Rows.{row, numbers_of};
 ghost use Rattle.position.specs.Symbols.{good_symbol};
 ghost use Rattle.position.specs.Fills.{sound, market_value, unrealized_pnl};
 ghost use Rattle.c_leaves.specs.Lent.{after_fill, answer_to_fill};
 
+use answer::Answer;
 use position::{Position, Shares, Symbol};
 
 // "Symbols: 1 to 8 bytes, each 33 to 126, padded with zeros": the first byte highest.
@@ -76,15 +78,12 @@ fn put(numbers: &mut [i64], p: Position)
     requires { length numbers.old ≡ 4 }
     ensures { numbers.new ≡ numbers_of p }
 {
-    let quantity = p.quantity;
-    let held = quantity.raw();
-    let average = p.avg_entry_price;
-    let realized = p.realized_pnl;
-    let total = p.total_cost;
-    numbers[0] = held;
-    numbers[1] = average;
-    numbers[2] = realized;
-    numbers[3] = total;
+    numbers.copy_from_slice(&[
+        p.quantity.raw(),
+        p.avg_entry_price,
+        p.realized_pnl,
+        p.total_cost,
+    ]);
 }
 
 // "`apply_fill` is as in 001; called by itself it answers 11 for an unsound position and 4 only below 0". The lent numbers are quantity, average,
@@ -94,12 +93,10 @@ pub extern "C" fn tc_apply_fill(symbol: u64, numbers: &mut [i64], quantity: i64,
     ensures { (result ≡ answer_to_fill symbol numbers.old quantity price) × (numbers.new ≡ after_fill symbol numbers.old quantity price) }
 {
     if numbers.len() != 4 {
-        return answer::word(answer::Answer::Unsound);
+        return answer::word(Answer::Unsound);
     }
     let position = position_of(symbol, numbers[0], numbers[1], numbers[2], numbers[3]);
     let filled = position.apply_fill(Shares::from_raw(quantity), price);
-    let after = filled.position;
-    put(numbers, after);
-    let given = filled.answer;
-    answer::word(given)
+    put(numbers, filled.position);
+    answer::word(filled.answer)
 }

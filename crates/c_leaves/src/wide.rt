@@ -1,4 +1,5 @@
 // "Products and quotients take two 64-bit words": here a word at a time, and the values that are made of them.
+// Kept: a function for each word, as a C function answers one number.
 ghost use Rattle.std.specs.Prelude.{◌≡◌, ◌*◌, ◌/◌};
 ghost use Rattle.sums.specs.Sums.{value, price_at, snap};
 ghost use Rattle.c_leaves.specs.Halves.{upper, lower, joined};
@@ -9,16 +10,14 @@ use sums::Wide;
 pub extern "C" fn tc_mul_high(a: u64, b: u64) -> u64
     ensures { result ≡ upper (a * b) }
 {
-    let product = sums::mul_wide(a, b);
-    product.hi
+    sums::mul_wide(a, b).hi
 }
 
 #[unsafe(no_mangle)]
 pub extern "C" fn tc_mul_low(a: u64, b: u64) -> u64
     ensures { result ≡ lower (a * b) }
 {
-    let product = sums::mul_wide(a, b);
-    product.lo
+    sums::mul_wide(a, b).lo
 }
 
 // A divisor of 0 gives 0, here and below.
@@ -26,32 +25,28 @@ pub extern "C" fn tc_mul_low(a: u64, b: u64) -> u64
 pub extern "C" fn tc_div_high(high: u64, low: u64, divisor: u64) -> u64
     ensures { result ≡ upper (joined high low / divisor) }
 {
-    let quotient = sums::div_wide(Wide { hi: high, lo: low }, divisor);
-    quotient.hi
+    sums::div_wide(Wide { hi: high, lo: low }, divisor).hi
 }
 
 #[unsafe(no_mangle)]
 pub extern "C" fn tc_div_low(high: u64, low: u64, divisor: u64) -> u64
     ensures { result ≡ lower (joined high low / divisor) }
 {
-    let quotient = sums::div_wide(Wide { hi: high, lo: low }, divisor);
-    quotient.lo
+    sums::div_wide(Wide { hi: high, lo: low }, divisor).lo
 }
 
 #[unsafe(no_mangle)]
 pub extern "C" fn tc_snap_high(high: u64, low: u64, step: u64) -> u64
     ensures { result ≡ upper (snap (joined high low) step) }
 {
-    let snapped = sums::snap_wide(Wide { hi: high, lo: low }, step);
-    snapped.hi
+    sums::snap_wide(Wide { hi: high, lo: low }, step).hi
 }
 
 #[unsafe(no_mangle)]
 pub extern "C" fn tc_snap_low(high: u64, low: u64, step: u64) -> u64
     ensures { result ≡ lower (snap (joined high low) step) }
 {
-    let snapped = sums::snap_wide(Wide { hi: high, lo: low }, step);
-    snapped.lo
+    sums::snap_wide(Wide { hi: high, lo: low }, step).lo
 }
 
 #[unsafe(no_mangle)]

@@ -1,4 +1,5 @@
 -- What the proofs of this crate share.
+pub mod Given
 pub mod Asking
 pub mod Telling
 pub mod FirstPlaces

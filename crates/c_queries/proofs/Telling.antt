@@ -18,7 +18,7 @@ use Rattle.list_bytes.specs.Inner.Records.{put_all}
 use Rattle.list_bytes.proofs.Puts.{put-all_fronts}
 use Rattle.portfolio.specs.Answers.{is_done, query_answer}
 use Rattle.portfolio.specs.Queries.{told_equity}
-use Rattle.account.specs.declared.query.Cents.{Cents}
+use Rattle.account.specs.declared.query.Told.{Told}
 use Rattle.queries.specs.declared.answered.Snapshot.{Snapshot}
 use Rattle.queries.specs.declared.answered.Unpriced.{Unpriced}
 use Rattle.queries.specs.declared.answered.Weights.{Weights}
@@ -56,17 +56,17 @@ few-weighed l e =
     let ks : List ℕ = map (λ (w : Weight). w.symbol) l in
     omega (arith, e, length-append ks (replicate (64 - length ks) 0), length-map l (λ (w : Weight). w.symbol))
 
-few_by : (t : Bool) (x y : List Weight) (v w : Answer) → let r = pick t (answered_weights v (weighed x)) (answered_weights w (weighed y)) in length r.symbol ≡ 64 → r.count ≤ 64
+few_by : (t : Bool) (x y : List Weight) (v w : Answer) → let r = pick t (answered_weights v (weighed x)) (answered_weights w (weighed y)) in length r.weights.symbol ≡ 64 → r.weights.count ≤ 64
 few_by true x y v w e = few-weighed x e
 few_by false x y v w e = few-weighed y e
 
 module _ (a : Account) (ss : List ℕ) (vs : List ℤ) where
-  few-told : length (told_weights a ss vs).symbol ≡ 64 → (told_weights a ss vs).count ≤ 64
+  few-told : length (told_weights a ss vs).weights.symbol ≡ 64 → (told_weights a ss vs).weights.count ≤ 64
   unfolding told_weights
   few-told e = few_by (is_done (query_answer a ss vs)) (weights_now (price_of ss vs) a) [] Done (query_answer a ss vs) e
 
-  pub few-weights : {r : Weights} → r ≡ told_weights a ss vs → length r.symbol ≡ 64 → r.count ≤ 64
-  few-weights e n = omega (arith, ap (λ (k : Weights). k.count) e, few-told (sym (ap (λ (k : Weights). length k.symbol) e) ∙ n))
+  pub few-weights : {r : Weights} → r ≡ told_weights a ss vs → length r.weights.symbol ≡ 64 → r.weights.count ≤ 64
+  few-weights e n = omega (arith, ap (λ (k : Weights). k.weights.count) e, few-told (sym (ap (λ (k : Weights). length k.weights.symbol) e) ∙ n))
 
   pub few_in_snapshot : {r : Snapshot} → r ≡ told_snapshot a ss vs → length r.weights.symbol ≡ 64 → r.weights.count ≤ 64
   few_in_snapshot {r} e n = few-weights {r = answered_weights r.answer r.weights} (ap (λ (k : Snapshot). answered_weights k.answer k.weights) e ∙ weights-told a ss vs) n
@@ -89,7 +89,7 @@ module _ (out : List ℕ) (a : Account) (ss : List ℕ) (vs : List ℤ) (h : sou
   unfolding snapshot_told told_snapshot no_snapshot query_answer
   snapshot_unsound weights = simp h
 
-abbrev pub equity_query : List ℕ → Query Cents QueryTold
+abbrev pub equity_query : List ℕ → Query (Told ℤ) QueryTold
 equity_query out = record { gives = told_equity; tells = λ c. equity_told c out; leaves = λ n. tell_query n out; unsound = equity_unsound out }
 
 abbrev pub unpriced_query : List ℕ → Query Unpriced QueryTold

@@ -1,9 +1,9 @@
 -- The queries with prices, over bytes: what they are given is read as what the bytes stand for.
-use Rattle.std.specs.Prelude.{ℕ, ◌*◌, List, [], ◌∷◌, eqb, length}
+use Rattle.std.specs.Prelude.{ℕ, ◌*◌, List, [], ◌∷◌, eqb, length, ℤ}
 use Rattle.table.specs.Keyed.{pick, both}
 use Rattle.word_bytes.specs.Words.{bytes_of, turned}
 use Rattle.word_bytes.specs.Numbers.{unsigned_of}
-use Rattle.account.specs.declared.query.Cents.{Cents}
+use Rattle.account.specs.declared.query.Told.{Told}
 use Rattle.account_bytes.specs.Settings.{flag_word}
 use Rattle.list_bytes.specs.Lists.{symbols_in, prices_in}
 use Rattle.list_bytes.specs.Weights.{written_weights}
@@ -17,8 +17,8 @@ use Rattle.c_queries.specs.Asked.{account_in, asked_at_prices}
 use Rattle.c_queries.specs.Told.{QueryTold, tell_query, refusing, ToldBoth, tell_both, refusing_both}
 
 -- ---- what is left of each answer: its words where it is done, what was found where it is a refusal
-unfoldable pub equity_told : Cents → List ℕ → QueryTold
-equity_told c out = pick (is_done c.answer) (tell_query 0 (bytes_of (unsigned_of c.cents ∷ []))) (refusing out c.answer)
+unfoldable pub equity_told : Told ℤ → List ℕ → QueryTold
+equity_told c out = pick (is_done c.answer) (tell_query 0 (bytes_of (unsigned_of c.value ∷ []))) (refusing out c.answer)
 
 -- the present mark, and the symbol's text, 0 where there is none
 unfoldable pub unpriced_told : Unpriced → List ℕ → QueryTold
@@ -26,7 +26,7 @@ unpriced_told u out = pick (is_done u.answer) (tell_query 0 (bytes_of (flag_word
 
 -- the weights in the first places, which the answer counts, and the rest as found
 unfoldable pub weights_told : Weights → List ℕ → QueryTold
-weights_told w out = pick (is_done w.answer) (tell_query (256 * w.count) (written_weights w.count w.symbol w.weight out)) (refusing out w.answer)
+weights_told w out = pick (is_done w.answer) (tell_query (256 * w.weights.count) (written_weights w.weights.count w.weights.symbol w.weights.weight out)) (refusing out w.answer)
 
 abbrev pub snapshot_words : Snapshot → List ℕ
 snapshot_words s =

@@ -2,31 +2,32 @@
 ghost use Rattle.std.specs.Prelude.{◌≡◌};
 ghost use Rattle.answer.specs.declared.Answer.TheVariants.{TooLong};
 ghost use Rattle.account.specs.Inner.Answers.{unless_unsound};
-ghost use Rattle.c_queries.specs.Inner.Asked.{early};
+ghost use Rattle.c_queries.specs.Inner.Asked.{asked_prices};
 
 use account::Account;
 use answer::Answer;
+use list_bytes::{Prices, read_prices};
 
 // 6, unless the account is not sound.
 fn too_long(a: Account) -> Answer
     ensures { result ≡ unless_unsound a TooLong }
 {
-    if a.is_sound() {
-        Answer::TooLong
-    } else {
-        Answer::Unsound
+    match a.check_sound() {
+        Ok(()) => Answer::TooLong,
+        Err(answer) => answer,
     }
 }
 
-// Done where the query is to be made. It tells an unsound account itself, so that soundness is looked at once.
-pub(crate) fn early(a: Account, whole: bool, fits: bool) -> Answer
-    ensures { result ≡ early a whole fits }
+// The prices of a query that is to be made. The query tells an unsound account itself, so that soundness is looked at once.
+#[tactic(auto, unfolding(crate::specs::Inner::Asked::asked_prices))]
+pub(crate) fn asked(a: Account, prices: &[u8], fits: bool) -> Result<Prices, Answer>
+    ensures { result ≡ asked_prices a prices.now fits }
 {
-    if !whole {
-        return too_long(a);
-    }
     if !fits {
-        return too_long(a);
+        return Err(too_long(a));
     }
-    Answer::Done
+    match read_prices(prices) {
+        None => Err(too_long(a)),
+        Some(p) => Ok(p),
+    }
 }

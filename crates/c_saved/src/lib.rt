@@ -9,6 +9,7 @@ use answer::{Answer, is_done};
 use loading::load;
 use saving::save;
 
+// Kept here and in `tc_load`: an answer beside its figures, since "Each refusal returns its number with zero figures, the account as given".
 // Bytes that hold no account give zeros, which are no sound account. The file's length stands above the answer's byte.
 #[unsafe(no_mangle)]
 pub extern "C" fn tc_save(account: &[u8], file: &mut [u8]) -> u64
@@ -16,9 +17,8 @@ pub extern "C" fn tc_save(account: &[u8], file: &mut [u8]) -> u64
 {
     let a = account_in(account);
     let s = save(a, file);
-    let answer = s.answer;
-    if !is_done(answer) {
-        return answer::number(answer);
+    if !is_done(s.answer) {
+        return answer::number(s.answer);
     }
     256 * (s.length as u64)
 }
@@ -32,11 +32,9 @@ pub extern "C" fn tc_load(file: &[u8], account: &mut [u8]) -> u64
         return answer::number(Answer::Unsound);
     }
     let c = load(file);
-    let answer = c.answer;
-    if !is_done(answer) {
-        return answer::word(answer);
+    if !is_done(c.answer) {
+        return answer::word(c.answer);
     }
-    let a = c.account;
-    write_account(a, account);
-    answer::word(answer)
+    write_account(c.account, account);
+    answer::word(c.answer)
 }

@@ -1,12 +1,12 @@
 -- What a call answers depends on the lengths of the slices that it is lent, and not on what stands in them.
-use Prim.Native.Nat.{ℕ, ◌≤◌}
+use Prim.Native.Nat.{ℕ}
 use mathlib.Core.Path.{◌≡◌, refl, sym, ap, ◌∙◌}
 use mathlib.Core.Bool.{Bool, true, false}
 use mathlib.Core.List.{List}
 use lib.IntN.{ℤ, pos}
 use lib.Ieee.{Float, binary64, of_bits}
-use native.Mathlib.Omega.{arith}
-use lib.ListN.{length, take, replicate, length-take}
+use lib.ListN.{length, take, replicate}
+use Rattle.std.specs.Prelude.{Some}
 use Rattle.answer.specs.declared.Answer.{Answer}
 use Rattle.answer.specs.declared.Answer.TheVariants.{Done}
 use Rattle.answer.specs.Numbers.{is_done}
@@ -18,14 +18,10 @@ use Rattle.account.specs.declared.change.Changed.{Changed}
 use Rattle.account.specs.Calls.{answered}
 use Rattle.account.specs.Account.{held_in, with_series}
 use Rattle.wanted.specs.Equity.{equity_of}
-use Rattle.account_bytes.specs.declared.account_words.ReadAccount.{ReadAccount}
-use Rattle.account_bytes.specs.Account.{read_account}
 use Rattle.list_bytes.specs.declared.price.Prices.{Prices}
-use Rattle.list_bytes.specs.declared.target.Targets.{Targets}
-use Rattle.list_bytes.specs.Entries.{whole_list}
 use Rattle.list_bytes.specs.Lists.{symbols_in, prices_in}
-use Rattle.list_bytes.specs.Inner.Lists.{targets_of, prices_of}
-use Rattle.list_bytes.proofs.Lists.{target_symbols-long, target_weights-long, price-symbols, price-prices, price-symbols-long, price-prices-long}
+use Rattle.list_bytes.specs.Inner.Lists.{prices_of}
+use Rattle.list_bytes.proofs.Lists.{price-symbols, price-prices}
 use Rattle.portfolio.specs.declared.trade.Traded.{Traded}
 use Rattle.portfolio.specs.Answers.{record_places, return_answer}
 use Rattle.portfolio.specs.Rebalance.{rebalanced}
@@ -69,34 +65,7 @@ rebalance-made a ts ws ps vs t xs' xs ys' ys m n e =
     ∙ ap (λ k. of_outcome (rebalanced a ts ws ps vs 0 Rebalance (record_places k (length ys)))) m
     ∙ ap (λ k. of_outcome (rebalanced a ts ws ps vs 0 Rebalance (record_places 256 k))) n
 
--- ---- of what was read from a list's bytes: whether the list is whole, and how much is lent of each column
-module _ (l : List ℕ) {t : Targets} (e : t ≡ targets_of l) where
-  pub targets-whole : t.whole ≡ whole_list 64 l
-  unfolding targets_of
-  targets-whole = ap (λ (x : Targets). x.whole) e
-
-  pub targets-lent : length (take t.count t.symbol) ≡ t.count
-  targets-lent = rw e (target_symbols-long l)
-
-  pub weights-lent : length (take t.count t.weight) ≡ t.count
-  weights-lent = rw e (target_weights-long l)
-
-module _ (l : List ℕ) {p : Prices} (e : p ≡ prices_of l) where
-  pub prices-whole : p.whole ≡ whole_list 128 l
-  unfolding prices_of
-  prices-whole = ap (λ (x : Prices). x.whole) e
-
-  pub symbols-lent : length (take p.count p.symbol) ≡ p.count
-  symbols-lent = rw e (price-symbols-long l)
-
-  pub prices-lent : length (take p.count p.price) ≡ p.count
-  prices-lent = rw e (price-prices-long l)
-
--- a call on the account that was read, at the prices of a list that is whole
-pub called_at : {X : Type 0} (call : Account → List ℕ → List ℤ → X) (b l : List ℕ) {r : ReadAccount} {p : Prices} {x : X} → r ≡ read_account b → p ≡ prices_of l → whole_list 128 l ≡ true
-    → x ≡ call r.account (take p.count p.symbol) (take p.count p.price) → x ≡ call (account_in b) (symbols_in l) (prices_in l)
-called_at call b l er ep w e = simp (er, ep, price-symbols l w, price-prices l w) at e
-
--- ---- a front of a column that is as long as the count lies within it
-pub within : {A : Type 0} (n : ℕ) (l : List A) → length (take n l) ≡ n → n ≤ length l
-within n l e = omega (arith, length-take n l)
+-- a call on the account that was read, at the prices of a list that was read
+pub called_at : {X : Type 0} (call : Account → List ℕ → List ℤ → X) (b l : List ℕ) {a : Account} {p : Prices} {x : X} → a ≡ account_in b → prices_of l ≡ Some p
+    → x ≡ call a (take p.count p.symbol) (take p.count p.price) → x ≡ call (account_in b) (symbols_in l) (prices_in l)
+called_at call b l ea ep e = simp (ea, price-symbols l ep, price-prices l ep) at e

@@ -7,24 +7,25 @@ ghost use Rattle.c_timed.specs.Made.{leave, left};
 
 use account::{Account, Changed};
 use account_bytes::write_account;
-use answer::is_done;
+use answer::{Answer, is_done};
 
 // 6 for a list that is not whole or a place of another length, unless the account is not sound.
 pub(crate) fn too_long(a: Account) -> u64
     ensures { result ≡ word_of (unless_unsound a TooLong) }
 {
-    if a.is_sound() { 6 } else { 11 }
+    match a.check_sound() {
+        Ok(()) => answer::word(Answer::TooLong),
+        Err(answer) => answer::word(answer),
+    }
 }
 
 // The account that the last one left.
 pub(crate) fn leave(c: Changed, after: &mut [u8]) -> u64
     ensures { leave result after.new ≡ left c after.old }
 {
-    let answer = c.answer;
-    if !is_done(answer) {
-        return answer::word(answer);
+    if !is_done(c.answer) {
+        return answer::word(c.answer);
     }
-    let a = c.account;
-    write_account(a, after);
-    0
+    write_account(c.account, after);
+    answer::word(Answer::Done)
 }

@@ -5,7 +5,7 @@ ghost use Rattle.c_timed.specs.Calls.{rebalance_call, rebalances_in};
 
 use crate::made::{leave, too_long};
 use account::{Account, Changed};
-use account_bytes::read_account;
+use account_bytes::account_in;
 use fills::ExecutionKind;
 use list_bytes::{read_prices, read_targets};
 use portfolio::rebalance_simple;
@@ -23,9 +23,19 @@ fn rebalances(
 {
     let mut words = [0u64; 256];
     let mut ints = [0i64; 512];
-    let mut more = times;
-    loop {
-        let t = rebalance_simple(
+    let mut last = rebalance_simple(
+        a,
+        targets,
+        weights,
+        symbols,
+        prices,
+        0,
+        ExecutionKind::Rebalance,
+        &mut words[..],
+        &mut ints[..],
+    );
+    for _ in 1..times {
+        last = rebalance_simple(
             a,
             targets,
             weights,
@@ -36,12 +46,10 @@ fn rebalances(
             &mut words[..],
             &mut ints[..],
         );
-        if more <= 1 {
-            let answer = t.answer;
-            let account = t.account;
-            return Changed { answer, account };
-        }
-        more -= 1;
+    }
+    Changed {
+        answer: last.answer,
+        account: last.account,
     }
 }
 
@@ -56,25 +64,19 @@ pub extern "C" fn direct_rebalance(
 ) -> u64
     ensures { leave result after.new ≡ rebalances_in account.now targets.now prices.now after.old }
 {
-    let r = read_account(account);
-    let t = read_targets(targets);
-    let p = read_prices(prices);
-    let a = r.account;
-    if !t.whole {
+    let a = account_in(account);
+    let Some(t) = read_targets(targets) else {
         return too_long(a);
-    }
-    if !p.whole {
+    };
+    let Some(p) = read_prices(prices) else {
         return too_long(a);
-    }
+    };
     if after.len() != account.len() {
         return too_long(a);
     }
-    let n = t.count;
-    let m = p.count;
-    let ts = t.symbol;
-    let ws = t.weight;
-    let ss = p.symbol;
-    let ps = p.price;
-    let c = rebalances(a, &ts[..n], &ws[..n], &ss[..m], &ps[..m], times);
-    leave(c, after)
+    let wanted = &t.symbol[..t.count];
+    let weights = &t.weight[..t.count];
+    let priced = &p.symbol[..p.count];
+    let cents = &p.price[..p.count];
+    leave(rebalances(a, wanted, weights, priced, cents, times), after)
 }

@@ -5,7 +5,7 @@ ghost use Rattle.c_timed.specs.Calls.{return_call, returns_in};
 
 use crate::made::{leave, too_long};
 use account::{Account, Changed};
-use account_bytes::read_account;
+use account_bytes::account_in;
 use list_bytes::read_prices;
 use portfolio::record_return;
 
@@ -15,14 +15,11 @@ fn returns(a: Account, symbols: &[u64], prices: &[i64], times: u64) -> Changed
 {
     let mut equities = [0i64; 64];
     let mut changes = [0.0f64; 64];
-    let mut more = times;
-    loop {
-        let c = record_return(a, symbols, prices, &mut equities[..], &mut changes[..]);
-        if more <= 1 {
-            return c;
-        }
-        more -= 1;
+    let mut last = record_return(a, symbols, prices, &mut equities[..], &mut changes[..]);
+    for _ in 1..times {
+        last = record_return(a, symbols, prices, &mut equities[..], &mut changes[..]);
     }
+    last
 }
 
 // The last one's answer, as a number. Account and prices are read once.
@@ -30,18 +27,14 @@ fn returns(a: Account, symbols: &[u64], prices: &[i64], times: u64) -> Changed
 pub extern "C" fn direct_return(account: &[u8], prices: &[u8], times: u64, after: &mut [u8]) -> u64
     ensures { leave result after.new ≡ returns_in account.now prices.now after.old }
 {
-    let r = read_account(account);
-    let p = read_prices(prices);
-    let a = r.account;
-    if !p.whole {
+    let a = account_in(account);
+    let Some(p) = read_prices(prices) else {
         return too_long(a);
-    }
+    };
     if after.len() != account.len() {
         return too_long(a);
     }
-    let m = p.count;
-    let ss = p.symbol;
-    let ps = p.price;
-    let c = returns(a, &ss[..m], &ps[..m], times);
-    leave(c, after)
+    let priced = &p.symbol[..p.count];
+    let cents = &p.price[..p.count];
+    leave(returns(a, priced, cents, times), after)
 }

@@ -6,8 +6,8 @@ ghost use Rattle.c_timed.specs.Calls.{snapshots_in};
 
 use crate::made::too_long;
 use account::Account;
-use account_bytes::read_account;
-use answer::is_done;
+use account_bytes::account_in;
+use answer::{Answer, is_done};
 use list_bytes::{read_prices, write_figures, write_weights};
 use queries::{Snapshot, snapshot};
 
@@ -15,22 +15,18 @@ use queries::{Snapshot, snapshot};
 fn snapshots(a: Account, symbols: &[u64], prices: &[i64], times: u64) -> Snapshot
     ensures { result ≡ told_snapshot a symbols.now prices.now }
 {
-    let mut more = times;
-    loop {
-        let s = snapshot(a, symbols, prices);
-        if more <= 1 {
-            return s;
-        }
-        more -= 1;
+    let mut last = snapshot(a, symbols, prices);
+    for _ in 1..times {
+        last = snapshot(a, symbols, prices);
     }
+    last
 }
 
 fn leave_both(s: Snapshot, figures: &mut [u8], weights: &mut [u8]) -> u64
     ensures { leave_both result figures.new weights.new ≡ left_both s figures.old weights.old }
 {
-    let answer = s.answer;
-    if !is_done(answer) {
-        return answer::word(answer);
+    if !is_done(s.answer) {
+        return answer::word(s.answer);
     }
     write_figures(
         s.cash,
@@ -40,11 +36,8 @@ fn leave_both(s: Snapshot, figures: &mut [u8], weights: &mut [u8]) -> u64
         figures,
     );
     let w = s.weights;
-    let n = w.count;
-    let symbol = w.symbol;
-    let weight = w.weight;
-    write_weights(n, symbol, weight, weights);
-    0
+    write_weights(w.count, w.symbol, w.weight, weights);
+    answer::word(Answer::Done)
 }
 
 // The last one's answer, as a number. Account and prices are read once.
@@ -59,21 +52,17 @@ pub extern "C" fn direct_snapshot(
     ensures { leave_both result figures.new weights.new
         ≡ snapshots_in account.now prices.now figures.old weights.old }
 {
-    let r = read_account(account);
-    let p = read_prices(prices);
-    let a = r.account;
-    if !p.whole {
+    let a = account_in(account);
+    let Some(p) = read_prices(prices) else {
         return too_long(a);
-    }
+    };
     if figures.len() != 32 {
         return too_long(a);
     }
     if weights.len() != 1024 {
         return too_long(a);
     }
-    let m = p.count;
-    let ss = p.symbol;
-    let ps = p.price;
-    let s = snapshots(a, &ss[..m], &ps[..m], times);
-    leave_both(s, figures, weights)
+    let priced = &p.symbol[..p.count];
+    let cents = &p.price[..p.count];
+    leave_both(snapshots(a, priced, cents, times), figures, weights)
 }

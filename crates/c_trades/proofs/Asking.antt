@@ -14,7 +14,7 @@ use Rattle.fills.specs.declared.record.ExecutionKind.{ExecutionKind}
 use Rattle.fills.specs.Records.{good_kind}
 use Rattle.account.specs.declared.account.Account.{Account}
 use Rattle.account.specs.Account.{sound_account}
-use Rattle.account_bytes.specs.Account.{read_account}
+use Rattle.account_bytes.specs.Account.{hold_account}
 use Rattle.portfolio.specs.Answers.{is_done, close_answer, rebalance_answer, return_answer}
 use Rattle.portfolio.specs.Rebalance.{refused, rebalanced}
 use Rattle.portfolio.specs.Close.{position_closed}
@@ -35,32 +35,30 @@ module _ {X : Type 0} (refuse : Answer → X) (call : X) where
   by_tests true false false w h = refl
 
   pub asked-early : (b : List ℕ) (kind : ℕ) (w : Bool) → (sound_account (account_in b) ≡ false → call ≡ refuse Unsound)
-      → asked refuse b kind w call ≡ pick (is_done (early (read_account b) kind w)) call (refuse (early (read_account b) kind w))
+      → asked refuse b kind w call ≡ pick (is_done (early b kind w)) call (refuse (early b kind w))
   unfolding asked early sound_in
-  asked-early b kind w h = by_tests (read_account b).good (sound_account (account_in b)) (good_kind kind) w h
+  asked-early b kind w h = by_tests (hold_account b) (sound_account (account_in b)) (good_kind kind) w h
 
 -- by whether the bytes hold an account
 module _ (b : List ℕ) (kind : ℕ) (w : Bool) where
-  pub early-bad : (read_account b).good ≡ false → early (read_account b) kind w ≡ Unsound
+  pub early-bad : hold_account b ≡ false → early b kind w ≡ Unsound
   unfolding early
   early-bad e = simp e
 
-  pub early-good : (read_account b).good ≡ true → early (read_account b) kind w ≡ early_on (account_in b) kind w
+  pub early-good : hold_account b ≡ true → early b kind w ≡ early_on (account_in b) kind w
   unfolding early
   early-good e = simp e
 
 -- a call that is made was given whole lists
-whole_by : (g s k w : Bool) → is_done (unless g Unsound (pick (both k w) Done (unless s Unsound (unless k BadSetting TooLong)))) ≡ true → w ≡ true
-whole_by false s k w e = let z : ◌≡◌ {A = ℕ} 0 1 = cc in absurd (omega arith)
-whole_by true s true true e = refl
-whole_by true true true false e = let z : ◌≡◌ {A = ℕ} 0 1 = cc in absurd (omega arith)
-whole_by true false true false e = let z : ◌≡◌ {A = ℕ} 0 1 = cc in absurd (omega arith)
-whole_by true true false w e = let z : ◌≡◌ {A = ℕ} 0 1 = cc in absurd (omega arith)
-whole_by true false false w e = let z : ◌≡◌ {A = ℕ} 0 1 = cc in absurd (omega arith)
+whole_by : (s k w : Bool) → is_done (pick (both k w) Done (unless s Unsound (unless k BadSetting TooLong))) ≡ true → w ≡ true
+whole_by s true true e = refl
+whole_by true true false e = let z : ◌≡◌ {A = ℕ} 0 1 = cc in absurd (omega arith)
+whole_by false true false e = let z : ◌≡◌ {A = ℕ} 0 1 = cc in absurd (omega arith)
+whole_by true false w e = let z : ◌≡◌ {A = ℕ} 0 1 = cc in absurd (omega arith)
+whole_by false false w e = let z : ◌≡◌ {A = ℕ} 0 1 = cc in absurd (omega arith)
 
-pub early-whole : (b : List ℕ) (kind : ℕ) (w : Bool) → is_done (early (read_account b) kind w) ≡ true → w ≡ true
-unfolding early
-early-whole b kind w e = whole_by (read_account b).good (sound_account (account_in b)) (good_kind kind) w e
+pub early-whole : (a : Account) (kind : ℕ) (w : Bool) → is_done (early_on a kind w) ≡ true → w ≡ true
+early-whole a kind w e = whole_by (sound_account a) (good_kind kind) w e
 
 -- ---- a close
 module _ (a : Account) (s : ℕ) (price : ℤ) (period : ℕ) (kind : ExecutionKind) where

@@ -1,48 +1,45 @@
 // What a call that traded leaves in lent bytes.
-ghost use Rattle.std.specs.Prelude.{◌≡◌, ◌≤◌, ◌/◌, min};
+ghost use Rattle.std.specs.Prelude.{◌≡◌, ◌≤◌};
 ghost use Rattle.table.specs.Rows.{cols};
 ghost use Rattle.portfolio.specs.Inner.Trades.{traded_on};
 ghost use Rattle.c_trades.specs.Told.{tell_trade};
-ghost use Rattle.c_trades.specs.Inner.Told.{finished};
+ghost use Rattle.c_trades.specs.Inner.Told.{finished, word_by};
 
 use account_bytes::write_ledger;
-use answer::is_done;
+use answer::{Answer, is_done};
 use list_bytes::write_records;
 use portfolio::Ran;
+use table::Columns;
 
-// The places of a record buffer, of which a call fills no more than `most`.
-pub(crate) fn places(bytes: usize, most: usize) -> usize
-    ensures { result ≡ min (bytes / 96) most }
+// What C is told: the word of a call that was done, or that of the refusal.
+// Kept: C is told one number, which is made here alone.
+pub(crate) fn told(call: Result<u64, Answer>) -> u64
+    ensures { result ≡ word_by call }
 {
-    let n = bytes / 96;
-    if n < most { n } else { most }
+    match call {
+        Ok(word) => word,
+        Err(answer) => answer::word(answer),
+    }
 }
 
 // The account and its records after a call that was done; after another every byte is as found.
-pub(crate) fn finish<'a>(
+#[tactic(auto, unfolding(crate::specs::Inner::Told::finished))]
+pub(crate) fn finish(
     t: Ran,
-    symbol: &'a [u64; 64],
-    quantity: &'a [i64; 64],
-    average: &'a [i64; 64],
-    realized: &'a [i64; 64],
-    total: &'a [i64; 64],
+    columns: &Columns,
     words: &[u64],
     ints: &[i64],
     account: &mut [u8],
     records: &mut [u8],
-) -> u64
+) -> Result<u64, Answer>
     requires { t.records ≤ 64 }
-    ensures { let c = cols symbol.now quantity.now average.now realized.now total.now in
-        tell_trade result account.new records.new
-        ≡ finished (traded_on t c) words.now ints.now account.old records.old }
+    ensures { tell_trade (word_by result) account.new records.new
+        ≡ finished (traded_on t columns.now) words.now ints.now account.old records.old }
 {
-    let answer = t.answer;
-    if !is_done(answer) {
-        return answer::word(answer);
+    if !is_done(t.answer) {
+        return Err(t.answer);
     }
-    let n = t.records;
-    let h = t.ledger;
-    write_ledger(h, symbol, quantity, average, realized, total, account);
-    write_records(words, ints, n, records);
-    256 * (n as u64)
+    write_ledger(t.ledger, columns, account);
+    write_records(words, ints, t.records, records);
+    Ok(256 * (t.records as u64))
 }

@@ -1,115 +1,106 @@
 // A rebalance to target weights.
-ghost use Rattle.std.specs.Prelude.{◌≡◌, true, ◌/◌, ◌≤◌, min, length};
+ghost use Rattle.std.specs.Prelude.{◌≡◌, true, ◌/◌, length};
+ghost use Rattle.table.specs.Keyed.{both};
 ghost use Rattle.table.specs.Rows.{cols};
 ghost use Rattle.account.specs.Inner.Account.{account_with};
 ghost use Rattle.list_bytes.specs.Entries.{whole_list};
 ghost use Rattle.list_bytes.specs.Lists.{symbols_in, weights_in, prices_in};
-ghost use Rattle.portfolio.specs.Answers.{record_places};
 ghost use Rattle.portfolio.specs.Rebalance.{rebalanced};
 ghost use Rattle.fills.specs.Records.{kind_of};
+ghost use Rattle.c_trades.specs.Asked.{whole_run};
 ghost use Rattle.c_trades.specs.Told.{tell_trade, trade_told};
 ghost use Rattle.c_trades.specs.Calls.{rebalance_in};
+ghost use Rattle.c_trades.specs.Inner.Told.{word_by};
 
-use crate::asked::{both, early, whole_run};
-use crate::filing::{finish, places};
+use crate::asked::{check_early, whole_run};
+use crate::filing::{finish, told};
 use account::Ledger;
 use account_bytes::{is_account, read_columns, read_ledger};
-use answer::{Answer, is_done};
+use answer::Answer;
 use list_bytes::{is_whole, prices_into, targets_into};
 use portfolio::rebalance_on;
+use table::Columns;
 
-// A rebalance on lent columns by whole lists, whose records stand first in number slices, and what it leaves filed in the lent bytes.
-fn file_rebalance(
+// Whether the lists and the record buffer are whole.
+fn are_whole(targets: &[u8], prices: &[u8], records: &[u8]) -> bool
+    ensures { result ≡ both (both (whole_list 64 targets.now) (whole_list 128 prices.now)) (whole_run (length records.now)) }
+{
+    is_whole(targets.len(), 64) && is_whole(prices.len(), 128) && whole_run(records.len())
+}
+
+// A rebalance on lent columns by whole lists, and what it leaves filed in the lent bytes. Its records stand in number slices of as many places as
+// there is room for: no more than 64 records are made.
+fn rebalance_in_room(
     h: Ledger,
-    symbol: &mut [u64; 64],
-    quantity: &mut [i64; 64],
-    average: &mut [i64; 64],
-    realized: &mut [i64; 64],
-    total: &mut [i64; 64],
+    columns: &mut Columns,
     targets: &[u8],
     prices: &[u8],
     period: u64,
     kind: u64,
-    words: &mut [u64],
-    ints: &mut [i64],
     account: &mut [u8],
     records: &mut [u8],
-) -> u64
-    requires { (whole_list 64 targets.now ≡ true) × (whole_list 128 prices.now ≡ true) × (length words.old / 4 ≤ min (length records.old / 96) 64) }
-    ensures { let c = cols symbol.old quantity.old average.old realized.old total.old in
-        tell_trade result account.new records.new
+) -> Result<u64, Answer>
+    requires { (whole_list 64 targets.now ≡ true) × (whole_list 128 prices.now ≡ true) }
+    ensures { let c = columns.old in
+        tell_trade (word_by result) account.new records.new
         ≡ trade_told (rebalanced (account_with h c)
         (symbols_in targets.now) (weights_in targets.now) (symbols_in prices.now) (prices_in prices.now)
-        period (kind_of kind) (record_places (length words.old) (length ints.old))) account.old records.old }
+        period (kind_of kind) (length records.old / 96)) account.old records.old }
 {
-    let k = fills::kind_of(kind);
-    let mut ts = [0u64; 64];
-    let mut ws = [0.0f64; 64];
+    let mut ts = [0; 64];
+    let mut ws = [0.0; 64];
     let n = targets_into(targets, &mut ts, &mut ws);
-    let mut ss = [0u64; 128];
-    let mut ps = [0i64; 128];
+    let mut ss = [0; 128];
+    let mut ps = [0; 128];
     let m = prices_into(prices, &mut ss, &mut ps);
+    let mut words = [0; 256];
+    let mut ints = [0; 512];
+    let room = (records.len() / 96).min(64);
+    let words = &mut words[..4 * room];
+    let ints = &mut ints[..8 * room];
+    let kind = fills::kind_of(kind);
     let t = rebalance_on(
         h,
-        symbol,
-        quantity,
-        average,
-        realized,
-        total,
+        columns,
         &ts[..n],
         &ws[..n],
         &ss[..m],
         &ps[..m],
         period,
-        k,
+        kind,
         words,
         ints,
     );
-    finish(
-        t, symbol, quantity, average, realized, total, words, ints, account, records,
-    )
+    finish(t, columns, words, ints, account, records)
 }
 
-// In slices of as many places as there is room for: no more than 64 records are made.
-fn rebalance_in_room(
-    h: Ledger,
-    symbol: &mut [u64; 64],
-    quantity: &mut [i64; 64],
-    average: &mut [i64; 64],
-    realized: &mut [i64; 64],
-    total: &mut [i64; 64],
+// A rebalance on the account that the bytes hold.
+fn rebalance_in(
+    account: &mut [u8],
     targets: &[u8],
     prices: &[u8],
     period: u64,
     kind: u64,
-    account: &mut [u8],
     records: &mut [u8],
-) -> u64
-    requires { (whole_list 64 targets.now ≡ true) × (whole_list 128 prices.now ≡ true) }
-    ensures { let c = cols symbol.old quantity.old average.old realized.old total.old in
-        tell_trade result account.new records.new
-        ≡ trade_told (rebalanced (account_with h c)
-        (symbols_in targets.now) (weights_in targets.now) (symbols_in prices.now) (prices_in prices.now)
-        period (kind_of kind) (length records.old / 96)) account.old records.old }
+) -> Result<u64, Answer>
+    ensures { tell_trade (word_by result) account.new records.new
+        ≡ trade_told (rebalance_in account.old targets.now prices.now period kind records.old) account.old records.old }
 {
-    let mut words = [0u64; 256];
-    let mut ints = [0i64; 512];
-    let room = places(records.len(), 64);
-    let w = 4 * room;
-    let i = 8 * room;
-    file_rebalance(
+    if !is_account(account) {
+        return Err(Answer::Unsound);
+    }
+    let mut columns = Columns::empty();
+    read_columns(account, &mut columns);
+    let h = read_ledger(account);
+    let whole = are_whole(targets, prices, records);
+    check_early(h, &columns, kind, whole)?;
+    rebalance_in_room(
         h,
-        symbol,
-        quantity,
-        average,
-        realized,
-        total,
+        &mut columns,
         targets,
         prices,
         period,
         kind,
-        &mut words[..w],
-        &mut ints[..i],
         account,
         records,
     )
@@ -128,43 +119,5 @@ pub extern "C" fn tc_rebalance_simple(
     ensures { tell_trade result account.new records.new
         ≡ trade_told (rebalance_in account.old targets.now prices.now period kind records.old) account.old records.old }
 {
-    if !is_account(account) {
-        return answer::word(Answer::Unsound);
-    }
-    let mut symbol = [0u64; 64];
-    let mut quantity = [0i64; 64];
-    let mut average = [0i64; 64];
-    let mut realized = [0i64; 64];
-    let mut total = [0i64; 64];
-    read_columns(
-        account,
-        &mut symbol,
-        &mut quantity,
-        &mut average,
-        &mut realized,
-        &mut total,
-    );
-    let h = read_ledger(account);
-    let listed = both(is_whole(targets.len(), 64), is_whole(prices.len(), 128));
-    let whole = both(listed, whole_run(records.len()));
-    let answer = early(
-        h, &symbol, &quantity, &average, &realized, &total, kind, whole,
-    );
-    if !is_done(answer) {
-        return answer::word(answer);
-    }
-    rebalance_in_room(
-        h,
-        &mut symbol,
-        &mut quantity,
-        &mut average,
-        &mut realized,
-        &mut total,
-        targets,
-        prices,
-        period,
-        kind,
-        account,
-        records,
-    )
+    told(rebalance_in(account, targets, prices, period, kind, records))
 }

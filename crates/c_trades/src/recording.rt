@@ -10,61 +10,68 @@ ghost use Rattle.portfolio.specs.Answers.{is_done};
 ghost use Rattle.portfolio.specs.Returns.{recorded};
 ghost use Rattle.c_trades.specs.Asked.{account_in};
 ghost use Rattle.c_trades.specs.Inner.Asked.{HoldsAccount};
+ghost use Rattle.c_trades.specs.Inner.Told.{word_by};
 ghost use Rattle.c_trades.specs.Returns.{return_told, tell_return, return_in};
 
-use crate::asked::early;
+use crate::asked::check_early;
+use crate::filing::told;
 use account::Ledger;
 use account_bytes::{is_account, read_columns, read_ledger, write_series};
 use answer::{Answer, is_done};
 use list_bytes::{is_whole, prices_into};
 use portfolio::{Noted, return_on};
+use table::Columns;
 
 // The series is written after a call that was done; after another the account's bytes stay.
-fn keep(c: Noted, account: &mut [u8]) -> u64
-    ensures { (result ≡ word_of c.answer) × (account.new ≡ pick (is_done c.answer) (written_series c.series account.old) account.old) }
+fn keep(c: Noted, account: &mut [u8]) -> Result<u64, Answer>
+    ensures { (word_by result ≡ word_of c.answer) × (account.new ≡ pick (is_done c.answer) (written_series c.series account.old) account.old) }
 {
-    let answer = c.answer;
-    if !is_done(answer) {
-        return answer::word(answer);
+    if !is_done(c.answer) {
+        return Err(c.answer);
     }
-    let s = c.series;
-    write_series(s, account);
-    answer::word(answer)
+    write_series(c.series, account);
+    Ok(0)
 }
 
 // A return on the account that the bytes hold, by a whole price list, and what it leaves filed in these bytes.
-fn file_return<'a>(
+fn file_return(
     h: Ledger,
-    symbol: &'a [u64; 64],
-    quantity: &'a [i64; 64],
-    average: &'a [i64; 64],
-    realized: &'a [i64; 64],
-    total: &'a [i64; 64],
+    columns: &Columns,
     prices: &[u8],
     account: &mut [u8],
     equities: &mut [i64],
     returns: &mut [f64],
-) -> u64
-    requires { (whole_list 128 prices.now ≡ true) × HoldsAccount account.old h (cols symbol.now quantity.now average.now realized.now total.now) }
-    ensures { tell_return result account.new equities.new returns.new
+) -> Result<u64, Answer>
+    requires { (whole_list 128 prices.now ≡ true) × HoldsAccount account.old h columns.now }
+    ensures { tell_return (word_by result) account.new equities.new returns.new
         ≡ return_told (recorded (account_in account.old) (symbols_in prices.now) (prices_in prices.now) equities.old returns.old) account.old }
 {
-    let mut ss = [0u64; 128];
-    let mut ps = [0i64; 128];
+    let mut ss = [0; 128];
+    let mut ps = [0; 128];
     let m = prices_into(prices, &mut ss, &mut ps);
-    let c = return_on(
-        h,
-        symbol,
-        quantity,
-        average,
-        realized,
-        total,
-        &ss[..m],
-        &ps[..m],
-        equities,
-        returns,
-    );
+    let c = return_on(h, columns, &ss[..m], &ps[..m], equities, returns);
     keep(c, account)
+}
+
+// A return on the account that the bytes hold.
+fn return_in(
+    account: &mut [u8],
+    prices: &[u8],
+    equities: &mut [i64],
+    returns: &mut [f64],
+) -> Result<u64, Answer>
+    ensures { tell_return (word_by result) account.new equities.new returns.new
+        ≡ return_told (return_in account.old prices.now equities.old returns.old) account.old }
+{
+    if !is_account(account) {
+        return Err(Answer::Unsound);
+    }
+    let mut columns = Columns::empty();
+    read_columns(account, &mut columns);
+    let h = read_ledger(account);
+    let listed = is_whole(prices.len(), 128);
+    check_early(h, &columns, 0, listed)?;
+    file_return(h, &columns, prices, account, equities, returns)
 }
 
 // The answer's word.
@@ -78,31 +85,5 @@ pub extern "C" fn tc_record_return(
     ensures { tell_return result account.new equities.new returns.new
         ≡ return_told (return_in account.old prices.now equities.old returns.old) account.old }
 {
-    if !is_account(account) {
-        return answer::word(Answer::Unsound);
-    }
-    let mut symbol = [0u64; 64];
-    let mut quantity = [0i64; 64];
-    let mut average = [0i64; 64];
-    let mut realized = [0i64; 64];
-    let mut total = [0i64; 64];
-    read_columns(
-        account,
-        &mut symbol,
-        &mut quantity,
-        &mut average,
-        &mut realized,
-        &mut total,
-    );
-    let h = read_ledger(account);
-    let listed = is_whole(prices.len(), 128);
-    let answer = early(
-        h, &symbol, &quantity, &average, &realized, &total, 0, listed,
-    );
-    if !is_done(answer) {
-        return answer::word(answer);
-    }
-    file_return(
-        h, &symbol, &quantity, &average, &realized, &total, prices, account, equities, returns,
-    )
+    told(return_in(account, prices, equities, returns))
 }

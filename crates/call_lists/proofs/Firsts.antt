@@ -9,7 +9,7 @@ use lib.Dec.{eqb, ltb}
 use lib.IntN.{ℤ, pos}
 use lib.Signed.{le_z}
 use lib.ListN.{length, take, drop, get_or}
-use borrow.Author.Tests.{ltb-true, ltb-false, lt-ltb, le-ltb, eq-eqb, ne_eqb, eqb-true, eqb-false, not-true, not-false}
+use borrow.Author.Tests.{ltb-true, ltb-false, lt-ltb, le-ltb, eq-eqb, ne_eqb, eqb-true, eqb-false}
 use Rattle.position.specs.Symbols.{good_symbol}
 use Rattle.table.specs.Keyed.{pick, both, all, ascending}
 use Rattle.call_lists.specs.Lists.{among, all_good, all_priced, distinct, first_failing, first_bad, first_unpriced, repeat_after, first_repeat}
@@ -139,14 +139,7 @@ module _ (l : List ℕ) (i : ℕ) (new : New l i) where
   unfolding repeat_after
   all_new h = let z : repeat_after (take i l) (drop i l) ≡ 0 = from_end (repeat_after (take i l)) l i h in omega (arith, new.1)
 
--- ---- an index that the code has found, held against the length
-module _ {n first most : ℕ} {b : Bool} (found : n ≡ first) (tells : ltb first most ≡ not b) where
-  pub found_within : n < most → b ≡ false
-  found_within h = not-true b (sym tells ∙ lt-ltb first most (rw (sym found) h))
-
-  pub found_past : most ≤ n → b ≡ true
-  found_past h = not-false b (sym tells ∙ le-ltb first most (rw (sym found) h))
-
+-- ---- the tests of whole lists
 pub good_tells : (l : List ℕ) → ltb (first_bad l) (length l) ≡ not (all_good l)
 unfolding all_good
 good_tells l = failing_tells good_symbol l

@@ -2,16 +2,19 @@
 use Prim.Native.Nat.{ℕ, zero, suc, ◌+◌, ◌≤◌, ◌<◌}
 use mathlib.Core.Path.{◌≡◌, refl, sym, ap, ◌∙◌}
 use mathlib.Core.List.{List, [], ◌∷◌}
-use mathlib.Core.Bool.{Bool, true, false, not}
+use mathlib.Core.Bool.{Bool, true, false, not, ◌||◌}
+use Rattle.std.specs.List.{list_any, position_or_len}
 use native.Mathlib.Omega.{arith}
 use native.Mathlib.Numerals.{add-one}
-use lib.Dec.{eqb}
+use lib.Dec.{eqb, ltb}
 use lib.IntN.{ℤ, pos, negsuc}
 use lib.Signed.{le_z, lt_z}
 use lib.ListN.{length, drop, get_or, drop_of_length-le}
 use lib.Seq.{drop-cons}
-use borrow.Author.Tests.{le-ltb, le-leb, eq-eqb, ne_eqb, not-true}
-use Rattle.call_lists.specs.Lists.{among, distinct, first_failing}
+use Rattle.std.proofs.lemmas.Bool.{false≢true}
+use borrow.Author.Tests.{lt-ltb, le-ltb, le-leb, eq-eqb, ne_eqb, not-true}
+use Rattle.std.specs.Prelude.{Option, Some, None}
+use Rattle.call_lists.specs.Lists.{among, distinct, first_failing, place_in}
 use Rattle.table.specs.Keyed.{pick, ascending}
 use Rattle.table.specs.Inner.Keyed.{Over, Rising}
 use Rattle.table.proofs.Keyed.{ascending_rises, both_true}
@@ -23,6 +26,16 @@ module _ {A B : Type 0} (f : List A → B) (l : List A) (i : ℕ) where
 
   pub from_end : length l ≤ i → f (drop i l) ≡ f []
   from_end h = ap f (rw drop_of_length-le)
+
+-- the library's count of those before the first that passes the other test
+pub first_failing_told : {A : Type 0} (t u : A → Bool) (d : A) (l : List A) → ((i : ℕ) → i < length l → u (get_or l i d) ≡ not (t (get_or l i d))) → position_or_len u l ≡ first_failing t l
+unfolding first_failing
+first_failing_told t u d [] e = refl
+first_failing_told t u d (x ∷ l) e = rw (e 0 (omega arith)) (go (t x) (first_failing_told t u d l (λ i h. e (suc i) (omega arith))))
+  where
+    go : (b : Bool) → position_or_len u l ≡ first_failing t l → pick (not (not b)) (1 + position_or_len u l) 0 ≡ pick b (suc (first_failing t l)) 0
+    go true h = omega arith
+    go false h = refl
 
 -- a loop that tests every member: those before place i pass, so the first that fails is found from there on
 abbrev pub Passed : {A : Type 0} → (A → Bool) → List A → ℕ → Type 0
@@ -49,15 +62,44 @@ below_one (pos zero) = refl
 below_one (pos (suc n)) = let h : 1 ≤ suc n = omega arith in simp (le-leb 1 (suc n) h, le-ltb (suc n) 1 h)
 below_one (negsuc n) = refl
 
--- ---- a symbol in a list, from place i on
-module _ (s : ℕ) (l : List ℕ) (i : ℕ) (h : i < length l) where
-  pub among_at : get_or l i 0 ≡ s → among s (drop i l) ≡ true
-  unfolding among
-  among_at e = from_place (among s) l i 0 h ∙ simp (eq-eqb _ _ e)
+-- ---- a place that is told
+module _ {A : Type 0} (l : List A) (n : ℕ) where
+  pub place_past : length l ≤ n → None ≡ place_in l n
+  place_past h = let t = le-ltb n (length l) h in sym (simp t)
 
-  pub among_on : (get_or l i 0 ≡ s → ⊥) → among s (drop i l) ≡ among s (drop (i + 1) l)
-  unfolding among
-  among_on n = from_place (among s) l i 0 h ∙ simp (ne_eqb _ _ n)
+  pub place_at : (i : ℕ) → i < length l → i ≡ n → Some i ≡ place_in l n
+  place_at i h e =
+      let g : n < length l = omega arith in
+      let t = lt-ltb n (length l) g in
+      rw e (sym (simp t))
+
+  -- what follows from it for a test that fails exactly where there is one
+  module _ {b : Bool} (tells : ltb n (length l) ≡ not b) where
+    pub place_told : {i : ℕ} → Some i ≡ place_in l n → (b ≡ false) × (i ≡ n)
+    place_told {i} e = go (ltb n (length l)) b tells e
+      where
+        go : (t b : Bool) → t ≡ not b → Some i ≡ pick t (Some n) None → (b ≡ false) × (i ≡ n)
+        go true false q h = (refl, cc)
+        go true true q h = absurd (false≢true (sym q))
+        go false b q h = (cc, cc)
+
+    pub no_place_told : None ≡ place_in l n → b ≡ true
+    no_place_told e = go (ltb n (length l)) b tells e
+      where
+        go : (t b : Bool) → t ≡ not b → ◌≡◌ {A = Option ℕ} None (pick t (Some n) None) → b ≡ true
+        go true b q h = cc
+        go false true q h = refl
+        go false false q h = absurd (false≢true q)
+
+-- the library's search for a symbol
+pub any_among : (s : ℕ) (l : List ℕ) → list_any (λ k. eqb k s) l ≡ among s l
+unfolding among
+any_among s [] = refl
+any_among s (k ∷ l) = go (eqb k s) (any_among s l)
+  where
+    go : (b : Bool) → list_any (λ k. eqb k s) l ≡ among s l → (b || list_any (λ k. eqb k s) l) ≡ pick b true (among s l)
+    go true h = refl
+    go false h = h
 
 -- ---- a symbol twice
 pub below_first : (a b : ℕ) (l : List ℕ) → a < b → Over b l → Over a l

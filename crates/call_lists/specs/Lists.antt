@@ -1,5 +1,5 @@
 -- Lists of targets and of prices, as parallel lists of numbers.
-use Rattle.std.specs.Prelude.{ℕ, suc, Bool, true, false, not, List, [], ◌∷◌, eqb, ℤ, pos}
+use Rattle.std.specs.Prelude.{ℕ, suc, Bool, true, false, not, List, [], ◌∷◌, eqb, ltb, length, ℤ, pos, Option, Some, None}
 use Rattle.std.specs.Int.Signed.{le_z}
 use Rattle.position.specs.Symbols.{good_symbol}
 use Rattle.table.specs.Keyed.{pick, both, all}
@@ -46,3 +46,7 @@ unfoldable pub price_of : List ℕ → List ℤ → ℕ → ℤ
 price_of [] ps s = pos 0
 price_of (k ∷ ks) [] s = pos 0
 price_of (k ∷ ks) (p ∷ ps) s = pick (eqb k s) p (price_of ks ps s)
+
+-- a place in a list, none where it is past the last
+abbrev pub place_in : {A : Type 0} → List A → ℕ → Option ℕ
+place_in l i = pick (ltb i (length l)) (Some i) None

@@ -1,39 +1,28 @@
 // Tests on one list of a call.
 ghost use Rattle.std.specs.Prelude.{◌≡◌};
 ghost use Rattle.table.specs.Keyed.{ascending};
-ghost use Rattle.call_lists.specs.Lists.{among, first_bad, first_unpriced, first_repeat};
+ghost use Rattle.call_lists.specs.Lists.{among, first_bad, first_unpriced, first_repeat, place_in};
 
 use position::Symbol;
 use table::ascends;
 
-// The index of the first symbol that is bad; the length where none is.
-pub fn first_bad(symbols: &[u64]) -> usize
-    ensures { result ≡ first_bad symbols.now }
+// The index of the first symbol that is bad.
+pub fn first_bad(symbols: &[u64]) -> Option<usize>
+    ensures { result ≡ place_in symbols.now (first_bad symbols.now) }
 {
-    let mut i = 0;
-    while i < symbols.len() {
-        let s = symbols[i];
-        if !Symbol(s).is_good() {
-            return i;
-        }
-        i += 1;
-    }
-    i
+    symbols.iter().position(|symbol| !Symbol(*symbol).is_good())
 }
 
-// The index of the first price that is below 1; the length where none is.
-pub fn first_unpriced(prices: &[i64]) -> usize
-    ensures { result ≡ first_unpriced prices.now }
+// The index of the first price that is below 1.
+pub fn first_unpriced(prices: &[i64]) -> Option<usize>
+    ensures { result ≡ place_in prices.now (first_unpriced prices.now) }
 {
-    let mut i = 0;
-    while i < prices.len() {
-        let p = prices[i];
-        if p < 1 {
-            return i;
+    for (i, price) in prices.iter().enumerate() {
+        if *price < 1 {
+            return Some(i);
         }
-        i += 1;
     }
-    i
+    None
 }
 
 // Whether each symbol is above the one before it.
@@ -47,29 +36,20 @@ pub fn is_ascending(symbols: &[u64]) -> bool
 pub fn is_among(symbol: u64, symbols: &[u64]) -> bool
     ensures { result ≡ among symbol symbols.now }
 {
-    let mut i = 0;
-    while i < symbols.len() {
-        if symbols[i] == symbol {
-            return true;
-        }
-        i += 1;
-    }
-    false
+    symbols.contains(&symbol)
 }
 
-// The least index whose symbol stands before it in the list; the length where none does. A list that ascends, as most do, needs one look at each symbol.
-pub fn first_repeat(symbols: &[u64]) -> usize
-    ensures { result ≡ first_repeat symbols.now }
+// The least index whose symbol stands before it in the list. A list that ascends, as most do, needs one look at each symbol.
+pub fn first_repeat(symbols: &[u64]) -> Option<usize>
+    ensures { result ≡ place_in symbols.now (first_repeat symbols.now) }
 {
     if is_ascending(symbols) {
-        return symbols.len();
+        return None;
     }
-    let mut i = 0;
-    while i < symbols.len() {
-        if is_among(symbols[i], &symbols[..i]) {
-            return i;
+    for (i, symbol) in symbols.iter().enumerate() {
+        if is_among(*symbol, &symbols[..i]) {
+            return Some(i);
         }
-        i += 1;
     }
-    i
+    None
 }

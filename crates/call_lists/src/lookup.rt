@@ -9,7 +9,7 @@ use table::{Found, find};
 fn price_at(prices: &[i64], i: usize) -> i64
     ensures { result ≡ get_or prices.now i (pos 0) }
 {
-    if i < prices.len() { prices[i] } else { 0 }
+    prices.get(i).copied().unwrap_or(0)
 }
 
 // The price of a symbol in a list whose symbols ascend, as the caller has checked once for all its lookups.
@@ -17,12 +17,11 @@ fn price_at(prices: &[i64], i: usize) -> i64
 pub fn quote(symbols: &[u64], prices: &[i64], symbol: u64, hint: usize) -> Quote
     ensures { Quotes symbols.now prices.now symbol result }
 {
-    let f = find(symbols, symbols.len(), symbol, hint);
-    match f {
-        Found::At(i) => {
-            let price = price_at(prices, i);
-            Quote { price, next: i + 1 }
-        }
+    match find(symbols, symbols.len(), symbol, hint) {
+        Found::At(i) => Quote {
+            price: price_at(prices, i),
+            next: i + 1,
+        },
         Found::Absent(i) => Quote { price: 0, next: i },
     }
 }

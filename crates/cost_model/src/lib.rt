@@ -3,7 +3,7 @@
 
 ghost use Rattle.std.specs.Prelude.{◌≡◌, nat_abs};
 ghost use Rattle.position.specs.Shares.{is_positive};
-ghost use Rattle.cost_model.specs.Costs.{free, commission, at_least, at_most, cost, sign, slippage_factor, slipped, effective, good_rate, good_ceiling, good_costs};
+ghost use Rattle.cost_model.specs.Costs.{free, commission, at_most, cost, sign, slippage_factor, slipped, effective, good_rate, good_ceiling, good_costs};
 
 use position::Shares;
 
@@ -18,6 +18,7 @@ pub struct CostModel {
     // Minimum commission per fill (cents).
     pub min_commission: i64,
     // Maximum commission per fill (cents); 0 is none.
+    // Kept: no Option, as document 02 says "Settings gain a ceiling, 0 meaning none".
     pub max_commission: i64,
 }
 
@@ -40,28 +41,21 @@ impl CostModel {
     pub fn is_good(self) -> bool
         ensures { result ≡ good_costs self }
     {
-        if !good_rate(self.commission_bps) {
-            return false;
-        }
-        if !(0.0 <= self.slippage_bps) {
-            return false;
-        }
-        if !(self.slippage_bps <= 10_000.0) {
-            return false;
-        }
-        if !(0 <= self.min_commission) {
-            return false;
-        }
-        good_ceiling(self.min_commission, self.max_commission)
+        good_rate(self.commission_bps)
+            && 0.0 <= self.slippage_bps
+            && self.slippage_bps <= 10_000.0
+            && 0 <= self.min_commission
+            && good_ceiling(self.min_commission, self.max_commission)
     }
 
-    // Commission for a trade of the given notional (cents), for every notional, rate, floor and ceiling: a NaN counts 0, and what is too large saturates.
-    #[tactic(auto, unfolding(crate::specs::Costs::cost, crate::specs::Costs::uncapped))]
+    // Commission for a trade of the given notional (cents), "and at least `min_commission`", for every notional, rate, floor and ceiling: a NaN counts
+    // 0, and what is too large saturates.
+    #[tactic(auto, unfolding(crate::specs::Costs::cost, crate::specs::Costs::uncapped, crate::specs::Costs::at_least))]
     pub fn compute_cost(self, notional: i64) -> i64
         ensures { result ≡ cost self notional }
     {
         let rated = commission(self.commission_bps, notional);
-        at_most(self.max_commission, at_least(self.min_commission, rated))
+        at_most(self.max_commission, self.min_commission.max(rated))
     }
 
     // The factor that slippage puts on a buy's price or on a sale's.
@@ -72,8 +66,8 @@ impl CostModel {
         1.0 + side(buying) * self.slippage_bps / 10_000.0
     }
 
-    // The price after slippage of a fill of so many micro-shares, below 0 for a sale. Each side's factor does not depend on the quantity, so that
-    // a compiler can take it out of a loop of fills.
+    // The price after slippage of a fill of so many micro-shares, below 0 for a sale.
+    // Kept: two calls, so that neither factor depends on the quantity and a compiler can take both out of a loop of fills.
     #[tactic(auto, unfolding(crate::specs::Costs::effective))]
     pub fn effective_price(self, quantity: Shares, price: i64) -> i64
         ensures { result ≡ effective self (is_positive quantity.0) price }
@@ -99,16 +93,8 @@ pub fn slipped(factor: f64, price: i64) -> i64
 fn commission(bps: f64, notional: i64) -> i64
     ensures { result ≡ commission bps (nat_abs notional) }
 {
-    let amount = doubles::u64_to_f64(sums::unsigned_abs(notional));
+    let amount = doubles::u64_to_f64(notional.unsigned_abs());
     doubles::round_to_i64(amount * bps / 10_000.0)
-}
-
-// ".. and at least `min_commission`."
-#[tactic(auto, unfolding(crate::specs::Costs::at_least))]
-fn at_least(floor: i64, charged: i64) -> i64
-    ensures { result ≡ at_least floor charged }
-{
-    if charged < floor { floor } else { charged }
 }
 
 // "the lesser of today's commission and the ceiling", "0 meaning none"
@@ -116,9 +102,10 @@ fn at_most(ceiling: i64, charged: i64) -> i64
     ensures { result ≡ at_most ceiling charged }
 {
     if ceiling == 0 {
-        return charged;
+        charged
+    } else {
+        charged.min(ceiling)
     }
-    if ceiling < charged { ceiling } else { charged }
 }
 
 #[tactic(auto, using(crate::proofs::Constants::one_is, crate::proofs::Constants::minus_one_is))]
@@ -132,18 +119,12 @@ fn side(buying: bool) -> f64
 fn good_rate(x: f64) -> bool
     ensures { result ≡ good_rate x }
 {
-    if !doubles::is_finite(x) {
-        return false;
-    }
-    0.0 <= x
+    doubles::is_finite(x) && 0.0 <= x
 }
 
 // A ceiling equal to the floor is good: a flat fee.
 fn good_ceiling(floor: i64, ceiling: i64) -> bool
     ensures { result ≡ good_ceiling floor ceiling }
 {
-    if ceiling == 0 {
-        return true;
-    }
-    floor <= ceiling
+    ceiling == 0 || floor <= ceiling
 }

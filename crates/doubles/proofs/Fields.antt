@@ -12,7 +12,6 @@ use lib.Ieee.Bits.{of_bits-to_bits, to_bits-lt, is_true, is_false}
 use lib.Ieee.Compare.{differs_from_itself, nan_differs}
 use lib.Ieee.Fits.{eq→eqb}
 use lib.Ieee.Exact.{HasValue, odd_sign}
-use lib.Ieee.Scale.{finite}
 use Rattle.doubles.specs.Fields.{exponent_of, fraction_of, units_of}
 
 -- ---- a test's outcome as a fact
@@ -31,6 +30,13 @@ unfolding is_nan
 like_itself nan h = no (sym nan_differs ∙ h)
 like_itself (inf s) h = tt
 like_itself (fin s m e) h = tt
+
+-- and so does `is_nan`
+pub nan_is : (x : Float) → is_nan x ≡ true → x ≡ nan
+unfolding is_nan
+nan_is nan h = refl
+nan_is (inf s) h = cc
+nan_is (fin s m e) h = cc
 
 -- ---- masks
 pub exponent_mask : (b : ℕ) → bit_and (b / 2 ^ 52) 0x7ff ≡ exponent_of b
@@ -54,24 +60,6 @@ sign_bit b h =
     (λ t. let l = leb→le (2 ^ 63) b t in eq→eqb {a = b / 2 ^ 63} {b = 1} (omega arith))
 
 -- ---- the double that the fields stand for
-odd_finite : (d : ℕ) (s : Bool) (q k l : ℕ) → finite (odd d s q k l) ≡ true
-unfolding odd
-odd_finite d s zero k l = refl
-odd_finite d s (suc q) k l = refl
-
-infinite : (s b : Bool) → finite (cond b (inf s) nan) ≡ false
-infinite s true = refl
-infinite s false = refl
-
-finite_fields : (s : Bool) (e t : ℕ) → finite (of_fields binary64 s e t) ≡ not (eqb e 2047)
-unfolding of_fields
-finite_fields s zero t = odd_finite 53 s t 0 1074
-finite_fields s (suc e) t = go (eqb (suc e) 2047)
-  where
-    go : (b : Bool) → finite (cond b (cond (eqb t 0) (inf s) nan) (odd 53 s (2 ^ 52 + t) e 1074)) ≡ not b
-    go true = infinite s (eqb t 0)
-    go false = odd_finite 53 s (2 ^ 52 + t) e 1074
-
 -- The double x has the sign s and the size of a units of 2 ^ -1074; an infinity counts as any size from 2 ^ 1024 on.
 abbrev pub Sized : Float → Bool → ℕ → Type 0
 Sized nan s a = ⊥
@@ -119,9 +107,6 @@ module _ (x : Float) (h : T (fits binary64 x)) where
 
   pub sign_clear : (to_bits binary64 x / 2 ^ 63 ≡ 1 → ⊥) → false ≡ leb (2 ^ 63) (to_bits binary64 x)
   sign_clear n = sym (is_false (eqb (to_bits binary64 x / 2 ^ 63) 1) (not_T (eqb (to_bits binary64 x / 2 ^ 63) 1) (λ t. n (eqb→eq (to_bits binary64 x / 2 ^ 63) 1 t)))) ∙ sign_of_bits
-
-  pub finite_exponent : finite x ≡ not (eqb (exponent_of (to_bits binary64 x)) 2047)
-  finite_exponent = ap finite (sym fields_are) ∙ finite_fields (leb (2 ^ 63) (to_bits binary64 x)) (exponent_of (to_bits binary64 x)) (fraction_of (to_bits binary64 x))
 
   pub sized : T (not (is_nan x)) → Sized x (leb (2 ^ 63) (to_bits binary64 x)) (units_of (exponent_of (to_bits binary64 x)) (fraction_of (to_bits binary64 x)))
   sized n =

@@ -1,4 +1,6 @@
-// Casts, rounding and the tests for finite of binary64, for every input, from a double's sign, exponent and fraction fields.
+// Casts and rounding of binary64, for every input, from a double's sign, exponent and fraction fields; and the tests for finite.
+// Kept: no cast and no rounding of the library, as document 01 wants "Shifts and masks on the f64 bit pattern for rounding, truncation and
+// saturating casts."
 #![tactic(auto)]
 
 ghost use Rattle.std.specs.Prelude.{◌≡◌, ◌^◌, ◌<◌, ◌+◌};
@@ -20,26 +22,20 @@ fn significand(bits: u64) -> u64
     (bits & 0xf_ffff_ffff_ffff) | 0x10_0000_0000_0000
 }
 
-// Whether x is neither an infinity nor a NaN. Only a NaN differs from itself; its pattern is never asked for, as it may be any.
+// Whether x is neither an infinity nor a NaN.
 pub fn is_finite(x: f64) -> bool
     ensures { result ≡ finite x }
 {
-    if x != x {
-        return false;
-    }
-    exponent(f64::to_bits(x)) != 0x7ff
+    x.is_finite()
 }
 
-// Whether every double of a list is.
+// Whether every double of a list is. The loop has no way out, so that it compiles to vector steps.
 pub fn all_finite(xs: &[f64]) -> bool
     ensures { result ≡ all_finite xs.now }
 {
     let mut finite = true;
-    let mut i = 0usize;
-    while i < xs.len() {
-        let x = xs[i];
-        finite = finite & is_finite(x);
-        i += 1;
+    for x in xs {
+        finite &= is_finite(*x);
     }
     finite
 }
@@ -66,26 +62,24 @@ fn whole_part(bits: u64) -> u64
 fn signed(negative: bool, size: u64) -> i64
     ensures { result ≡ signed_size negative size }
 {
-    if negative {
-        if size < 0x8000_0000_0000_0000 {
-            return -(size as i64);
-        }
-        return i64::MIN;
-    }
     if size < 0x8000_0000_0000_0000 {
-        return size as i64;
+        let n = size as i64;
+        if negative { -n } else { n }
+    } else if negative {
+        i64::MIN
+    } else {
+        i64::MAX
     }
-    i64::MAX
 }
 
 // "f64 to i64 truncates, saturates, and gives 0 for NaN."
 pub fn to_i64(x: f64) -> i64
     ensures { result ≡ to_i64 x }
 {
-    if x != x {
+    if x.is_nan() {
         return 0; // a NaN has no size
     }
-    let bits = f64::to_bits(x);
+    let bits = x.to_bits();
     signed(bits >> 63 == 1, whole_part(bits))
 }
 
@@ -113,7 +107,7 @@ pub fn u64_to_f64(n: u64) -> f64
     if n < 0x20_0000_0000_0000 {
         return n as f64;
     }
-    let k = 11 - u64::leading_zeros(n);
+    let k = 11 - n.leading_zeros();
     // The leading digit adds one to the exponent's field, and a carry out of the fraction another.
     f64::from_bits(((k as u64 + 1074) << 52) + shifted_to_even(n, k))
 }
@@ -125,8 +119,7 @@ pub fn i64_to_f64(n: i64) -> f64
     if n >= 0 {
         return u64_to_f64(n as u64);
     }
-    // The complement, one less than the size, is an i64 even at i64::MIN.
-    -u64_to_f64((!n) as u64 + 1)
+    -u64_to_f64(n.unsigned_abs())
 }
 
 // The size of a pattern below 2^52, to the nearest whole number, a half upward.
@@ -147,10 +140,10 @@ fn nearest_whole(bits: u64) -> u64
 pub fn round(x: f64) -> f64
     ensures { result ≡ round_away x }
 {
-    if x != x {
+    if x.is_nan() {
         return x;
     }
-    let bits = f64::to_bits(x);
+    let bits = x.to_bits();
     // From 2^52 on every double is a whole number.
     if exponent(bits) >= 1075 {
         return x;
@@ -166,10 +159,10 @@ pub fn round(x: f64) -> f64
 pub fn round_to_i64(x: f64) -> i64
     ensures { result ≡ to_i64 (round_away x) }
 {
-    if x != x {
+    if x.is_nan() {
         return 0;
     }
-    let bits = f64::to_bits(x);
+    let bits = x.to_bits();
     if exponent(bits) < 1075 {
         return signed(bits >> 63 == 1, nearest_whole(bits));
     }

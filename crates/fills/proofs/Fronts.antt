@@ -8,7 +8,7 @@ use lib.IntN.{ℤ}
 use lib.ListN.{length, drop, length-append}
 use lib.Seq.{sets, sets-eq, length-sets}
 use Rattle.table.specs.Keyed.{pick}
-use Rattle.table.specs.Rows.{Cols}
+use Rattle.table.specs.declared.table.Columns.{Columns}
 use Rattle.table.proofs.Stores.{sets_append}
 use Rattle.fills.specs.declared.terms.Book.{Book}
 use Rattle.fills.specs.declared.terms.Order.{Order}
@@ -93,7 +93,7 @@ unrecorded t (o ∷ os) s e =
     unrecorded t os (fill t o s) e ∙ none
 
 -- ---- a run: with a place for each order the records stand in the first places; without recording the slices stay as they are
-module _ (t : Terms) (os : List Order) (b : Book) (c : Cols) (l : Buffers) (r : Book) (d : Cols) (k : Buffers) (h : Runs t os b c l r d k) where
+module _ (t : Terms) (os : List Order) (b : Book) (c : Columns) (l : Buffers) (r : Book) (d : Columns) (k : Buffers) (h : Runs t os b c l r d k) where
   abbrev records-made : List ExecutionRecord
   records-made = (fill_all t os (state b c [])).records
 

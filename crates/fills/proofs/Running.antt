@@ -9,9 +9,10 @@ use lib.IntN.{ℤ, pos}
 use lib.ListN.{length, take, drop, get_or, length-take, drop_of_length-le}
 use lib.Seq.{drop-cons, get_or-take, length-sets}
 use Rattle.table.specs.Keyed.{pick}
-use Rattle.table.specs.Rows.{zip2, give, Cols}
+use Rattle.table.specs.Rows.{zip2, give}
+use Rattle.table.specs.declared.table.Columns.{Columns}
 use Rattle.table.specs.Inner.Rows.{Ordered}
-use Rattle.table.proofs.Columns.{zip_length, zip_get_d}
+use Rattle.table.proofs.Opening.{zip_length, zip_get_d}
 use Rattle.fills.specs.declared.fill.Filled.{Filled}
 use Rattle.fills.specs.declared.terms.Book.{Book}
 use Rattle.fills.specs.declared.terms.Order.{Order}
@@ -54,10 +55,6 @@ module _ (m : ℕ) (s : List ℕ) (q p : List ℤ) (hs : length s ≡ 64) (hq : 
   all-length : length (zip2 give (zip2 order s q) p) ≡ 64
   all-length = zip_length give 64 (zip2 order s q) p (zip_length order 64 s q hs hq) hp
 
-  pub orders_bound : length (orders m s q p) ≤ 64
-  unfolding orders
-  orders_bound = simp length-take (omega (arith, all-length))
-
   pub next-order : (k : ℕ) → k < min m 64 → drop k (orders m s q p) ≡ order (get_or s k 0) (get_or q k (pos 0)) (get_or p k (pos 0)) ∷ drop (k + 1) (orders m s q p)
   unfolding orders
   next-order k h =
@@ -77,24 +74,24 @@ module _ (m : ℕ) (s : List ℕ) (q p : List ℤ) (hs : length s ≡ 64) (hq : 
       drop_of_length-le (take m (zip2 give (zip2 order s q) p)) l
 
 -- ---- before the k-th order: the records made so far, and that the orders left complete the run
-pub record Running (t : Terms) (os : List Order) (b₀ : Book) (c₀ : Cols) (l₀ : Buffers) (b : Book) (c : Cols) (l : Buffers) (k : ℕ) : Type 0 where
+pub record Running (t : Terms) (os : List Order) (b₀ : Book) (c₀ : Columns) (l₀ : Buffers) (b : Book) (c : Columns) (l : Buffers) (k : ℕ) : Type 0 where
   pub made : List ExecutionRecord
   pub ordered : Ordered b.count c
   pub same : fill_all t (drop k os) (state b c made) ≡ fill_all t os (state b₀ c₀ [])
   pub kept : l ≡ stored_all made l₀
 
 -- of any columns, the lengths of the slices; of given ones, the run
-pub record Going (t : Terms) (m : ℕ) (os : List ℕ) (oq op : List ℤ) (b₀ : Book) (c₀ : Cols) (l₀ : Buffers) (b : Book) (c : Cols) (l : Buffers) (k : ℕ) : Type 0 where
+pub record Going (t : Terms) (m : ℕ) (os : List ℕ) (oq op : List ℤ) (b₀ : Book) (c₀ : Columns) (l₀ : Buffers) (b : Book) (c : Columns) (l : Buffers) (k : ℕ) : Type 0 where
   pub long : SameLengths l₀ l
   pub run : Given b₀.count c₀ os oq op → Running t (orders m os oq op) b₀ c₀ l₀ b c l k
 
-module _ (t : Terms) (m : ℕ) (os : List ℕ) (oq op : List ℤ) (b₀ : Book) (c₀ : Cols) (l₀ : Buffers) where
+module _ (t : Terms) (m : ℕ) (os : List ℕ) (oq op : List ℤ) (b₀ : Book) (c₀ : Columns) (l₀ : Buffers) where
   pub going_first : Going t m os oq op b₀ c₀ l₀ b₀ c₀ l₀ 0
   unfolding stored_all
   going_first = record { long = record { words = refl; ints = refl }; run = λ g. record { made = []; ordered = g.ordered; same = refl; kept = refl } }
 
-  module _ (b : Book) (c : Cols) (ws : List ℕ) (is : List ℤ) (k : ℕ) (h : Going t m os oq op b₀ c₀ l₀ b c (buffers ws is b.written) k) where
-    pub going_on : (f : Filled) (r : Book) (c' : Cols) (ws' : List ℕ) (is' : List ℤ) → k < min m 64
+  module _ (b : Book) (c : Columns) (ws : List ℕ) (is : List ℤ) (k : ℕ) (h : Going t m os oq op b₀ c₀ l₀ b c (buffers ws is b.written) k) where
+    pub going_on : (f : Filled) (r : Book) (c' : Columns) (ws' : List ℕ) (is' : List ℤ) → k < min m 64
         → (Ordered b.count c → Fills t (order (get_or os k 0) (get_or oq k (pos 0)) (get_or op k (pos 0))) b c f c')
         → r ≡ kept_in r.written f.book → buffers ws' is' r.written ≡ stored_all (records_of f) (buffers ws is f.book.written)
         → Going t m os oq op b₀ c₀ l₀ r c' (buffers ws' is' r.written) (k + 1)

@@ -1,35 +1,26 @@
 -- A record in lent number slices, by whether there is room.
-use Prim.Native.Nat.{ℕ, suc, ◌+◌, ◌*◌, ◌/◌, ◌≤◌, ◌<◌}
-use mathlib.Core.Path.{◌≡◌, refl, ap, ◌∙◌}
-use mathlib.Core.Bool.{true, false}
-use mathlib.Core.List.{List, [], ◌∷◌}
+use Prim.Native.Nat.{ℕ, ◌+◌, ◌*◌, ◌/◌, ◌≤◌, ◌<◌}
+use mathlib.Core.Path.{◌≡◌, sym, ◌∙◌}
+use mathlib.Core.List.{List}
 use native.Mathlib.Omega.{arith}
 use lib.IntN.{ℤ}
-use lib.ListN.{length, set}
-use lib.Seq.{sets}
+use lib.ListN.{length, take, drop}
+use Rattle.std.proofs.Common.{append_assoc}
+use Rattle.std.proofs.lemmas.List.{drop-drop}
+use lib.Seq.{sets, sets-eq}
+use borrow.Rule.Slice.PartMut.{put_mid}
 use borrow.Author.Tests.{lt-leb, le-leb}
+use Rattle.std.specs.Prelude.{Some, None}
 use Rattle.table.proofs.Keyed.{both_false}
 use Rattle.fills.specs.declared.record.ExecutionRecord.{ExecutionRecord}
 use Rattle.fills.specs.declared.fill.Filled.{Filled}
 use Rattle.fills.specs.Records.{words_of_record, ints_of_record, Buffers, buffers, room, stored, stored_all}
 use Rattle.fills.specs.Inner.Runs.{records_of}
 
--- ---- stores in a row, as code writes them: at i + j, i + (j + 1), ..
-module _ {A : Type 0} where
-  abbrev pub run : List A → ℕ → ℕ → List A → List A
-  run l i j [] = l
-  run l i j (a ∷ vs) = run (set l (i + j) a) i (j + 1) vs
-
-  run_sets : (l : List A) (i j : ℕ) (vs : List A) → run l i j vs ≡ sets l (i + j) vs
-  run_sets l i j [] = refl
-  run_sets l i j (a ∷ vs) =
-      let e : i + (j + 1) ≡ suc (i + j) = omega arith in
-      run_sets (set l (i + j) a) i (j + 1) vs ∙ ap (λ k. sets (set l (i + j) a) k vs) e
-
-  pub stores_are_sets : (l : List A) (i : ℕ) (a : A) (vs : List A) → run (set l i a) i 1 vs ≡ sets l i (a ∷ vs)
-  stores_are_sets l i a vs =
-      let e : i + 1 ≡ suc i = omega arith in
-      run_sets (set l i a) i 1 vs ∙ ap (λ k. sets (set l i a) k vs) e
+-- ---- a run of values copied over part of a slice
+pub copied-is_sets : {A : Type 0} (l : List A) (i n : ℕ) (vs ys : List A) → ys ≡ vs → n ≡ length vs → i + length vs ≤ length l
+    → put_mid i n l ys ≡ sets l i vs
+copied-is_sets l i n vs ys e k h = simp (e, k, drop-drop) (sym (append_assoc (take i l) vs (drop (i + length vs) l)) ∙ sym (sets-eq vs l i h))
 
 -- ---- one record
 module _ (r : ExecutionRecord) (ws : List ℕ) (is : List ℤ) (n : ℕ) where
@@ -54,10 +45,10 @@ module _ (r : ExecutionRecord) (ws : List ℕ) (is : List ℤ) (n : ℕ) where
 
 -- ---- the record of a fill, if there is one
 module _ (f : Filled) (b : Buffers) where
-  pub keeps_none : f.recorded ≡ false → b ≡ stored_all (records_of f) b
+  pub keeps_none : f.«record» ≡ None → b ≡ stored_all (records_of f) b
   unfolding stored_all
   keeps_none h = simp h
 
-  pub keeps_one : f.recorded ≡ true → stored f.«record» b ≡ stored_all (records_of f) b
+  pub keeps_one : (r : ExecutionRecord) → f.«record» ≡ Some r → stored r b ≡ stored_all (records_of f) b
   unfolding stored_all
-  keeps_one h = simp h
+  keeps_one r h = simp h

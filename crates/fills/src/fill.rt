@@ -2,63 +2,51 @@
 ghost use Rattle.std.specs.Prelude.{◌≡◌, ◌<◌, pos, get_or};
 ghost use Rattle.table.specs.Rows.{cols};
 ghost use Rattle.table.specs.Inner.Rows.{Ordered};
-ghost use Rattle.fills.specs.Orders.{order, next_count};
+ghost use Rattle.fills.specs.Orders.{order};
 ghost use Rattle.fills.specs.Records.{buffers, stored_all};
-ghost use Rattle.fills.specs.Inner.Runs.{orders, sequence_after, settled_in, counted_in, records_of, kept_in, Fills, Given, Runs};
+ghost use Rattle.fills.specs.Inner.Runs.{orders, settled_in, counted_in, records_of, kept_in, Fills, Given, Runs};
 
 use crate::deal::{Deal, deal_of};
 use crate::record::{ExecutionRecord, record_of, store};
 use crate::terms::{Book, Order, Terms};
 use position::{Shares, Symbol};
-use table::Found;
+use table::{Columns, Found};
 
-// One fill: the scalars after it, and the record of it, to be kept where `recorded` says so.
+// One fill: the scalars after it, and the record of it, if one is kept.
 #[derive(Clone, Copy)]
 pub struct Filled {
     pub book: Book,
-    pub recorded: bool,
-    pub record: ExecutionRecord,
-}
-
-// One more, "saturating at the top".
-fn next_count(n: u64) -> u64
-    ensures { result ≡ next_count n }
-{
-    if n < 0xffff_ffff_ffff_ffff { n + 1 } else { n }
+    pub record: Option<ExecutionRecord>,
 }
 
 // "The trimmed count and the lost notional rise even when nothing remains."
+#[tactic(auto, unfolding(crate::specs::Inner::Runs::counted_in))]
 fn counted(b: Book, d: Deal) -> Book
     ensures { result ≡ counted_in d b }
 {
-    if !d.trimmed {
-        return b;
-    }
-    let trimmed = next_count(b.trimmed);
-    let shortfall = sums::saturating_add(b.shortfall, d.lost);
-    Book {
-        trimmed,
-        shortfall,
-        ..b
+    match d.lost {
+        None => b,
+        Some(lost) => Book {
+            trimmed: b.trimmed.saturating_add(1),
+            shortfall: sums::saturating_add(b.shortfall, lost),
+            ..b
+        },
     }
 }
 
-// The record count after a fill: it rises only while recording.
-fn sequence_after(n: u64, recording: bool) -> u64
-    ensures { result ≡ sequence_after recording n }
-{
-    if recording { next_count(n) } else { n }
-}
-
-// The scalars after a fill that leaves this cash and this count of positions.
+// The scalars after a fill that leaves this cash and this count of positions: the record count rises only while recording.
+#[tactic(auto, unfolding(crate::specs::Inner::Runs::settled_in))]
 fn settled_in(b: Book, cash: i64, count: usize, recorded: bool, hint: usize) -> Book
     ensures { result ≡ settled_in cash count recorded hint b }
 {
-    let sequence = sequence_after(b.sequence, recorded);
     Book {
         cash,
         count,
-        sequence,
+        sequence: if recorded {
+            b.sequence.saturating_add(1)
+        } else {
+            b.sequence
+        },
         hint,
         ..b
     }
@@ -67,47 +55,30 @@ fn settled_in(b: Book, cash: i64, count: usize, recorded: bool, hint: usize) -> 
 // The place after the one that was found: where the next symbol is looked for first.
 fn place_after(f: Found) -> usize {
     match f {
-        Found::At(i) => { if i < 64 { i + 1 } else { 0 } }
-        Found::Absent(i) => { if i < 64 { i + 1 } else { 0 } }
+        Found::At(i) | Found::Absent(i) => { if i < 64 { i + 1 } else { 0 } }
     }
 }
 
 // Fills one order: "Symbols with no fill keep their positions to the last field."
-pub fn fill_one(
-    symbol: &mut [u64; 64],
-    quantity: &mut [i64; 64],
-    average: &mut [i64; 64],
-    realized: &mut [i64; 64],
-    total: &mut [i64; 64],
-    b: Book,
-    o: Order,
-    t: Terms,
-) -> Filled
-    ensures { let c = cols symbol.old quantity.old average.old realized.old total.old in
-        let d = cols symbol.new quantity.new average.new realized.new total.new in
-        Ordered b.count c → Fills t o b c result d }
+pub fn fill_one(columns: &mut Columns, b: Book, o: Order, t: Terms) -> Filled
+    ensures { Ordered b.count columns.old → Fills t o b columns.old result columns.new }
 {
     let d = deal_of(o, b.cash, t);
-    let record = record_of(t, o, d, b.sequence, b.cash);
     let c = counted(b, d);
     if d.quantity.is_zero() {
         return Filled {
             book: c,
-            recorded: false,
-            record,
+            record: None,
         };
     }
-    let n = b.count;
-    let f = table::find(&symbol[..], n, o.symbol.0, b.hint);
-    let p = table::held(symbol, quantity, average, realized, total, f, o.symbol.0);
+    let f = table::find(&columns.symbol, b.count, o.symbol.0, b.hint);
+    let p = columns.held(f, o.symbol.0);
     let z = p.fill(d.quantity, d.price);
-    let count = table::post(symbol, quantity, average, realized, total, n, f, z);
-    let recorded = t.recording;
-    let book = settled_in(c, d.cash_after, count, recorded, place_after(f));
+    let count = columns.post(b.count, f, z);
+    let record = record_of(t, o, d, b.sequence, b.cash);
     Filled {
-        book,
-        recorded,
-        record,
+        book: settled_in(c, d.cash_after, count, t.recording, place_after(f)),
+        record: t.recording.then_some(record),
     }
 }
 
@@ -116,36 +87,30 @@ fn keep(words: &mut [u64], ints: &mut [i64], f: Filled) -> Book
     ensures { (result ≡ kept_in result.written f.book) × (buffers words.new ints.new result.written
         ≡ stored_all (records_of f) (buffers words.old ints.old f.book.written)) }
 {
-    if !f.recorded {
-        return f.book;
+    match f.record {
+        None => f.book,
+        Some(r) => Book {
+            written: store(words, ints, f.book.written, r),
+            ..f.book
+        },
     }
-    let r = f.record;
-    let written = store(words, ints, f.book.written, r);
-    let b = f.book;
-    Book { written, ..b }
 }
 
+// The order at place k of three columns.
 fn order_at(os: &[u64; 64], oq: &[i64; 64], op: &[i64; 64], k: usize) -> Order
     requires { k < 64 }
     ensures { result ≡ order (get_or os.now k 0) (get_or oq.now k (pos 0)) (get_or op.now k (pos 0)) }
 {
-    let s = os[k];
-    let q = oq[k];
-    let p = op[k];
     Order {
-        symbol: Symbol(s),
-        quantity: Shares::from_raw(q),
-        price: p,
+        symbol: Symbol(os[k]),
+        quantity: Shares::from_raw(oq[k]),
+        price: op[k],
     }
 }
 
 // Fills the first m orders of three columns, one after the other; "records go into a lent run of execution records, in the order filled".
 pub fn fill_all(
-    symbol: &mut [u64; 64],
-    quantity: &mut [i64; 64],
-    average: &mut [i64; 64],
-    realized: &mut [i64; 64],
-    total: &mut [i64; 64],
+    columns: &mut Columns,
     words: &mut [u64],
     ints: &mut [i64],
     os: &[u64; 64],
@@ -155,20 +120,17 @@ pub fn fill_all(
     b0: Book,
     t: Terms,
 ) -> Book
-    ensures { let c = cols symbol.old quantity.old average.old realized.old total.old in
-        let d = cols symbol.new quantity.new average.new realized.new total.new in
+    ensures { let c = columns.old in
+        let d = columns.new in
         Given b0.count c os.now oq.now op.now
         → Runs t (orders m os.now oq.now op.now)
         b0 c (buffers words.old ints.old b0.written) result d (buffers words.new ints.new result.written) }
 {
-    let n = table::used(m, 64);
     let mut b = b0;
-    let mut k = 0usize;
-    while k < n {
+    for k in 0..m.min(64) {
         let o = order_at(os, oq, op, k);
-        let f = fill_one(symbol, quantity, average, realized, total, b, o, t);
+        let f = fill_one(columns, b, o, t);
         b = keep(words, ints, f);
-        k += 1;
     }
     b
 }

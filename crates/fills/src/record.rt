@@ -9,7 +9,7 @@ use crate::terms::{Order, Terms};
 use position::{Shares, Symbol};
 
 // Why a fill was made.
-#[derive(Clone, Copy)]
+#[derive(Clone, Copy, PartialEq, Eq)]
 pub enum ExecutionKind {
     // While rebalancing to target weights.
     Rebalance,
@@ -41,37 +41,28 @@ pub struct ExecutionRecord {
 }
 
 // The record of a deal, with the running count and the cash before it.
+#[tactic(auto, unfolding(crate::specs::Inner::Deal::record_by))]
 pub(crate) fn record_of(t: Terms, o: Order, d: Deal, sequence: u64, cash: i64) -> ExecutionRecord
     ensures { result ≡ record_by t o d sequence cash }
 {
-    let period_index = t.period_index;
-    let kind = t.kind;
-    let symbol = o.symbol;
-    let quantity = d.quantity;
-    let price = d.price;
-    let reference_price = o.price;
-    let notional = d.notional;
-    let cost = d.cost;
-    let cash_after = d.cash_after;
-    let reference_notional = sizing::notional_of(quantity, reference_price);
-    let cash_delta = sums::saturating_sub(cash_after, cash);
     ExecutionRecord {
         sequence,
-        period_index,
-        kind,
-        symbol,
-        quantity,
-        price,
-        reference_price,
-        notional,
-        reference_notional,
-        cost,
-        cash_delta,
-        cash_after,
+        period_index: t.period_index,
+        kind: t.kind,
+        symbol: o.symbol,
+        quantity: d.quantity,
+        price: d.price,
+        reference_price: o.price,
+        notional: d.notional,
+        reference_notional: sizing::notional_of(d.quantity, o.price),
+        cost: d.cost,
+        cash_delta: sums::saturating_sub(d.cash_after, cash),
+        cash_after: d.cash_after,
     }
 }
 
 // The number that stands for a kind among number slices.
+// Kept: a number beside the enum, since records lie in lent number slices and C names a kind by its number (`words_of_record`).
 pub fn kind_number(k: ExecutionKind) -> u64
     ensures { result ≡ kind_number k }
 {
@@ -81,68 +72,56 @@ pub fn kind_number(k: ExecutionKind) -> u64
     }
 }
 
-// The kind for which a number stands there.
+// The kind for which a number stands there: 0 is a rebalance, and any other number a stop exit.
+#[tactic(auto, unfolding(crate::specs::Records::kind_of))]
 pub fn kind_of(n: u64) -> ExecutionKind
     ensures { result ≡ kind_of n }
 {
-    if n == 0 {
-        return ExecutionKind::Rebalance;
+    match n {
+        0 => ExecutionKind::Rebalance,
+        _ => ExecutionKind::StopExit,
     }
-    ExecutionKind::StopExit
 }
 
-// Writes the four words of a record from place 4 times `at` on.
-fn store_words(words: &mut [u64], at: usize, r: ExecutionRecord)
-    requires { at * 4 + 4 ≤ length words.old }
-    ensures { words.new ≡ sets words.old (at * 4) (words_of_record r) }
+// A record as four words.
+fn words_of(r: ExecutionRecord) -> [u64; 4]
+    ensures { result ≡ words_of_record r }
 {
-    let i = at * 4;
-    let n = r.sequence;
-    let p = r.period_index;
-    let kind = r.kind;
-    let k = kind_number(kind);
-    let s = r.symbol.0;
-    words[i] = n;
-    words[i + 1] = p;
-    words[i + 2] = k;
-    words[i + 3] = s;
+    [r.sequence, r.period_index, kind_number(r.kind), r.symbol.0]
 }
 
-// Writes the eight signed numbers of a record from place 8 times `at` on.
-fn store_ints(ints: &mut [i64], at: usize, r: ExecutionRecord)
-    requires { at * 8 + 8 ≤ length ints.old }
-    ensures { ints.new ≡ sets ints.old (at * 8) (ints_of_record r) }
+// A record as eight signed numbers.
+fn ints_of(r: ExecutionRecord) -> [i64; 8]
+    ensures { result ≡ ints_of_record r }
 {
-    let i = at * 8;
-    let q = r.quantity.raw();
-    let p = r.price;
-    let rp = r.reference_price;
-    let n = r.notional;
-    let rn = r.reference_notional;
-    let c = r.cost;
-    let d = r.cash_delta;
-    let a = r.cash_after;
-    ints[i] = q;
-    ints[i + 1] = p;
-    ints[i + 2] = rp;
-    ints[i + 3] = n;
-    ints[i + 4] = rn;
-    ints[i + 5] = c;
-    ints[i + 6] = d;
-    ints[i + 7] = a;
+    [
+        r.quantity.raw(),
+        r.price,
+        r.reference_price,
+        r.notional,
+        r.reference_notional,
+        r.cost,
+        r.cash_delta,
+        r.cash_after,
+    ]
+}
+
+// Writes the values of a record as those at place `at`, where each record has as many.
+fn store_values<T: Copy, const N: usize>(run: &mut [T], at: usize, values: [T; N])
+    requires { at * N + N ≤ length run.old }
+    ensures { run.new ≡ sets run.old (at * N) values }
+{
+    run[at * N..at * N + N].copy_from_slice(&values);
 }
 
 // Writes a record as the one at place `at`, and returns the next place. Where either slice has no room for it, both stay as they are.
 pub fn store(words: &mut [u64], ints: &mut [i64], at: usize, r: ExecutionRecord) -> usize
     ensures { buffers words.new ints.new result ≡ stored r (buffers words.old ints.old at) }
 {
-    if words.len() / 4 <= at {
+    if words.len() / 4 <= at || ints.len() / 8 <= at {
         return at;
     }
-    if ints.len() / 8 <= at {
-        return at;
-    }
-    store_words(words, at, r);
-    store_ints(ints, at, r);
+    store_values(words, at, words_of(r));
+    store_values(ints, at, ints_of(r));
     at + 1
 }

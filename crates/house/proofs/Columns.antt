@@ -1,5 +1,5 @@
 -- Tests of all of a few, and columns that are filled place by place.
-use Rattle.std.proofs.Common.{◌≡◌, ℕ, zero, suc, ◌+◌, ◌<◌, ◌≤◌, Bool, true, false, cond, ◌&&◌, eqb, ltb, List, ◌∷◌, length, get_or, set, replicate, sym, refl, ap, ◌∙◌, subst, add-one, arith, length-set, get_or-set_other, get_or-set_same, ext_get_or, ltb-false, ltb-true, le-ltb, lt-ltb, eqb-true}
+use Rattle.std.proofs.Common.{◌≡◌, ℕ, zero, suc, ◌+◌, ◌<◌, ◌≤◌, Bool, true, false, cond, ◌&&◌, eqb, ltb, Some, None, List, ◌∷◌, length, get_or, set, replicate, sym, refl, ap, ◌∙◌, subst, add-one, arith, length-set, get_or-set_other, get_or-set_same, ext_get_or, ltb-false, ltb-true, le-ltb, lt-ltb, eqb-true}
 use borrow.Author.Tests.{eqb-false}
 use Rattle.answer.proofs.Choice.{both_true}
 use Rattle.house.specs.Group.{every}
@@ -30,10 +30,29 @@ unfolding every
 every_of zero t e = refl
 every_of (suc n) t e = rw (every_of n t (λ i h. e i (omega arith)), e n (omega arith))
 
+pub every_no : (n : ℕ) (t : ℕ → Bool) (i : ℕ) → i < n → t i ≡ false → every n t ≡ false
+unfolding every
+every_no zero t i h e = absurd (omega arith)
+every_no (suc n) t i h e =
+    below_or_at (λ j. j ≡ i → every n t && t n ≡ false) n i h (λ l q. rw (every_no n t i l e)) (λ q. last (every n t) (t n) (rw q e)) refl
+  where
+    last : (a b : Bool) → b ≡ false → a && b ≡ false
+    last true b q = q
+    last false b q = refl
+
 pub every_cong : (n : ℕ) (t u : ℕ → Bool) → ((i : ℕ) → i < n → t i ≡ u i) → every n t ≡ every n u
 unfolding every
 every_cong zero t u e = refl
 every_cong (suc n) t u e = rw (every_cong n t u (λ i h. e i (omega arith)), e n (omega arith))
+
+-- a value that is there under a test, and one that is not
+pub test_passed : {A : Type 0} (b : Bool) (x y : A) → Some x ≡ cond b (Some y) None → (b ≡ true) × (x ≡ y)
+test_passed true x y e = (refl, cc)
+test_passed false x y e = cc
+
+pub test_failed : {A : Type 0} (b : Bool) (y : A) → None ≡ cond b (Some y) None → b ≡ false
+test_failed true y e = cc
+test_failed false y e = refl
 
 -- ---- columns
 module _ {A : Type 0} where

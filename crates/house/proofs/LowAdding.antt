@@ -1,13 +1,12 @@
 -- The loops on low words: what they have come to after some accounts or parts, and one more.
-use Rattle.std.proofs.Common.{◌≡◌, ℕ, suc, ◌+◌, ◌*◌, ◌%◌, ◌^◌, ◌<◌, ◌≤◌, Bool, true, false, cond, eqb, ltb, List, length, get_or, set, replicate, ℤ, pos, refl, ap, ◌∙◌, subst, mul-le-mul, add-one, arith, length-set, get_or-set_other, get_or-set_same, ltb-false, ltb-true, le-ltb, lt-ltb, eqb-true}
+use Rattle.std.proofs.Common.{◌≡◌, ℕ, ◌+◌, ◌%◌, ◌^◌, ◌<◌, ◌≤◌, Bool, true, false, cond, eqb, ltb, List, length, get_or, set, replicate, ℤ, pos, refl, ap, ◌∙◌, add-one, arith, length-set, get_or-set_other, get_or-set_same, ltb-false, ltb-true, le-ltb, lt-ltb, eqb-true}
 use lib.Bits.{bit_or, or_add_and, and_le_l, and_le_r}
 use lib.ListN.{length-replicate, get_or-replicate}
 use borrow.Author.Tests.{eqb-false}
 use Rattle.house.specs.Group.{Ends, Group}
-use Rattle.house.specs.Places.{ends_at, group_in, column}
+use Rattle.house.specs.Places.{column}
 use Rattle.house.specs.Inner.Raised.{half, lowered, sum_n}
-use Rattle.house.specs.Inner.Parts.{Known}
-use Rattle.house.specs.Inner.Low.{away, first_word, last_word, step_word, low_sum, BothWithin, LowAdded, LowSummed}
+use Rattle.house.specs.Inner.Low.{away, first_word, last_word, step_word, low_sum, Known, BothWithin, LowAdded, LowSummed}
 use Rattle.house.specs.declared.low.LowPart.{LowPart}
 use Rattle.house.proofs.Columns.{below_or_at, column-first, filled_on}
 
@@ -47,8 +46,7 @@ module _ (steps : ℕ → ℕ) (lo₀ lo : List ℕ) (a : ℕ) (t : Words steps 
           let d : (i ≡ a → ⊥) = eqb-false i a p in
           rw (get_or-set_other lo a i w 0 d) (t i h ∙ ap (λ y. (get_or lo₀ i 0 + y) % 2 ^ 64) (same d (ltb i a) refl))
 
-pub record LowAdding (n : ℕ) (ends : ℕ → Ends) (lo₀ lo : List ℕ) (f g s a : ℕ) : Type 0 where
-  pub within : a ≤ n
+pub record LowAdding (ends : ℕ → Ends) (lo₀ lo : List ℕ) (f g s a : ℕ) : Type 0 where
   pub long : length lo ≡ 32
   pub first : f ≡ low_sum a (λ i. first_word (ends i))
   pub gain : g ≡ low_sum a (λ i. step_word (ends i))
@@ -56,12 +54,11 @@ pub record LowAdding (n : ℕ) (ends : ℕ → Ends) (lo₀ lo : List ℕ) (f g 
   pub known : (i : ℕ) → i < a → Known (ends i)
   pub totals : Words (λ i. step_word (ends i)) lo₀ lo a
 
-module _ (n : ℕ) (ends : ℕ → Ends) (lo₀ : List ℕ) where
-  pub low_adding_first : length lo₀ ≡ 32 → ((i : ℕ) → i < 32 → get_or lo₀ i 0 < 2 ^ 64) → LowAdding n ends lo₀ lo₀ half half 0 0
+module _ (ends : ℕ → Ends) (lo₀ : List ℕ) where
+  pub low_adding_first : length lo₀ ≡ 32 → ((i : ℕ) → i < 32 → get_or lo₀ i 0 < 2 ^ 64) → LowAdding ends lo₀ lo₀ half half 0 0
   unfolding sum_n
   low_adding_first l w =
       record {
-        within = omega arith;
         long = l;
         first = refl;
         gain = refl;
@@ -71,13 +68,12 @@ module _ (n : ℕ) (ends : ℕ → Ends) (lo₀ : List ℕ) where
       }
 
   pub low_adding_on : (lo : List ℕ) (f g s a : ℕ) (f' g' s' t x y : ℕ)
-      → n ≤ 32 → LowAdding n ends lo₀ lo f g s a → a < n → Known (ends a)
+      → a < 32 → LowAdding ends lo₀ lo f g s a → Known (ends a)
       → x ≡ first_word (ends a) → y ≡ step_word (ends a) → s' ≡ bit_or s (bit_or (away (first_word (ends a))) (away (last_word (ends a))))
       → f' ≡ (f + x) % 2 ^ 64 → g' ≡ (g + y) % 2 ^ 64 → t ≡ (get_or lo a 0 + y) % 2 ^ 64
-      → LowAdding n ends lo₀ (set lo a t) f' g' s' (a + 1)
-  low_adding_on lo f g s a f' g' s' t x y m h l k ex ey es ef eg et =
+      → LowAdding ends lo₀ (set lo a t) f' g' s' (a + 1)
+  low_adding_on lo f g s a f' g' s' t x y m h k ex ey es ef eg et =
       record {
-        within = omega arith;
         long = length-set lo a t ∙ h.long;
         first = low_on _ a f x f' h.first ex ef;
         gain = low_on _ a g y g' h.gain ey eg;
@@ -88,20 +84,19 @@ module _ (n : ℕ) (ends : ℕ → Ends) (lo₀ : List ℕ) where
             let r = or_right s (bit_or one other) bound o in
             below_or_at (λ j. BothWithin bound (ends j)) a i (rw (add-one a) at z) (h.near bound i (or_left s (bit_or one other) bound o)) (or_left one other bound r, or_right one other bound r);
         known = λ i z. below_or_at (λ j. Known (ends j)) a i (rw (add-one a) at z) (h.known i) k;
-        totals = words_on _ lo₀ lo a h.totals (omega arith) t y h.long et ey;
+        totals = words_on _ lo₀ lo a h.totals m t y h.long et ey;
       }
 
-  pub low_adding_last : (lo : List ℕ) (f g s a : ℕ) → n ≤ a → LowAdding n ends lo₀ lo f g s a → LowAdded n ends (record { first = f; gain = g; spread = s }) lo₀ lo
-  low_adding_last lo f g s a l h =
-      let e : a ≡ n = omega (arith, h.within) in
-      record {
-        first = h.first ∙ rw e;
-        gain = h.gain ∙ rw e;
-        near = λ bound i q z. h.near bound i q (omega arith);
-        known = λ i z. h.known i (omega arith);
-        long = h.long;
-        totals = λ i z. h.totals i z ∙ rw e;
-      }
+pub low_adding_last : (n p : ℕ) (group : Group) (lo₀ lo : List ℕ) (f g s a : ℕ) → a ≡ n → LowAdding (group p) lo₀ lo f g s a → LowAdded n p group (record { first = f; gain = g; spread = s }) lo₀ lo
+low_adding_last n p group lo₀ lo f g s a e h =
+    record {
+      first = h.first ∙ rw e;
+      gain = h.gain ∙ rw e;
+      near = λ bound i q z. h.near bound i q (omega arith);
+      known = λ i z. h.known i (omega arith);
+      long = h.long;
+      totals = λ i z. h.totals i z ∙ rw e;
+    }
 
 -- ---- all parts
 -- the word of account i after p parts
@@ -117,13 +112,8 @@ word_on n g p i w e = rw (add-one p) (go (ltb i n) e)
     go true q = omega arith
     go false q = omega arith
 
-module _ (n m : ℕ) (marks : List ℕ) (equities : List ℤ) where
-  abbrev g : Group
-  g = group_in n marks equities
-
-  pub record LowSumming (lo : List ℕ) (fs gs : List ℤ) (s at p : ℕ) : Type 0 where
-    pub within : p ≤ m
-    pub place : at ≡ p * n
+module _ (n m : ℕ) (g : Group) where
+  pub record LowSumming (lo : List ℕ) (fs gs : List ℤ) (s p : ℕ) : Type 0 where
     pub long : length lo ≡ 32
     pub near : (bound q a : ℕ) → s < bound → q < p → a < n → BothWithin bound (g q a)
     pub known : (q a : ℕ) → q < p → a < n → Known (g q a)
@@ -131,12 +121,10 @@ module _ (n m : ℕ) (marks : List ℕ) (equities : List ℤ) where
     pub gains : gs ≡ column 64 (pos 0) p (λ q. lowered (low_sum n (λ a. step_word (g q a))))
     pub totals : (i : ℕ) → i < 32 → get_or lo i 0 ≡ word_after n g p i
 
-  pub low_summing_first : LowSumming (replicate 32 half) (replicate 64 (pos 0)) (replicate 64 (pos 0)) 0 0 0
+  pub low_summing_first : LowSumming (replicate 32 half) (replicate 64 (pos 0)) (replicate 64 (pos 0)) 0 0
   unfolding sum_n
   low_summing_first =
       record {
-        within = omega arith;
-        place = omega arith;
         long = length-replicate 32 half;
         near = λ bound q a h z. absurd (omega arith);
         known = λ q a z. absurd (omega arith);
@@ -149,23 +137,15 @@ module _ (n m : ℕ) (marks : List ℕ) (equities : List ℤ) where
       none true = omega arith
       none false = omega arith
 
-  module _ (lo : List ℕ) (fs gs : List ℤ) (s at p : ℕ) (h : LowSumming lo fs gs s at p) where
+  module _ (lo : List ℕ) (fs gs : List ℤ) (s p : ℕ) (h : LowSumming lo fs gs s p) where
     pub low-words : (i : ℕ) → i < 32 → get_or lo i 0 < 2 ^ 64
     low-words i l = rw (h.totals i l) (omega arith)
 
-    pub low_part_there : p < m → 2 * (at + n) ≤ 2 * (m * n)
-    low_part_there l =
-        let e = mul-le-mul {n₁ = suc p} {m₁ = n} {n₂ = m} {m₂ = n} l (omega arith) in
-        omega (arith, e, h.place)
-
     pub low_summing_on : (r : LowPart) (lo' : List ℕ) (x y : ℤ) → m ≤ 64 → p < m
-        → LowAdded n (λ a. ends_at marks equities (at + a)) r lo lo' → x ≡ lowered r.first → y ≡ lowered r.gain
-        → LowSumming lo' (set fs p x) (set gs p y) (bit_or s r.spread) (at + n) (p + 1)
-    low_summing_on r lo' x y b l a ex ey =
-        let d : LowAdded n (g p) r lo lo' = subst (λ (z : ℕ). LowAdded n (λ i. ends_at marks equities (z + i)) r lo lo') h.place a in
+        → LowAdded n p g r lo lo' → x ≡ lowered r.first → y ≡ lowered r.gain
+        → LowSumming lo' (set fs p x) (set gs p y) (bit_or s r.spread) (p + 1)
+    low_summing_on r lo' x y b l d ex ey =
         record {
-          within = omega arith;
-          place = rw (h.place, add-one p) (omega arith);
           long = d.long;
           near = λ bound q i o z w.
               below_or_at (λ j. BothWithin bound (g j i)) p q (rw (add-one p) at z) (λ u. h.near bound q i (or_left s r.spread bound o) u w) (d.near bound i (or_right s r.spread bound o) w);
@@ -175,13 +155,18 @@ module _ (n m : ℕ) (marks : List ℕ) (equities : List ℤ) where
           totals = λ i z. word_on n g p i (get_or lo' i 0) (d.totals i z ∙ ap (λ w. (w + cond (ltb i n) (step_word (g p i)) 0) % 2 ^ 64) (h.totals i z));
         }
 
-    pub low_summing_last : n ≤ 32 → m ≤ p → LowSummed n m marks equities (record { spread = s; firsts = fs; gains = gs; lo = lo })
-    low_summing_last b l =
-        let e : p ≡ m = omega (arith, h.within) in
-        record {
-          near = λ bound q a o z. h.near bound q a o (omega arith);
-          known = λ q a z. h.known q a (omega arith);
-          firsts = h.firsts ∙ rw e;
-          gains = h.gains ∙ rw e;
-          totals = λ a z. h.totals a (omega arith) ∙ rw (lt-ltb a n z, e);
-        }
+    module _ (e : p ≡ m) where
+      -- an account's total
+      pub low-total : (a : ℕ) → a < 32 → a < n → get_or lo a 0 ≡ low_sum m (λ q. step_word (g q a))
+      low-total a b z = h.totals a b ∙ rw (lt-ltb a n z, e)
+
+      pub low_summing_last : (cs : List ℤ) → cs ≡ column 32 (pos 0) n (λ a. lowered (low_sum m (λ q. step_word (g q a))))
+          → LowSummed n m g (record { spread = s; parts = record { firsts = fs; gains = gs; changes = cs } })
+      low_summing_last cs ec =
+          record {
+            near = λ bound q a o z. h.near bound q a o (omega arith);
+            known = λ q a z. h.known q a (omega arith);
+            firsts = h.firsts ∙ rw e;
+            gains = h.gains ∙ rw e;
+            changes = ec;
+          }

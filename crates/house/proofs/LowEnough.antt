@@ -1,23 +1,15 @@
 -- Low words are enough where every equity is within 2 ^ 55 of 0: no sum leaves i64, and so its upper word is known.
-use Rattle.std.proofs.Common.{◌≡◌, ℕ, zero, suc, ◌+◌, ◌-◌, ◌*◌, ◌/◌, ◌%◌, ◌^◌, ◌<◌, ◌≤◌, true, ◌⊎◌, List, get_or, replicate, ℤ, pos, negsuc, ◌+ℤ◌, ◌-ℤ◌, sym, refl, ap, ◌∙◌, inl, inr, ⊎_elim, arith, w64, SFits, of_z, eqb-true}
-use lib.ListN.{get_or-replicate}
+use Rattle.std.proofs.Common.{◌≡◌, ℕ, zero, suc, ◌+◌, ◌-◌, ◌*◌, ◌%◌, ◌^◌, ◌<◌, ◌≤◌, true, ◌⊎◌, ℤ, pos, negsuc, ◌+ℤ◌, ◌-ℤ◌, sym, refl, ap, ◌∙◌, inl, inr, ⊎_elim, arith, w64, SFits, of_z}
 use Rattle.sums.proofs.Ints.{P, N, P-add, P-sub, one_sided, fits_of}
-use Rattle.house.specs.Group.{Ends, Group, first_of, change_of, every, in_i64, sum_to, first_sum, summed_change, account_change}
-use Rattle.house.specs.Places.{group_in}
-use Rattle.house.specs.Inner.Raised.{half, raised, last_of, between, moved, lowered, sum_n, summed, ended, total_at}
-use Rattle.house.specs.Inner.Parts.{Known, first_ended, gain_ended, part_fits_of, Summed}
-use Rattle.house.specs.Inner.Low.{away, step, first_word, step_word, low_sum, LowSummed}
+use Rattle.house.specs.Group.{Equity, given, absent, Ends, Group, of_both, first_of, change_of, every, in_i64, sum_to, first_sum, summed_change, account_change, part_in_i64}
+use Rattle.house.specs.Inner.Raised.{half, raised, lowered, sum_n, summed}
+use Rattle.house.specs.Inner.Parts.{Summed}
+use Rattle.house.specs.Inner.Low.{away, step, first_word, step_word, low_sum, last_of, Known, LowSummed}
 use Rattle.house.specs.declared.low.LowParts.{LowParts}
-use Rattle.house.proofs.Raised.{in_is, in_yes, ended-fits}
+use Rattle.house.proofs.Raised.{word_raised, raised_parts, raised_lt, in_is, in_yes, ended-value}
 use Rattle.house.proofs.Columns.{every_of, column_cong}
-use Rattle.house.proofs.Reporting.{change_by, moved-raised, summed_cong, part_fits_lem}
 
 -- ---- words and raised numbers
-word_raised : (z : ℤ) → SFits w64 z → (of_z w64 z + half) % 2 ^ 64 ≡ raised z
-unfolding raised
-word_raised (pos n) f = omega (arith, f.sfits)
-word_raised (negsuc n) f = omega (arith, f.sfits)
-
 -- a word and the raised number, from 0 on and below it
 abbrev Beside : ℕ → ℕ → Type 0
 Beside w x = ((w < half) × (x ≡ w + half)) ⊎ ((half ≤ w) × (x + half ≡ w) × (w < 2 ^ 64))
@@ -33,8 +25,11 @@ wraps a = omega arith
 once_more : (a b : ℕ) → a ≡ b + 2 ^ 64 → a % 2 ^ 64 ≡ b % 2 ^ 64
 once_more a b e = omega arith
 
+abbrev between : ℕ → ℕ → ℕ
+between from to = (to + (3 * half - from)) % 2 ^ 64
+
 step_by : (f l x y : ℕ) → Beside f x → Beside l y → (step f l + half) % 2 ^ 64 ≡ between x y
-unfolding step between
+unfolding step
 step_by f l x y a b =
     wraps (l + (2 ^ 64 - f))
     ∙ ⊎_elim
@@ -50,8 +45,20 @@ step_by f l x y a b =
     b)
     a
 
-step-moved : (e : Ends) → Known e → (step_word e + half) % 2 ^ 64 ≡ moved e
-step-moved e k = step_by _ _ _ _ (beside (first_of e) k.first) (beside (last_of e) k.last)
+change_by : (f l : Equity) → of_both (λ a b. b -ℤ a) f l ≡ of_both (λ a b. b) f l -ℤ of_both (λ a b. a) f l
+change_by (given a) (given b) = refl
+change_by (given a) absent = refl
+change_by absent l = refl
+
+step-raised : (e : Ends) → Known e → in_i64 (change_of e) ≡ true → (step_word e + half) % 2 ^ 64 ≡ raised (change_of e)
+step-raised e k h =
+    let f = first_of e in
+    let l = last_of e in
+    let d : change_of e ≡ l -ℤ f = change_by e.first e.last in
+    let g : SFits w64 (l -ℤ f) = rw d at (in_yes (change_of e) h) in
+    step_by _ _ _ _ (beside f k.first) (beside l k.last)
+    ∙ omega (arith, raised_parts f k.first, raised_parts l k.last, raised_parts (l -ℤ f) g, P-sub l f, raised_lt f k.first, raised_lt l k.last, raised_lt (l -ℤ f) g)
+    ∙ ap raised (sym d)
 
 sums_agree : (n : ℕ) (f g : ℕ → ℕ) → ((i : ℕ) → i < n → (f i + half) % 2 ^ 64 ≡ g i) → (sum_n n f + n * half) % 2 ^ 64 ≡ sum_n n g % 2 ^ 64
 unfolding sum_n
@@ -98,10 +105,7 @@ small_in : (n : ℕ) (z : ℤ) → n ≤ 64 → Small (n * 2 ^ 56) z → in_i64 
 small_in n z h s = in_is z (fits_of z (omega (arith, s.above)) (omega (arith, s.below)))
 
 -- ---- the whole
-module _ (n m : ℕ) (marks : List ℕ) (equities : List ℤ) (hn : n ≤ 32) (hm : m ≤ 64) (r : LowParts) (s : LowSummed n m marks equities r) (close : r.spread < 2 ^ 56) where
-  abbrev g : Group
-  g = group_in n marks equities
-
+module _ (n m : ℕ) (g : Group) (hn : n ≤ 32) (hm : m ≤ 64) (r : LowParts) (s : LowSummed n m g r) (close : r.spread < 2 ^ 56) where
   module _ (p a : ℕ) (hp : p < m) (ha : a < n) where
     first_small : Small (2 ^ 55) (first_of (g p a))
     first_small = small_word (first_of (g p a)) (s.known p a hp ha).first (s.near (2 ^ 56) p a close hp ha).0
@@ -112,38 +116,42 @@ module _ (n m : ℕ) (marks : List ℕ) (equities : List ℤ) (hn : n ≤ 32) (h
     change-in : in_i64 (change_of (g p a)) ≡ true
     change-in = small_in 1 (change_of (g p a)) (omega arith) (record { above = omega (arith, change-small.above); below = omega (arith, change-small.below) })
 
-  part_in : (p : ℕ) → p < m → part_fits_of n g p ≡ true
-  part_in p hp =
-      let c : every n (λ a. in_i64 (change_of (g p a))) ≡ true = every_of n _ (λ a ha. change-in p a hp ha) in
-      let f : in_i64 (first_sum n g p) ≡ true = small_in n _ (omega arith) (small-sum n (2 ^ 55) _ (omega arith) (λ a ha. first_small p a hp ha)) in
-      let d : in_i64 (summed_change n g p) ≡ true = small_in n _ (omega arith) (small-sum n (2 ^ 56) _ (omega arith) (λ a ha. change-small p a hp ha)) in
-      part_fits_lem n m marks equities s.known p hp ∙ rw (c, f, d)
+  module _ (p : ℕ) (hp : p < m) where
+    first-in : in_i64 (first_sum n g p) ≡ true
+    first-in = small_in n _ (omega arith) (small-sum n (2 ^ 55) _ (omega arith) (λ a ha. first_small p a hp ha))
 
-  first_is : (p : ℕ) → p < m → lowered (low_sum n (λ a. first_word (g p a))) ≡ (first_ended n g p).value
-  unfolding ended
-  first_is p hp = ap lowered (low_is n _ (λ a. raised (first_of (g p a))) (λ a ha. word_raised (first_of (g p a)) (s.known p a hp ha).first))
+    gain-in : in_i64 (summed_change n g p) ≡ true
+    gain-in = small_in n _ (omega arith) (small-sum n (2 ^ 56) _ (omega arith) (λ a ha. change-small p a hp ha))
 
-  gain_is : (p : ℕ) → p < m → lowered (low_sum n (λ a. step_word (g p a))) ≡ (gain_ended n g p).value
-  unfolding ended
-  gain_is p hp = ap lowered (low_is n _ (λ a. moved (g p a)) (λ a ha. step-moved (g p a) (s.known p a hp ha)))
+    part_in : part_in_i64 n g p ≡ true
+    part_in =
+        let c : every n (λ a. in_i64 (change_of (g p a))) ≡ true = every_of n _ (λ a ha. change-in p a hp ha) in
+        rw (c, first-in, gain-in)
 
-  total_is : (a : ℕ) → a < n → total_at (replicate 32 m) r.lo a ≡ summed m (λ p. moved (g p a))
-  unfolding ended
-  total_is a ha =
-      let t = summed m (λ p. moved (g p a)) in
-      let q : t ≡ summed m (λ p. raised (change_of (g p a))) = summed_cong m _ _ (λ p hp. moved-raised (g p a) (s.known p a hp ha) (change-in p a hp ha)) in
-      let f : in_i64 (account_change m g a) ≡ true = small_in m _ hm (small-sum m (2 ^ 56) _ (omega arith) (λ p hp. change-small p a hp ha)) in
-      let e : (ended m t).fits ≡ true = ap (λ x. (ended m x).fits) q ∙ ended-fits m (λ p. change_of (g p a)) (λ p hp. in_yes _ (change-in p a hp ha)) ∙ f in
-      let upper : t / 2 ^ 64 ≡ m = eqb-true (t / 2 ^ 64) m e in
-      let lower : get_or r.lo a 0 ≡ t % 2 ^ 64 = s.totals a ha ∙ low_is m _ (λ p. moved (g p a)) (λ p hp. step-moved (g p a) (s.known p a hp ha)) in
-      rw (get_or-replicate 32 a m 0 (omega arith), lower) (omega arith)
+    first_is : lowered (low_sum n (λ a. first_word (g p a))) ≡ first_sum n g p
+    first_is =
+        ap lowered (low_is n _ (λ a. raised (first_of (g p a))) (λ a ha. word_raised (first_of (g p a)) (s.known p a hp ha).first))
+        ∙ ended-value n (λ a. first_of (g p a)) (λ a ha. (s.known p a hp ha).first) first-in
 
-  pub low-enough : Summed n m marks equities (record { fits = true; firsts = r.firsts; gains = r.gains; hi = replicate 32 m; lo = r.lo })
+    gain_is : lowered (low_sum n (λ a. step_word (g p a))) ≡ summed_change n g p
+    gain_is =
+        ap lowered (low_is n _ (λ a. raised (change_of (g p a))) (λ a ha. step-raised (g p a) (s.known p a hp ha) (change-in p a hp ha)))
+        ∙ ended-value n (λ a. change_of (g p a)) (λ a ha. in_yes _ (change-in p a hp ha)) gain-in
+
+  module _ (a : ℕ) (ha : a < n) where
+    account-in : in_i64 (account_change m g a) ≡ true
+    account-in = small_in m _ hm (small-sum m (2 ^ 56) _ (omega arith) (λ p hp. change-small p a hp ha))
+
+    account_is : lowered (low_sum m (λ p. step_word (g p a))) ≡ account_change m g a
+    account_is =
+        ap lowered (low_is m _ (λ p. raised (change_of (g p a))) (λ p hp. step-raised (g p a) (s.known p a hp ha) (change-in p a hp ha)))
+        ∙ ended-value m (λ p. change_of (g p a)) (λ p hp. in_yes _ (change-in p a hp ha)) account-in
+
+  pub low-enough : Summed n m g r.parts
   low-enough =
       record {
-        fits = sym (every_of m _ part_in);
-        firsts = s.firsts ∙ column_cong 64 (pos 0) m _ _ first_is;
-        gains = s.gains ∙ column_cong 64 (pos 0) m _ _ gain_is;
-        known = s.known;
-        totals = total_is;
+        fits = rw (every_of m (part_in_i64 n g) part_in, every_of n (λ a. in_i64 (account_change m g a)) account-in);
+        firsts = s.firsts ∙ column_cong 64 (pos 0) m _ (first_sum n g) first_is;
+        gains = s.gains ∙ column_cong 64 (pos 0) m _ (summed_change n g) gain_is;
+        changes = s.changes ∙ column_cong 32 (pos 0) n _ (account_change m g) account_is;
       }

@@ -1,8 +1,7 @@
 -- What an account adds, by its two marks: at both of them 1 its own numbers, else those of 0.
 use Rattle.std.proofs.Common.{◌≡◌, ℕ, Bool, true, false, cond, ◌&&◌, ℤ, pos, refl, arith, w64, SFits}
 use Rattle.house.specs.Group.{Ends, given, absent, first_of}
-use Rattle.house.specs.Inner.Raised.{last_of}
-use Rattle.house.specs.Inner.Parts.{Known}
+use Rattle.house.specs.Inner.Low.{last_of, Known}
 
 abbrev pub ends : Bool → Bool → ℤ → ℤ → Ends
 ends a b f l = record { first = cond a (given f) absent; last = cond b (given l) absent }

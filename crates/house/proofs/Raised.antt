@@ -1,13 +1,14 @@
 -- Numbers raised by 2 ^ 63, their sums, and what a finished sum tells.
-use Rattle.std.proofs.Common.{◌≡◌, ℕ, zero, suc, ◌+◌, ◌-◌, ◌*◌, ◌/◌, ◌%◌, ◌^◌, ◌<◌, ◌≤◌, Bool, true, false, cond, ltb, leb, ℤ, pos, negsuc, ◌-ℤ◌, sym, refl, ap, ◌∙◌, add-one, arith, w64, SFits, ltb-false, ltb-true, lt-ltb, eq-eqb, eqb-true, le-leb, leb-true}
+use Rattle.std.proofs.Common.{◌≡◌, ℕ, zero, suc, ◌+◌, ◌-◌, ◌*◌, ◌/◌, ◌%◌, ◌^◌, ◌<◌, ◌≤◌, Bool, true, false, cond, eqb, ltb, Some, None, ℤ, pos, negsuc, sym, refl, ap, ◌∙◌, add-one, arith, w64, SFits, to_z, of_z, ltb-false, ltb-true, eq-eqb, eqb-true}
 use lib.Signed.{le_z}
-use Rattle.sums.proofs.Ints.{P, N, P-add, P-sub, P-fits, N-fits, le_yes, le_is, fits_of, eq_of}
+use mir.ValLaws.{to_z-of_z, to_z_pos}
+use Rattle.sums.proofs.Ints.{P, N, P-add, P-fits, N-fits, le_yes, le_is, fits_of, eq_of}
 use Rattle.sums.specs.declared.Wide.{Wide}
 use Rattle.sums.specs.Wide.{value_of, wide}
 use Rattle.sums.proofs.TwoWords.{value_of-wide, value_of-words}
 use Rattle.answer.proofs.Choice.{both_true}
 use Rattle.house.specs.Group.{in_i64, sum_to}
-use Rattle.house.specs.Inner.Raised.{half, raised, lowered, between, near, sum_n, begun, summed, ended}
+use Rattle.house.specs.Inner.Raised.{half, raised, lowered, sum_n, begun, summed, ended, fitting}
 
 -- two tests that pass together
 pub together : (a b : Bool) → (a ≡ true → b ≡ true) → (b ≡ true → a ≡ true) → a ≡ b
@@ -58,36 +59,25 @@ in_is z f =
     let high : le_z z (pos 9223372036854775807) ≡ true = le_is z (pos 9223372036854775807) (omega (arith, P-fits z f)) in
     rw (low, high)
 
--- ---- the change between two numbers
-module _ (f l : ℤ) (gf : SFits w64 f) (gl : SFits w64 l) where
-  pub near_in : near (raised f) (raised l) ≡ in_i64 (l -ℤ f)
-  unfolding near P N
-  near_in =
-      let rf = raised_parts f gf in
-      let rl = raised_parts l gl in
-      let d = P-sub l f in
-      together _ _
-      (λ h.
-      let b = both_true (leb (raised f) (raised l + half)) (ltb (raised l) (raised f + half)) h in
-      let x = leb-true (raised f) (raised l + half) b.0 in
-      let y = ltb-true (raised l) (raised f + half) b.1 in
-      in_is (l -ℤ f) (fits_of (l -ℤ f) (omega arith) (omega arith)))
-      (λ h.
-      let g = in_yes (l -ℤ f) h in
-      let pg = P-fits (l -ℤ f) g in
-      let ng = N-fits (l -ℤ f) g in
-      let x : leb (raised f) (raised l + half) ≡ true = le-leb (raised f) (raised l + half) (omega arith) in
-      let y : ltb (raised l) (raised f + half) ≡ true = lt-ltb (raised l) (raised f + half) (omega arith) in
-      rw (x, y))
+-- ---- words and raised numbers
+pub word_raised : (z : ℤ) → SFits w64 z → (of_z w64 z + half) % 2 ^ 64 ≡ raised z
+unfolding raised
+word_raised (pos n) f = omega (arith, f.sfits)
+word_raised (negsuc n) f = omega (arith, f.sfits)
 
-  pub between-raised : SFits w64 (l -ℤ f) → between (raised f) (raised l) ≡ raised (l -ℤ f)
-  unfolding between
-  between-raised g =
-      omega (arith, raised_parts f gf, raised_parts l gl, raised_parts (l -ℤ f) g, P-sub l f, raised_lt f gf, raised_lt l gl, raised_lt (l -ℤ f) g)
-
-pub between_lt : (from to : ℕ) → between from to < 2 ^ 64
-unfolding between
-between_lt from to = omega arith
+pub word_lowered : (w : ℕ) → w < 2 ^ 64 → to_z w64 ((w + half) % 2 ^ 64) ≡ lowered w
+unfolding lowered
+word_lowered w h = go (ltb w half) refl
+  where
+    go : (t : Bool) → ltb w half ≡ t → to_z w64 ((w + half) % 2 ^ 64) ≡ cond t (negsuc (half - suc w)) (pos (w - half))
+    go true e =
+        let l = ltb-true w half e in
+        let q : (w + half) % 2 ^ 64 ≡ of_z w64 (negsuc (half - suc w)) = omega arith in
+        ap (to_z w64) q ∙ to_z-of_z w64 (negsuc (half - suc w)) (record { sfits = omega arith })
+    go false e =
+        let l = ltb-false w half e in
+        let q : (w + half) % 2 ^ 64 ≡ w - half = omega arith in
+        ap (to_z w64) q ∙ to_z_pos w64 (w - half) (omega arith)
 
 -- ---- sums
 pub sum_n_cong : (n : ℕ) (f g : ℕ → ℕ) → ((a : ℕ) → a < n → f a ≡ g a) → sum_n n f ≡ sum_n n g
@@ -95,10 +85,10 @@ unfolding sum_n
 sum_n_cong zero f g e = refl
 sum_n_cong (suc n) f g e = omega (arith, sum_n_cong n f g (λ a h. e a (omega arith)), e n (omega arith))
 
-pub sum_n-most : (n : ℕ) (f : ℕ → ℕ) → ((a : ℕ) → f a < 2 ^ 64) → sum_n n f ≤ n * 2 ^ 64
+pub sum_n-most : (n : ℕ) (f : ℕ → ℕ) → ((a : ℕ) → a < n → f a < 2 ^ 64) → sum_n n f ≤ n * 2 ^ 64
 unfolding sum_n
 sum_n-most zero f h = omega arith
-sum_n-most (suc n) f h = omega (arith, sum_n-most n f h, h n)
+sum_n-most (suc n) f h = omega (arith, sum_n-most n f (λ a q. h a (omega arith)), h n (omega arith))
 
 -- At most i words come to s: shut, since its numbers are too long for what else a loop asks of `omega`.
 unfoldable pub Under : ℕ → ℕ → Type 0
@@ -147,18 +137,24 @@ module _ (n : ℕ) (f : ℕ → ℤ) (h : (a : ℕ) → a < n → SFits w64 (f a
   whole : words + N sum ≡ P sum + n * 2 ^ 64 + half
   whole = omega (arith, sum_parts n f h)
 
-  pub ended-fits : (ended n words).fits ≡ in_i64 sum
-  unfolding ended
+  pub ended-fits : eqb (words / 2 ^ 64) n ≡ in_i64 sum
   ended-fits =
       let w = whole in
       together _ _
       (λ e. let q = eqb-true (words / 2 ^ 64) n e in in_is sum (fits_of sum (omega arith) (omega arith)))
       (λ e. let g = in_yes sum e in eq-eqb (words / 2 ^ 64) n (omega (arith, P-fits sum g, N-fits sum g)))
 
-  pub ended-value : in_i64 sum ≡ true → (ended n words).value ≡ sum
-  unfolding ended
+  pub ended-value : in_i64 sum ≡ true → lowered (words % 2 ^ 64) ≡ sum
   ended-value e =
       let w = whole in
       let g = in_yes sum e in
       let q : words % 2 ^ 64 ≡ raised sum = omega (arith, P-fits sum g, N-fits sum g, raised_parts sum g) in
       ap lowered q ∙ lowered-raised sum g
+
+  pub ended-is : ended n words ≡ fitting sum
+  unfolding ended
+  ended-is = rw ended-fits (go (in_i64 sum) refl)
+    where
+      go : (t : Bool) → in_i64 sum ≡ t → cond t (Some (lowered (words % 2 ^ 64))) None ≡ cond t (Some sum) None
+      go true e = ap Some (ended-value e)
+      go false e = refl

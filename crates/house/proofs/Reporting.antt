@@ -1,202 +1,79 @@
--- What the sums of words are in the paper's terms: tests and values of parts, of accounts and of the group, and so the whole report.
-use Rattle.std.proofs.Common.{◌≡◌, ℕ, zero, suc, ◌+◌, ◌*◌, ◌<◌, ◌≤◌, Bool, true, false, ◌&&◌, eqb, ltb, leb, List, length, get_or, ℤ, pos, ◌-ℤ◌, sym, refl, ap, ◌∙◌, arith, w64, SFits, eqb-true, leb-true}
+-- What the sums give the report, and what an answer of done tells of the places.
+use Rattle.std.proofs.Common.{◌≡◌, ℕ, zero, suc, ◌*◌, ◌<◌, ◌≤◌, Bool, true, false, ◌&&◌, eqb, ltb, leb, cond, None, Some, Ok, Err, List, length, get_or, ℤ, pos, sym, refl, ap, ◌∙◌, arith, eqb-true, leb-true}
 use lib.Signed.{lt_z}
 use lib.Ieee.{Float, binary64, sub}
-use Rattle.answer.specs.Numbers.{is_done}
+use Rattle.answer.specs.Choice.{pick}
+use Rattle.answer.specs.Numbers.{is_done, unless}
 use Rattle.answer.proofs.Choice.{both_true}
 use Rattle.answer.proofs.Answers.{passed}
+use Rattle.answer.specs.declared.Answer.{Answer}
 use Rattle.answer.specs.declared.Answer.TheVariants.{Done, TooLong, BadGroup, OutOfRange, NoFirstSum}
 use Rattle.metrics.specs.Double.{one}
 use Rattle.metrics.specs.Double.{zero as none}
-use Rattle.house.specs.Group.{Equity, given, absent, Ends, Group, of_both, first_of, change_of, every, in_i64, first_sum, summed_change, growth_of, growth, product_to, account_change, group_change, part_in_i64, all_in_i64, all_positive}
+use Rattle.house.specs.Group.{Group, every, in_i64, sum_to, first_sum, summed_change, growth_of, growth, product_to, account_change, group_change, part_in_i64, all_in_i64, all_positive}
 use Rattle.house.specs.Places.{group_in, column}
-use Rattle.house.specs.House.{most_accounts, most_parts, within, whole, early_answer, refusal, report, house_of_group, house_of}
-use Rattle.house.specs.Inner.Raised.{raised, last_of, moved, begun, summed, ended, total_at}
-use Rattle.house.specs.Inner.Parts.{Known, first_ended, gain_ended, part_fits_of, Summed, Totalled, Grown}
-use Rattle.house.specs.declared.sum.Finished.{Finished}
+use Rattle.house.specs.House.{most_accounts, most_parts, within, whole, early_answer, refusal, report, answered, house_of_group, house_of}
+use Rattle.house.specs.declared.House.{House}
+use Rattle.house.specs.Inner.Raised.{fitting}
+use Rattle.house.specs.Inner.Parts.{is_positive, Summed, Grown}
+use Rattle.house.specs.Inner.Given.{reported, lent_report}
 use Rattle.house.specs.declared.part.Parts.{Parts}
-use Rattle.house.specs.declared.total.Totals.{Totals}
 use Rattle.house.specs.declared.growth.Growths.{Growths}
-use Rattle.house.proofs.Raised.{in_yes, between-raised, sum_n_cong, ended-fits, ended-value}
-use Rattle.house.proofs.Columns.{every_at, every_cong, column_at, column_cong}
+use Rattle.house.proofs.Columns.{every_cong, column_at, column_cong, test_passed, test_failed}
 
--- ---- tests one after the other
-pub and_cong : (a b c : Bool) → (a ≡ true → b ≡ c) → a && b ≡ a && c
-and_cong true b c e = e refl
-and_cong false b c e = refl
-
-three : (a b c x y : Bool) → (a ≡ true → b ≡ x) → (a ≡ true → c ≡ y) → (a && b) && c ≡ a && (x && y)
-three true b c x y f g = rw (f refl, g refl)
-three false b c x y f g = refl
-
--- ---- the change of one account in one part
-pub change_by : (f l : Equity) → of_both (λ a b. b -ℤ a) f l ≡ of_both (λ a b. b) f l -ℤ of_both (λ a b. a) f l
-change_by (given a) (given b) = refl
-change_by (given a) absent = refl
-change_by absent l = refl
-
-pub moved-raised : (e : Ends) → Known e → in_i64 (change_of e) ≡ true → moved e ≡ raised (change_of e)
-moved-raised e k h =
-    let d : change_of e ≡ last_of e -ℤ first_of e = change_by e.first e.last in
-    let g : SFits w64 (last_of e -ℤ first_of e) = rw d at (in_yes (change_of e) h) in
-    between-raised (first_of e) (last_of e) k.first k.last g ∙ ap raised (sym d)
-
-pub summed_cong : (n : ℕ) (f g : ℕ → ℕ) → ((a : ℕ) → a < n → f a ≡ g a) → summed n f ≡ summed n g
-summed_cong n f g e = ap (λ x. begun n + x) (sum_n_cong n f g e)
+sum_to_cong : (n : ℕ) (f g : ℕ → ℤ) → ((i : ℕ) → i < n → f i ≡ g i) → sum_to n f ≡ sum_to n g
+unfolding sum_to
+sum_to_cong zero f g e = refl
+sum_to_cong (suc n) f g e = rw (sum_to_cong n f g (λ i h. e i (omega arith)), e n (omega arith))
 
 product_cong : (m : ℕ) (f g : ℕ → Float) → ((p : ℕ) → p < m → f p ≡ g p) → product_to m f ≡ product_to m g
 unfolding product_to
 product_cong zero f g e = refl
 product_cong (suc m) f g e = rw (product_cong m f g (λ p h. e p (omega arith)), e m (omega arith))
 
--- ---- a part of a group whose ends are numbers of an i64
-module _ (n m : ℕ) (marks : List ℕ) (equities : List ℤ) (known : (p a : ℕ) → p < m → a < n → Known (group_in n marks equities p a)) where
-  abbrev g : Group
-  g = group_in n marks equities
+module _ (n m : ℕ) (g : Group) (hm : m ≤ 64) (r : Parts) (s : Summed n m g r) where
+  first_at : (p : ℕ) → p < m → get_or r.firsts p (pos 0) ≡ first_sum n g p
+  first_at p h = ap (λ l. get_or l p (pos 0)) s.firsts ∙ column_at 64 (pos 0) m (first_sum n g) p (pos 0) hm h
 
-  module _ (p : ℕ) (hp : p < m) where
-    first-knows : (a : ℕ) → a < n → SFits w64 (first_of (g p a))
-    first-knows a h = (known p a hp h).first
+  gain_at : (p : ℕ) → p < m → get_or r.gains p (pos 0) ≡ summed_change n g p
+  gain_at p h = ap (λ l. get_or l p (pos 0)) s.gains ∙ column_at 64 (pos 0) m (summed_change n g) p (pos 0) hm h
 
-    pub first_fits : (first_ended n g p).fits ≡ in_i64 (first_sum n g p)
-    first_fits = ended-fits n (λ a. first_of (g p a)) first-knows
+  group_is : fitting (sum_to m (λ p. get_or r.gains p (pos 0))) ≡ fitting (group_change n m g)
+  group_is = ap fitting (sum_to_cong m _ (summed_change n g) gain_at)
 
-    pub first-value : in_i64 (first_sum n g p) ≡ true → (first_ended n g p).value ≡ first_sum n g p
-    first-value e = ended-value n (λ a. first_of (g p a)) first-knows e
+  all_by : all_in_i64 n m g ≡ in_i64 (group_change n m g)
+  all_by =
+      let b = both_true (every m (part_in_i64 n g)) (every n (λ a. in_i64 (account_change m g a))) s.fits in
+      rw (b.0, b.1)
 
-    module _ (all : every n (λ a. in_i64 (change_of (g p a))) ≡ true) where
-      change-in : (a : ℕ) → a < n → in_i64 (change_of (g p a)) ≡ true
-      change-in a h = every_at n (λ i. in_i64 (change_of (g p i))) all a h
+  positive_is : every m (is_positive r.firsts) ≡ all_positive n m g
+  positive_is = every_cong m (is_positive r.firsts) (λ p. lt_z (pos 0) (first_sum n g p)) (λ p h. ap (lt_z (pos 0)) (first_at p h))
 
-      gain-words : gain_ended n g p ≡ ended n (summed n (λ a. raised (change_of (g p a))))
-      gain-words =
-          ap (ended n) (summed_cong n (λ a. moved (g p a)) (λ a. raised (change_of (g p a))) (λ a h. moved-raised (g p a) (known p a hp h) (change-in a h)))
+  -- the group's change is not in i64
+  pub out_of_range : None ≡ fitting (sum_to m (λ p. get_or r.gains p (pos 0))) → Err OutOfRange ≡ reported n m g
+  out_of_range e = rw (all_by, test_failed _ _ (e ∙ group_is))
 
-      pub gain-fits : (gain_ended n g p).fits ≡ in_i64 (summed_change n g p)
-      gain-fits = ap (λ (x : Finished). x.fits) gain-words ∙ ended-fits n (λ a. change_of (g p a)) (λ a h. in_yes _ (change-in a h))
+  module _ (change : ℤ) (e : Some change ≡ fitting (sum_to m (λ p. get_or r.gains p (pos 0)))) where
+    group-in : (in_i64 (group_change n m g) ≡ true) × (change ≡ group_change n m g)
+    group-in = test_passed _ _ _ (e ∙ group_is)
 
-      pub gain-value : in_i64 (summed_change n g p) ≡ true → (gain_ended n g p).value ≡ summed_change n g p
-      gain-value e = ap (λ (x : Finished). x.value) gain-words ∙ ended-value n (λ a. change_of (g p a)) (λ a h. in_yes _ (change-in a h)) e
+    pub no_first-sum : every m (is_positive r.firsts) ≡ false → Err NoFirstSum ≡ reported n m g
+    no_first-sum q = rw (all_by, group-in.0, sym positive_is ∙ q)
 
-    pub part_fits_lem : part_fits_of n g p ≡ part_in_i64 n g p
-    part_fits_lem =
-        and_cong (every n (λ a. in_i64 (change_of (g p a)))) ((first_ended n g p).fits && (gain_ended n g p).fits) (in_i64 (first_sum n g p) && in_i64 (summed_change n g p))
-        (λ all. rw (first_fits, gain-fits all))
+    module _ (w : Growths) (hw : Grown m r.firsts r.gains w) where
+      growth-at : (p : ℕ) → p < m → growth_of (get_or r.gains p (pos 0)) (get_or r.firsts p (pos 0)) ≡ growth n g p
+      growth-at p h = rw (gain_at p h, first_at p h)
 
-module _ (n m : ℕ) (marks : List ℕ) (equities : List ℤ) (hn : n ≤ 32) (hm : m ≤ 64) (r : Parts) (s : Summed n m marks equities r) where
-  abbrev ends : Group
-  ends = group_in n marks equities
+      figure_is : w.figure ≡ sub binary64 (product_to m (growth n g)) one
+      figure_is = hw.figure ∙ ap (λ x. sub binary64 x one) (product_cong m _ (growth n g) growth-at)
 
-  pub parts_fit : r.fits ≡ every m (part_in_i64 n ends)
-  parts_fit = s.fits ∙ every_cong m (part_fits_of n ends) (part_in_i64 n ends) (part_fits_lem n m marks equities s.known)
+      growths-are : w.growths ≡ column 64 none m (growth n g)
+      growths-are = hw.growths ∙ column_cong 64 none m _ (growth n g) growth-at
 
-  -- ---- where all parts are in i64
-  module _ (all : every m (part_in_i64 n ends) ≡ true) where
-    module _ (p : ℕ) (hp : p < m) where
-      part_in : (every n (λ a. in_i64 (change_of (ends p a))) ≡ true) × ((in_i64 (first_sum n ends p) && in_i64 (summed_change n ends p)) ≡ true)
-      part_in = both_true _ _ (every_at m (part_in_i64 n ends) all p hp)
-
-      changes-in : every n (λ a. in_i64 (change_of (ends p a))) ≡ true
-      changes-in = part_in.0
-
-      first-in : in_i64 (first_sum n ends p) ≡ true
-      first-in = (both_true (in_i64 (first_sum n ends p)) (in_i64 (summed_change n ends p)) part_in.1).0
-
-      gain-in : in_i64 (summed_change n ends p) ≡ true
-      gain-in = (both_true (in_i64 (first_sum n ends p)) (in_i64 (summed_change n ends p)) part_in.1).1
-
-    pub firsts_are : r.firsts ≡ column 64 (pos 0) m (first_sum n ends)
-    firsts_are = s.firsts ∙ column_cong 64 (pos 0) m (λ p. (first_ended n ends p).value) (first_sum n ends) (λ p h. first-value n m marks equities s.known p h (first-in p h))
-
-    pub gains_are : r.gains ≡ column 64 (pos 0) m (summed_change n ends)
-    gains_are = s.gains ∙ column_cong 64 (pos 0) m (λ p. (gain_ended n ends p).value) (summed_change n ends) (λ p h. gain-value n m marks equities s.known p h (changes-in p h) (gain-in p h))
-
-    pub first_at : (p : ℕ) → p < m → get_or r.firsts p (pos 0) ≡ first_sum n ends p
-    first_at p h = ap (λ l. get_or l p (pos 0)) firsts_are ∙ column_at 64 (pos 0) m (first_sum n ends) p (pos 0) hm h
-
-    pub gain_at : (p : ℕ) → p < m → get_or r.gains p (pos 0) ≡ summed_change n ends p
-    gain_at p h = ap (λ l. get_or l p (pos 0)) gains_are ∙ column_at 64 (pos 0) m (summed_change n ends) p (pos 0) hm h
-
-    -- an account
-    module _ (a : ℕ) (ha : a < n) where
-      own_in : (p : ℕ) → p < m → in_i64 (change_of (ends p a)) ≡ true
-      own_in p h = every_at n (λ i. in_i64 (change_of (ends p i))) (changes-in p h) a ha
-
-      total-words : ended m (total_at r.hi r.lo a) ≡ ended m (summed m (λ p. raised (change_of (ends p a))))
-      total-words =
-          ap (ended m) (s.totals a ha ∙ summed_cong m (λ p. moved (ends p a)) (λ p. raised (change_of (ends p a))) (λ p h. moved-raised (ends p a) (s.known p a h ha) (own_in p h)))
-
-      total-fits : (ended m (total_at r.hi r.lo a)).fits ≡ in_i64 (account_change m ends a)
-      total-fits = ap (λ (x : Finished). x.fits) total-words ∙ ended-fits m (λ p. change_of (ends p a)) (λ p h. in_yes _ (own_in p h))
-
-      total-value : in_i64 (account_change m ends a) ≡ true → (ended m (total_at r.hi r.lo a)).value ≡ account_change m ends a
-      total-value e = ap (λ (x : Finished). x.value) total-words ∙ ended-value m (λ p. change_of (ends p a)) (λ p h. in_yes _ (own_in p h)) e
-
-    -- the group
-    gain-knows : (p : ℕ) → p < m → SFits w64 (summed_change n ends p)
-    gain-knows p h = in_yes _ (gain-in p h)
-
-    group-words : summed m (λ p. raised (get_or r.gains p (pos 0))) ≡ summed m (λ p. raised (summed_change n ends p))
-    group-words = summed_cong m (λ p. raised (get_or r.gains p (pos 0))) (λ p. raised (summed_change n ends p)) (λ p h. ap raised (gain_at p h))
-
-    group_fits : (ended m (summed m (λ p. raised (get_or r.gains p (pos 0))))).fits ≡ in_i64 (group_change n m ends)
-    group_fits = ap (λ x. (ended m x).fits) group-words ∙ ended-fits m (summed_change n ends) gain-knows
-
-    group-value : in_i64 (group_change n m ends) ≡ true → (ended m (summed m (λ p. raised (get_or r.gains p (pos 0))))).value ≡ group_change n m ends
-    group-value e = ap (λ x. (ended m x).value) group-words ∙ ended-value m (summed_change n ends) gain-knows e
-
-  module _ (t : Totals) (ht : Totalled n m r.hi r.lo t) (c : Finished) (hc : c ≡ ended m (summed m (λ p. raised (get_or r.gains p (pos 0))))) where
-    pub all_fit : (r.fits && t.fits) && c.fits ≡ all_in_i64 n m ends
-    all_fit =
-        rw parts_fit
-        (three (every m (part_in_i64 n ends)) t.fits c.fits (every n (λ a. in_i64 (account_change m ends a))) (in_i64 (group_change n m ends))
-        (λ all. ht.fits ∙ every_cong n (λ a. (ended m (total_at r.hi r.lo a)).fits) (λ a. in_i64 (account_change m ends a)) (total-fits all))
-        (λ all. ap (λ (x : Finished). x.fits) hc ∙ group_fits all))
-
-    pub out_of_range : all_in_i64 n m ends ≡ false → refusal OutOfRange ≡ house_of_group n m ends
-    unfolding house_of_group
-    out_of_range e = rw e
-
-    module _ (e : all_in_i64 n m ends ≡ true) (w : Growths) (hw : Grown m r.firsts r.gains w) where
-      tests : (every m (part_in_i64 n ends) ≡ true) × ((every n (λ a. in_i64 (account_change m ends a)) && in_i64 (group_change n m ends)) ≡ true)
-      tests = both_true _ _ e
-
-      accounts-in : every n (λ a. in_i64 (account_change m ends a)) ≡ true
-      accounts-in = (both_true (every n (λ a. in_i64 (account_change m ends a))) (in_i64 (group_change n m ends)) tests.1).0
-
-      group-in : in_i64 (group_change n m ends) ≡ true
-      group-in = (both_true (every n (λ a. in_i64 (account_change m ends a))) (in_i64 (group_change n m ends)) tests.1).1
-
-      pub positive_is : w.positive ≡ all_positive n m ends
-      positive_is =
-          hw.positive ∙ every_cong m (λ p. lt_z (pos 0) (get_or r.firsts p (pos 0))) (λ p. lt_z (pos 0) (first_sum n ends p)) (λ p h. ap (lt_z (pos 0)) (first_at tests.0 p h))
-
-      pub no_first-sum : all_positive n m ends ≡ false → refusal NoFirstSum ≡ house_of_group n m ends
-      unfolding house_of_group
-      no_first-sum q = rw (e, q)
-
-      growth-at : (p : ℕ) → p < m → growth_of (get_or r.gains p (pos 0)) (get_or r.firsts p (pos 0)) ≡ growth n ends p
-      growth-at p h = rw (gain_at tests.0 p h, first_at tests.0 p h)
-
-      figure_is : w.figure ≡ sub binary64 (product_to m (growth n ends)) one
-      figure_is = hw.figure ∙ ap (λ x. sub binary64 x one) (product_cong m _ (growth n ends) growth-at)
-
-      growths-are : w.growths ≡ column 64 none m (growth n ends)
-      growths-are = hw.growths ∙ column_cong 64 none m _ (growth n ends) growth-at
-
-      changes-are : t.changes ≡ column 32 (pos 0) n (account_change m ends)
-      changes-are =
-          ht.changes
-          ∙ column_cong 32 (pos 0) n (λ a. (ended m (total_at r.hi r.lo a)).value) (account_change m ends)
-          (λ a h. total-value tests.0 a h (every_at n (λ i. in_i64 (account_change m ends i)) accounts-in a h))
-
-      change-is : c.value ≡ group_change n m ends
-      change-is = ap (λ (x : Finished). x.value) hc ∙ group-value tests.0 group-in
-
-      pub reported : all_positive n m ends ≡ true
-          → record { answer = Done; figure = w.figure; change = c.value; changes = t.changes; firsts = r.firsts; gains = r.gains; growths = w.growths } ≡ house_of_group n m ends
-      unfolding house_of_group report
-      reported q = rw (e, q, figure_is, change-is, changes-are, firsts_are tests.0, gains_are tests.0, growths-are)
+      pub report_is : Ok (record { answer = Done; figure = w.figure; change = change; changes = r.changes; firsts = r.firsts; gains = r.gains; growths = w.growths }) ≡ reported n m g
+      unfolding report
+      report_is =
+          rw (all_by, group-in.0, sym positive_is ∙ hw.positive, figure_is, group-in.1, s.changes, s.firsts, s.gains, growths-are)
 
 -- what an early answer of done tells of the places
 pub early-done : (n m : ℕ) (marks : List ℕ) (equities : List ℤ) → is_done (early_answer n m marks equities) ≡ true
@@ -218,3 +95,46 @@ house-done n m marks equities e = go (is_done (early_answer n m marks equities))
     go : (t : Bool) → is_done (early_answer n m marks equities) ≡ t → is_done (early_answer n m marks equities) ≡ true
     go true q = q
     go false q = rw q at e
+
+-- ---- the report or the refusal, as the house return has them
+module _ (n m : ℕ) (g : Group) where
+  pub given : (h : House) → Ok h ≡ reported n m g → h ≡ house_of_group n m g
+  unfolding house_of_group
+  given h e = go (all_in_i64 n m g) (all_positive n m g) e
+    where
+      go : (a b : Bool) → Ok h ≡ cond a (cond b (Ok (report n m g)) (Err NoFirstSum)) (Err OutOfRange) → h ≡ answered (unless a OutOfRange (unless b NoFirstSum Done)) (report n m g)
+      go true true q = cc
+      go true false q = cc
+      go false b q = cc
+
+  pub refused : (x : Answer) → Err x ≡ reported n m g → refusal x ≡ house_of_group n m g
+  unfolding house_of_group
+  refused x e = go (all_in_i64 n m g) (all_positive n m g) e
+    where
+      go : (a b : Bool) → Err x ≡ cond a (cond b (Ok (report n m g)) (Err NoFirstSum)) (Err OutOfRange) → refusal x ≡ answered (unless a OutOfRange (unless b NoFirstSum Done)) (report n m g)
+      go true true q = cc
+      go true false q = cc
+      go false b q = cc
+
+module _ (n m : ℕ) (marks : List ℕ) (equities : List ℤ) where
+  pub lent-given : (h : House) → Ok h ≡ lent_report n m marks equities → h ≡ house_of n m marks equities
+  unfolding house_of
+  lent-given h e = go (early_answer n m marks equities) e
+    where
+      go : (a : Answer) → Ok h ≡ pick (is_done a) (reported n m (group_in n marks equities)) (Err a) → h ≡ answered a (house_of_group n m (group_in n marks equities))
+      go a q = by (is_done a) q
+        where
+          by : (t : Bool) → Ok h ≡ pick t (reported n m (group_in n marks equities)) (Err a) → h ≡ pick t (house_of_group n m (group_in n marks equities)) (refusal a)
+          by true q = given n m (group_in n marks equities) h q
+          by false q = cc
+
+  pub lent-refused : (x : Answer) → Err x ≡ lent_report n m marks equities → refusal x ≡ house_of n m marks equities
+  unfolding house_of
+  lent-refused x e = go (early_answer n m marks equities) e
+    where
+      go : (a : Answer) → Err x ≡ pick (is_done a) (reported n m (group_in n marks equities)) (Err a) → refusal x ≡ answered a (house_of_group n m (group_in n marks equities))
+      go a q = by (is_done a) q
+        where
+          by : (t : Bool) → Err x ≡ pick t (reported n m (group_in n marks equities)) (Err a) → refusal x ≡ pick t (house_of_group n m (group_in n marks equities)) (refusal a)
+          by true q = refused n m (group_in n marks equities) x q
+          by false q = let e : x ≡ a = cc in ap refusal e

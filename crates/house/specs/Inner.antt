@@ -2,3 +2,4 @@
 pub mod Raised
 pub mod Parts
 pub mod Low
+pub mod Given

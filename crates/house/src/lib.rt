@@ -2,8 +2,10 @@
 #![tactic(auto)]
 
 ghost use Rattle.std.specs.Prelude.{◌≡◌, ◌*◌, ◌≤◌, length};
+ghost use Rattle.answer.specs.Numbers.{checked};
 ghost use Rattle.house.specs.Places.{group_in, good_marks};
-ghost use Rattle.house.specs.House.{most_accounts, within, whole, early_answer, refusal, house_of_group, house_of};
+ghost use Rattle.house.specs.House.{most_accounts, within, whole, early_answer, refusal, house_of};
+ghost use Rattle.house.specs.Inner.Given.{reported, lent_report};
 
 mod entry;
 mod growth;
@@ -12,16 +14,18 @@ mod part;
 mod sum;
 mod total;
 
-use crate::growth::grow;
-use crate::part::sum_parts;
-use crate::total::{sum_accounts, sum_group};
-use answer::{Answer, is_done};
+use crate::growth::{Growths, grow};
+use crate::part::{Parts, sum_parts};
+use crate::total::sum_group;
+use answer::Answer;
 
 pub const MOST_ACCOUNTS: u64 = 32;
 
 pub const MOST_PARTS: u64 = 64;
 
 // The report: after a refusal all but the answer is 0. The first places of a column are used, one for each account or each part.
+// Kept: columns of all the places that there may be, since nothing here is on the heap.
+// Kept: `answer` stands beside figures, since document 01 says "Each refusal returns its number with zero figures".
 #[derive(Clone, Copy)]
 pub struct House {
     pub answer: Answer,
@@ -33,6 +37,7 @@ pub struct House {
     pub growths: [f64; 64],
 }
 
+#[tactic(auto, unfolding(crate::specs::House::refusal))]
 fn refused(answer: Answer) -> House
     ensures { result ≡ refusal answer }
 {
@@ -40,30 +45,29 @@ fn refused(answer: Answer) -> House
         answer,
         figure: 0.0,
         change: 0,
-        changes: [0i64; 32],
-        firsts: [0i64; 64],
-        gains: [0i64; 64],
+        changes: [0; 32],
+        firsts: [0; 64],
+        gains: [0; 64],
         growths: [0.0; 64],
     }
 }
 
-// No mark above 1.
+// No mark above 1. Every mark is looked at: a loop with no way out has no branch on them.
 fn good_marks(marks: &[u8]) -> bool
     ensures { result ≡ good_marks marks.now }
 {
     let mut good = true;
-    let mut i = 0usize;
-    while i < marks.len() {
-        good = good & (marks[i] <= 1);
-        i += 1;
+    for mark in marks {
+        good &= *mark <= 1;
     }
     good
 }
 
+// From 1 to the most.
 fn is_within(n: u64, most: u64) -> bool
     ensures { result ≡ within n most }
 {
-    (0 < n) & (n <= most)
+    (1..=most).contains(&n)
 }
 
 // Whether a group may have so many accounts.
@@ -79,57 +83,54 @@ fn is_whole(n: u64, m: u64, marks: &[u8], equities: &[i64]) -> bool
     ensures { result ≡ whole n m marks.now equities.now }
 {
     let ends = 2 * (m * n);
-    (marks.len() as u64 == ends) & (equities.len() as u64 == ends)
+    marks.len() as u64 == ends && equities.len() as u64 == ends
 }
 
 // What is asked before any sum.
-fn early(accounts: u64, parts: u64, marks: &[u8], equities: &[i64]) -> Answer
-    ensures { result ≡ early_answer accounts parts marks.now equities.now }
+fn early(accounts: u64, parts: u64, marks: &[u8], equities: &[i64]) -> Result<(), Answer>
+    ensures { result ≡ checked (early_answer accounts parts marks.now equities.now) }
 {
     if !good_group(accounts) {
-        return Answer::BadGroup;
+        return Err(Answer::BadGroup);
     }
-    if !is_within(parts, MOST_PARTS) {
-        return Answer::TooLong;
-    }
-    if !is_whole(accounts, parts, marks, equities) {
-        return Answer::TooLong;
+    if !is_within(parts, MOST_PARTS) || !is_whole(accounts, parts, marks, equities) {
+        return Err(Answer::TooLong);
     }
     if !good_marks(marks) {
-        return Answer::BadSetting;
+        return Err(Answer::BadSetting);
     }
-    Answer::Done
+    Ok(())
 }
 
 // 15 is told before 14, wherever either stands: all sums are taken before a first sum is asked for.
-fn report_of(n: usize, m: usize, marks: &[u8], equities: &[i64]) -> House
+fn report_of(n: usize, m: usize, marks: &[u8], equities: &[i64]) -> Result<House, Answer>
     requires { (n ≤ 32) × (m ≤ 64) × (length marks.now ≡ 2 * (m * n)) × (length equities.now ≡ 2 * (m * n)) }
-    ensures { result ≡ house_of_group n m (group_in n marks.now equities.now) }
+    ensures { result ≡ reported n m (group_in n marks.now equities.now) }
 {
-    let sums = sum_parts(n, m, marks, equities);
-    let totals = sum_accounts(n, m, &sums.hi, &sums.lo);
-    let group = sum_group(m, &sums.gains);
-    let fits = sums.fits & totals.fits & group.fits;
-    if !fits {
-        return refused(Answer::OutOfRange);
-    }
-    let grown = grow(m, &sums.firsts, &sums.gains);
-    if !grown.positive {
-        return refused(Answer::NoFirstSum);
-    }
-    let changes = totals.changes;
-    let firsts = sums.firsts;
-    let gains = sums.gains;
-    let growths = grown.growths;
-    House {
+    let Parts {
+        firsts,
+        gains,
+        changes,
+    } = sum_parts(n, m, marks, equities).ok_or(Answer::OutOfRange)?;
+    let change = sum_group(m, &gains).ok_or(Answer::OutOfRange)?;
+    let Growths { figure, growths } = grow(m, &firsts, &gains).ok_or(Answer::NoFirstSum)?;
+    Ok(House {
         answer: Answer::Done,
-        figure: grown.figure,
-        change: group.value,
+        figure,
+        change,
         changes,
         firsts,
         gains,
         growths,
-    }
+    })
+}
+
+// The report of what is lent, and else the first answer that refuses it.
+fn lent_report(accounts: u64, parts: u64, marks: &[u8], equities: &[i64]) -> Result<House, Answer>
+    ensures { result ≡ lent_report accounts parts marks.now equities.now }
+{
+    early(accounts, parts, marks, equities)?;
+    report_of(accounts as usize, parts as usize, marks, equities)
 }
 
 // Marks and equities stand part by part, in a part account by account, for each its first end and its last. A mark is 1 where the equity is there and 0
@@ -137,9 +138,8 @@ fn report_of(n: usize, m: usize, marks: &[u8], equities: &[i64]) -> House
 pub fn house_return(accounts: u64, parts: u64, marks: &[u8], equities: &[i64]) -> House
     ensures { result ≡ house_of accounts parts marks.now equities.now }
 {
-    let answer = early(accounts, parts, marks, equities);
-    if !is_done(answer) {
-        return refused(answer);
+    match lent_report(accounts, parts, marks, equities) {
+        Ok(house) => house,
+        Err(answer) => refused(answer),
     }
-    report_of(accounts as usize, parts as usize, marks, equities)
 }

@@ -1,14 +1,12 @@
 // The low words of the sums alone, for amounts so small that no sum needs more: then the upper words are what they are of any sum that is in i64.
 ghost use Rattle.std.specs.Prelude.{◌≡◌, ℕ, ◌+◌, ◌*◌, ◌^◌, ◌<◌, ◌≤◌, length, if◌then◌else◌, bit_or, slice_index};
-ghost use Rattle.std.specs.Int.{w64};
-ghost use Rattle.std.proofs.Common.{of_z};
-ghost use Rattle.house.specs.Places.{ends_at};
+ghost use Rattle.std.specs.Int.{w64, cast_unsigned};
+ghost use Rattle.house.specs.Places.{group_in};
 ghost use Rattle.house.specs.Inner.Low.{away, step, LowAdded, LowSummed};
 
 use crate::entry::present;
+use crate::part::Parts;
 use crate::sum::{HALF, lower};
-use std::num::{wrapping_add_u64, wrapping_sub_u64};
-use word_bytes::unsigned;
 
 // 2^55, from 0 either way: so 64 changes, each below 2^56, add up to less than 2^63, and so do 32 first equities. The group's change may not, and is asked
 // with both words.
@@ -21,52 +19,49 @@ struct LowPart {
     spread: u64,
 }
 
-// As in `Parts`, and whether every equity that counts is within reach of 0: below 2^56 where it is.
+// The sums as they are where every equity that counts is within reach of 0, and whether it is: then the spread is below 2^56.
 #[derive(Clone, Copy)]
 pub(crate) struct LowParts {
     pub(crate) spread: u64,
-    pub(crate) firsts: [i64; 64],
-    pub(crate) gains: [i64; 64],
-    pub(crate) lo: [u64; 32],
+    pub(crate) parts: Parts,
 }
 
 fn word_if(there: bool, x: i64) -> u64
-    ensures { result ≡ (if there then of_z w64 x else 0) }
+    ensures { result ≡ (if there then cast_unsigned w64 x else 0) }
 {
-    let w = unsigned(x);
+    let w = x.cast_unsigned();
     if there { w } else { 0 }
 }
 
 // Of an account its first equity, its change, both as words, and how far both ends are from 0.
+#[tactic(auto, unfolding(crate::specs::Inner::Low::away, crate::specs::Inner::Low::step))]
 fn low_entry(from: u64, to: u64) -> LowPart
     ensures { (result.first ≡ from) × (result.gain ≡ step from to) × (result.spread ≡ bit_or (away from) (away to)) }
 {
     LowPart {
         first: from,
-        gain: wrapping_sub_u64(to, from),
-        spread: wrapping_add_u64(from, REACH) | wrapping_add_u64(to, REACH),
+        gain: to.wrapping_sub(from),
+        spread: from.wrapping_add(REACH) | to.wrapping_add(REACH),
     }
 }
 
-fn sum_low_part(n: usize, at: usize, marks: &[u8], equities: &[i64], lo: &mut [u64; 32]) -> LowPart
-    requires n_bound { (n ≤ 32) × (2 * (at + n) ≤ length marks.now) × (2 * (at + n) ≤ length equities.now) }
+// The loop has no way out and no branch but its end.
+fn sum_low_part(n: usize, p: usize, marks: &[u8], equities: &[i64], lo: &mut [u64; 32]) -> LowPart
+    requires n_bound { (n ≤ 32) × (2 * (p * n + n) ≤ length marks.now) × (2 * (p * n + n) ≤ length equities.now) }
     requires lo_len { (length lo.old ≡ 32) × ((i : ℕ) → i < 32 → slice_index lo.old i < 2 ^ 64) }
-    ensures { LowAdded n (λ a. ends_at marks.now equities.now (at + a)) result lo.old lo.new }
+    ensures { LowAdded n p (group_in n marks.now equities.now) result lo.old lo.new }
 {
     let mut first = HALF;
     let mut gain = HALF;
     let mut spread = 0u64;
-    let mut a = 0usize;
-    while a < n {
-        let k = 2 * (at + a);
+    for a in 0..n {
+        let k = 2 * (p * n + a);
         let there = present(marks[k], marks[k + 1]);
         let e = low_entry(word_if(there, equities[k]), word_if(there, equities[k + 1]));
-        first = wrapping_add_u64(first, e.first);
-        gain = wrapping_add_u64(gain, e.gain);
-        let total = wrapping_add_u64(lo[a], e.gain);
-        lo[a] = total;
-        spread = spread | e.spread;
-        a += 1;
+        first = first.wrapping_add(e.first);
+        gain = gain.wrapping_add(e.gain);
+        lo[a] = lo[a].wrapping_add(e.gain);
+        spread |= e.spread;
     }
     LowPart {
         first,
@@ -77,28 +72,28 @@ fn sum_low_part(n: usize, at: usize, marks: &[u8], equities: &[i64], lo: &mut [u
 
 pub(crate) fn sum_low(n: usize, m: usize, marks: &[u8], equities: &[i64]) -> LowParts
     requires { (n ≤ 32) × (m ≤ 64) × (length marks.now ≡ 2 * (m * n)) × (length equities.now ≡ 2 * (m * n)) }
-    ensures { LowSummed n m marks.now equities.now result }
+    ensures { LowSummed n m (group_in n marks.now equities.now) result }
 {
     let mut lo = [HALF; 32];
-    let mut firsts = [0i64; 64];
-    let mut gains = [0i64; 64];
+    let mut firsts = [0; 64];
+    let mut gains = [0; 64];
     let mut spread = 0u64;
-    let mut at = 0usize;
-    let mut p = 0usize;
-    while p < m {
-        let part = sum_low_part(n, at, marks, equities, &mut lo);
-        let first = lower(part.first);
-        let gain = lower(part.gain);
-        firsts[p] = first;
-        gains[p] = gain;
-        spread = spread | part.spread;
-        at += n;
-        p += 1;
+    for p in 0..m {
+        let part = sum_low_part(n, p, marks, equities, &mut lo);
+        firsts[p] = lower(part.first);
+        gains[p] = lower(part.gain);
+        spread |= part.spread;
+    }
+    let mut changes = [0; 32];
+    for a in 0..n {
+        changes[a] = lower(lo[a]);
     }
     LowParts {
         spread,
-        firsts,
-        gains,
-        lo,
+        parts: Parts {
+            firsts,
+            gains,
+            changes,
+        },
     }
 }

@@ -7,32 +7,17 @@ use sums::Wide;
 
 pub(crate) const HALF: u64 = 0x8000_0000_0000_0000;
 
-// What a sum has come to, and whether that is in i64; where it is not, the value means nothing.
-#[derive(Clone, Copy)]
-pub(crate) struct Finished {
-    pub(crate) fits: bool,
-    pub(crate) value: i64,
-}
-
-// The complement of a number below 0 is what it lacks to -1.
+// As words 2^63 added modulo 2^64 raises a number, and lowers it again.
 pub(crate) fn raise(x: i64) -> u64
     ensures { result ≡ raised x }
 {
-    if x < 0 {
-        0x7fff_ffff_ffff_ffff - (!x) as u64
-    } else {
-        x as u64 + HALF
-    }
+    x.cast_unsigned().wrapping_add(HALF)
 }
 
 pub(crate) fn lower(w: u64) -> i64
     ensures { result ≡ lowered w }
 {
-    if w < HALF {
-        !((0x7fff_ffff_ffff_ffff - w) as i64)
-    } else {
-        (w - HALF) as i64
-    }
+    w.wrapping_add(HALF).cast_signed()
 }
 
 // The start of a sum of n numbers makes up for what they are raised by.
@@ -51,20 +36,16 @@ pub(crate) fn plus(w: Wide, x: u64) -> Wide
     requires { w.hi < 2 ^ 32 }
     ensures { result ≡ wide (value_of w + x) }
 {
-    let lo = std::num::wrapping_add_u64(w.lo, x);
-    if lo < x {
-        Wide { hi: w.hi + 1, lo }
-    } else {
-        Wide { hi: w.hi, lo }
+    let lo = w.lo.wrapping_add(x);
+    Wide {
+        hi: w.hi + u64::from(lo < x),
+        lo,
     }
 }
 
-// Of a sum of n numbers.
-pub(crate) fn finish(w: Wide, n: u64) -> Finished
+// What a sum of n numbers has come to, where that is in i64.
+pub(crate) fn finish(w: Wide, n: u64) -> Option<i64>
     ensures { result ≡ ended n (value_of w) }
 {
-    Finished {
-        fits: w.hi == n,
-        value: lower(w.lo),
-    }
+    (w.hi == n).then_some(lower(w.lo))
 }

@@ -1,49 +1,32 @@
 // The change of each account, and of the group, over the whole period.
-ghost use Rattle.std.specs.Prelude.{◌≡◌, ◌≤◌, pos, slice_index_or};
-ghost use Rattle.house.specs.Inner.Raised.{raised, summed, ended};
-ghost use Rattle.house.specs.Inner.Parts.{Totalled};
+ghost use Rattle.std.specs.Prelude.{◌≡◌, false, ◌≤◌, pos, slice_index_or, MatchOption};
+ghost use Rattle.house.specs.Group.{sum_to, every};
+ghost use Rattle.house.specs.Inner.Raised.{fitting};
+ghost use Rattle.house.specs.Inner.Parts.{total_fits, Totalled};
 
-use crate::sum::{Finished, finish, plus, raise, start};
+use crate::sum::{finish, plus, raise, start};
 use sums::Wide;
 
-#[derive(Clone, Copy)]
-pub(crate) struct Totals {
-    pub(crate) fits: bool,
-    pub(crate) changes: [i64; 32],
-}
-
-pub(crate) fn sum_accounts<'a>(n: usize, m: usize, hi: &'a [u64; 32], lo: &'a [u64; 32]) -> Totals
+// None where an account's change is not in i64.
+pub(crate) fn sum_accounts(n: usize, m: usize, totals: &[Wide; 32]) -> Option<[i64; 32]>
     requires { n ≤ 32 }
-    ensures { Totalled n m hi.now lo.now result }
+    ensures { MatchOption result (every n (total_fits m totals.now) ≡ false) (Totalled n m totals.now) }
 {
-    let mut changes = [0i64; 32];
-    let mut fits = true;
-    let mut a = 0usize;
-    while a < n {
-        let total = finish(
-            Wide {
-                hi: hi[a],
-                lo: lo[a],
-            },
-            m as u64,
-        );
-        let change = total.value;
-        changes[a] = change;
-        fits = fits & total.fits;
-        a += 1;
+    let mut changes = [0; 32];
+    for a in 0..n {
+        changes[a] = finish(totals[a], m as u64)?;
     }
-    Totals { fits, changes }
+    Some(changes)
 }
 
-pub(crate) fn sum_group(m: usize, gains: &[i64; 64]) -> Finished
+// None where the group's change is not in i64.
+pub(crate) fn sum_group(m: usize, gains: &[i64; 64]) -> Option<i64>
     requires { m ≤ 64 }
-    ensures { result ≡ ended m (summed m (λ p. raised (slice_index_or gains.now p (pos 0)))) }
+    ensures { result ≡ fitting (sum_to m (λ p. slice_index_or gains.now p (pos 0))) }
 {
     let mut sum = start(m as u64);
-    let mut p = 0usize;
-    while p < m {
+    for p in 0..m {
         sum = plus(sum, raise(gains[p]));
-        p += 1;
     }
     finish(sum, m as u64)
 }

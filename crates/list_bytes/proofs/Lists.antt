@@ -1,15 +1,36 @@
 -- Of a list that is whole, the first places of a column are what the bytes hold: all of it, and nothing more.
-use Prim.Native.Nat.{ℕ, ◌/◌, ◌≤◌}
-use mathlib.Core.Path.{◌≡◌, subst⁻¹}
-use mathlib.Core.Bool.{true}
+use Prim.Native.Nat.{ℕ, ◌/◌, ◌%◌, ◌≤◌}
+use mathlib.Core.Path.{◌≡◌, refl, sym, ap, ◌∙◌, subst⁻¹}
+use mathlib.Core.Bool.{Bool, true, false}
 use mathlib.Core.List.{List}
+use native.Mathlib.Omega.{arith}
+use lib.Dec.{eqb, leb}
 use lib.IntN.{ℤ}
 use lib.Ieee.{Float}
 use lib.ListN.{length, take}
-use Rattle.list_bytes.specs.Entries.{whole_list, at_places_of}
+use lib.Seq.{take_at}
+use borrow.Author.Tests.{leb-true}
+use Rattle.std.specs.Prelude.{Some, None}
+use Rattle.table.specs.Keyed.{pick}
+use Rattle.table.proofs.Keyed.{both_true}
+use Rattle.list_bytes.specs.declared.price.Prices.{Prices}
+use Rattle.list_bytes.specs.declared.target.Targets.{Targets}
+use Rattle.list_bytes.specs.Entries.{is_whole, whole_list, at_places_of}
 use Rattle.list_bytes.specs.Lists.{entry_symbol, entry_weight, entry_price, symbols_in, weights_in, prices_in}
 use Rattle.list_bytes.specs.Inner.Lists.{EntryColumns, entries_into, targets_into, prices_into, targets_of, prices_of}
 use Rattle.list_bytes.proofs.Columns.{count_small, places-long, front_room, front_long, front_all}
+
+-- what a choice gives, where it gives anything
+given : {A : Type 0} (b : Bool) {x y : A} → pick b (Some x) None ≡ Some y → (b ≡ true) × (y ≡ x)
+given true e = (refl, cc)
+given false e = cc
+
+not_given : {A : Type 0} (b : Bool) (x : A) → pick b (Some x) None ≡ None → b ≡ false
+not_given true x e = cc
+not_given false x e = refl
+
+whole-small : (most n : ℕ) → is_whole most n ≡ true → n / 16 ≤ most
+whole-small most n e = leb-true (n / 16) most (both_true (eqb (n % 16) 0) (leb (n / 16) most) e).1
 
 module _ (l : List ℕ) where
   pub symbols-long : length (symbols_in l) ≡ length l / 16
@@ -21,46 +42,67 @@ module _ (l : List ℕ) where
   pub prices-long : length (prices_in l) ≡ length l / 16
   prices-long = places-long (length l / 16) (entry_price l)
 
-  pub target_symbols : whole_list 64 l ≡ true → take (targets_of l).count (targets_of l).symbol ≡ symbols_in l
+  -- ---- by value
+  -- a list that is given is whole, and one that is whole is given
+  pub targets-whole : {t : Targets} → targets_of l ≡ Some t → whole_list 64 l ≡ true
   unfolding targets_of
-  target_symbols e = front_all 64 (length l) (entry_symbol l) _ e
+  targets-whole e = (given (whole_list 64 l) e).0
 
-  pub target_weights : whole_list 64 l ≡ true → take (targets_of l).count (targets_of l).weight ≡ weights_in l
+  pub prices-whole : {p : Prices} → prices_of l ≡ Some p → whole_list 128 l ≡ true
+  unfolding prices_of
+  prices-whole e = (given (whole_list 128 l) e).0
+
+  pub no-targets : targets_of l ≡ None → whole_list 64 l ≡ false
   unfolding targets_of
-  target_weights e = front_all 64 (length l) (entry_weight l) _ e
+  no-targets e = not_given (whole_list 64 l) _ e
 
-  pub price-symbols : whole_list 128 l ≡ true → take (prices_of l).count (prices_of l).symbol ≡ symbols_in l
+  pub no-prices : prices_of l ≡ None → whole_list 128 l ≡ false
   unfolding prices_of
-  price-symbols e = front_all 128 (length l) (entry_symbol l) _ e
+  no-prices e = not_given (whole_list 128 l) _ e
 
-  pub price-prices : whole_list 128 l ≡ true → take (prices_of l).count (prices_of l).price ≡ prices_in l
-  unfolding prices_of
-  price-prices e = front_all 128 (length l) (entry_price l) _ e
-
-  -- ---- and so many of them
-  pub target_symbols-long : length (take (targets_of l).count (targets_of l).symbol) ≡ (targets_of l).count
+  -- the first places of its columns
+  pub target_symbols : {t : Targets} → targets_of l ≡ Some t → take t.count t.symbol ≡ symbols_in l
   unfolding targets_of
-  target_symbols-long = front_long 64 (length l) (entry_symbol l) _
+  target_symbols e = rw (given (whole_list 64 l) e).1 (take_at (symbols_in l) _ (length l / 16) symbols-long)
 
-  pub target_weights-long : length (take (targets_of l).count (targets_of l).weight) ≡ (targets_of l).count
+  pub target_weights : {t : Targets} → targets_of l ≡ Some t → take t.count t.weight ≡ weights_in l
   unfolding targets_of
-  target_weights-long = front_long 64 (length l) (entry_weight l) _
+  target_weights e = rw (given (whole_list 64 l) e).1 (take_at (weights_in l) _ (length l / 16) weights-long)
 
-  pub price-symbols-long : length (take (prices_of l).count (prices_of l).symbol) ≡ (prices_of l).count
+  pub price-symbols : {p : Prices} → prices_of l ≡ Some p → take p.count p.symbol ≡ symbols_in l
   unfolding prices_of
-  price-symbols-long = front_long 128 (length l) (entry_symbol l) _
+  price-symbols e = rw (given (whole_list 128 l) e).1 (take_at (symbols_in l) _ (length l / 16) symbols-long)
 
-  pub price-prices-long : length (take (prices_of l).count (prices_of l).price) ≡ (prices_of l).count
+  pub price-prices : {p : Prices} → prices_of l ≡ Some p → take p.count p.price ≡ prices_in l
   unfolding prices_of
-  price-prices-long = front_long 128 (length l) (entry_price l) _
+  price-prices e = rw (given (whole_list 128 l) e).1 (take_at (prices_in l) _ (length l / 16) prices-long)
 
-  pub targets-small : (targets_of l).count ≤ 64
+  -- and so many of them
+  pub target-count : {t : Targets} → targets_of l ≡ Some t → t.count ≡ length l / 16
   unfolding targets_of
-  targets-small = count_small 64 (length l)
+  target-count e = ap (λ (t : Targets). t.count) (given (whole_list 64 l) e).1
 
-  pub prices-small : (prices_of l).count ≤ 128
+  pub price-count : {p : Prices} → prices_of l ≡ Some p → p.count ≡ length l / 16
   unfolding prices_of
-  prices-small = count_small 128 (length l)
+  price-count e = ap (λ (p : Prices). p.count) (given (whole_list 128 l) e).1
+
+  pub target_symbols-long : {t : Targets} → targets_of l ≡ Some t → length (take t.count t.symbol) ≡ t.count
+  target_symbols-long e = ap length (target_symbols e) ∙ symbols-long ∙ sym (target-count e)
+
+  pub target_weights-long : {t : Targets} → targets_of l ≡ Some t → length (take t.count t.weight) ≡ t.count
+  target_weights-long e = ap length (target_weights e) ∙ weights-long ∙ sym (target-count e)
+
+  pub price-symbols-long : {p : Prices} → prices_of l ≡ Some p → length (take p.count p.symbol) ≡ p.count
+  price-symbols-long e = ap length (price-symbols e) ∙ symbols-long ∙ sym (price-count e)
+
+  pub price-prices-long : {p : Prices} → prices_of l ≡ Some p → length (take p.count p.price) ≡ p.count
+  price-prices-long e = ap length (price-prices e) ∙ prices-long ∙ sym (price-count e)
+
+  pub targets-small : {t : Targets} → targets_of l ≡ Some t → t.count ≤ 64
+  targets-small e = omega (arith, target-count e, whole-small 64 (length l) (targets-whole e))
+
+  pub prices-small : {p : Prices} → prices_of l ≡ Some p → p.count ≤ 128
+  prices-small e = omega (arith, price-count e, whole-small 128 (length l) (prices-whole e))
 
 -- ---- in lent columns
 -- what a caller that lends the first places of the columns on lends

@@ -3,7 +3,6 @@ ghost use Rattle.std.specs.Prelude.{◌≡◌, ◌+◌, ◌*◌, ◌≤◌, leng
 ghost use Rattle.list_bytes.specs.Entries.{at_places_of};
 ghost use Rattle.list_bytes.specs.Inner.Records.{four_at, int_at, written_records, put_all};
 
-use crate::entry::least;
 use word_bytes::{put_symbol, put_word, unsigned};
 
 // The four words of the record at place i, the last of which is its symbol.
@@ -24,11 +23,8 @@ fn put_ints(ints: &[i64], i: usize, out: &mut [u8])
     requires { (8 * i + 8 ≤ length ints.now) × (96 * i + 96 ≤ length out.old) }
     ensures { out.new ≡ put_all out.old (12 * i + 4) (at_places_of 8 (int_at ints.now i)) }
 {
-    let mut j = 0;
-    while j < 8 {
-        let n = ints[8 * i + j];
-        put_word(out, 12 * i + 4 + j, unsigned(n));
-        j += 1;
+    for j in 0..8 {
+        put_word(out, 12 * i + 4 + j, unsigned(ints[8 * i + j]));
     }
 }
 
@@ -36,12 +32,9 @@ fn put_ints(ints: &[i64], i: usize, out: &mut [u8])
 pub fn write_records(words: &[u64], ints: &[i64], count: usize, out: &mut [u8])
     ensures { out.new ≡ written_records words.now ints.now count out.old }
 {
-    let held = least(words.len() / 4, ints.len() / 8);
-    let n = least(count, least(held, out.len() / 96));
-    let mut i = 0;
-    while i < n {
+    let held = (words.len() / 4).min(ints.len() / 8);
+    for i in 0..count.min(held.min(out.len() / 96)) {
         put_words(words, i, out);
         put_ints(ints, i, out);
-        i += 1;
     }
 }

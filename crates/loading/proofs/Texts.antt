@@ -1,30 +1,24 @@
 -- The steps of the code that reads a symbol: its letters, its number, its length.
 use Prim.Native.Nat.{ℕ, ◌+◌, ◌-◌, ◌*◌, ◌^◌, ◌<◌, ◌≤◌}
-use mathlib.Core.Path.{◌≡◌, refl, sym, ap, ◌∙◌}
-use mathlib.Core.Bool.{true, false}
+use Rattle.std.specs.Prelude.{Ok, Err}
+use mathlib.Core.Path.{◌≡◌, refl, ap, ◌∙◌}
+use mathlib.Core.Bool.{false}
 use mathlib.Core.List.{List}
 use native.Mathlib.Omega.{arith}
 use native.Mathlib.Numerals.{add-one}
 use native.Mathlib.Nat.{pow-le-pow_right, pow-suc}
-use lib.ListN.{length, get_or, take, drop, length-take, length-drop, get_or-eq_default}
-use lib.Seq.{get_or-take, get_or-drop}
+use lib.ListN.{length, get_or, take, drop}
 use borrow.Author.Tests.{le-leb, lt-leb, eq-eqb, ne_eqb}
 use Rattle.answer.specs.Choice.{pick}
-use Rattle.answer.specs.Numbers.{is_done}
-use Rattle.answer.specs.declared.Answer.TheVariants.{Done, Unsound, EndsEarly}
+use Rattle.answer.specs.declared.Answer.TheVariants.{Unsound, EndsEarly}
 use Rattle.answer.proofs.Choice.{both_false}
 use Rattle.position.specs.Symbols.{leading, of_bytes}
-use Rattle.seven_bit.specs.declared.Number.{Number}
-use Rattle.seven_bit.specs.Placed.{number_at_of}
+use Rattle.seven_bit.specs.declared.read.Fault.{Fault}
+use Rattle.seven_bit.specs.declared.read.Number.{Number}
+use Rattle.seven_bit.specs.Placed.{ToldNumber, number_at_of, number_or_fault}
+use Rattle.seven_bit.proofs.Faults.{ok_of, err_of}
 use Rattle.saved_form.specs.Texts.{good_length_of, spelt}
-use Rattle.loading.specs.Reading.{no_number_of, then_number, text_read, symbol_read}
-
--- ---- letters
-pub letter_in : (l : List ℕ) (at n i : ℕ) → i < n → get_or l (at + i) 0 ≡ get_or (take n (drop at l)) i 0
-letter_in l at n i h = sym (get_or-take n (drop at l) i 0 h ∙ get_or-drop at l i 0)
-
-pub letter_past : (l : List ℕ) (at n i : ℕ) → n ≤ i → ◌≡◌ {A = ℕ} 0 (get_or (take n (drop at l)) i 0)
-letter_past l at n i h = sym (get_or-eq_default (take n (drop at l)) 0 (omega (arith, length-take n (drop at l))))
+use Rattle.loading.specs.Reading.{no_number_of, text_read, symbol_read}
 
 -- ---- the number of the first i letters
 pub record Spelling (t : List ℕ) (sum i : ℕ) : Type 0 where
@@ -57,58 +51,54 @@ module _ {t : List ℕ} {sum i : ℕ} (h : Spelling t sum i) where
       h.same ∙ ap (leading t) eight
 
 -- ---- the last letter
-module _ (l : List ℕ) (at n : ℕ) (one : 1 ≤ n) (in-it : at + n ≤ length l) where
-  last_letter : get_or (take n (drop at l)) (length (take n (drop at l)) - 1) 0 ≡ get_or l (at + n - 1) 0
-  last_letter =
-      let long : length (take n (drop at l)) ≡ n = omega (arith, length-take n (drop at l), length-drop at l) in
-      let place : at + (n - 1) ≡ at + n - 1 = omega arith in
-      ap (λ (k : ℕ). get_or (take n (drop at l)) (k - 1) 0) long ∙ sym (letter_in l at n (n - 1) (omega arith)) ∙ ap (λ (k : ℕ). get_or l k 0) place
-
-  pub spells_none : get_or l (at + n - 1) 0 ≡ 0 → ◌≡◌ {A = ℕ} 0 (spelt (take n (drop at l)))
+module _ (t : List ℕ) where
+  pub spells_none : get_or t (length t - 1) 0 ≡ 0 → ◌≡◌ {A = ℕ} 0 (spelt t)
   unfolding spelt
-  spells_none z = simp (eq-eqb _ 0 (last_letter ∙ z))
+  spells_none z = simp (eq-eqb _ 0 z)
 
-  pub spells : (get_or l (at + n - 1) 0 ≡ 0 → ⊥) → (v : ℕ) → v ≡ of_bytes (take n (drop at l)) → v ≡ spelt (take n (drop at l))
+  pub spells : (get_or t (length t - 1) 0 ≡ 0 → ⊥) → (v : ℕ) → v ≡ of_bytes t → v ≡ spelt t
   unfolding spelt
-  spells z v e = simp (ne_eqb _ 0 (λ y. z (sym last_letter ∙ y))) e
+  spells z v e = simp (ne_eqb _ 0 z) e
 
 -- ---- the text
 module _ (l : List ℕ) (n at : ℕ) where
-  pub text_in : (v : ℕ) → at + n ≤ length l → v ≡ spelt (take n (drop at l)) → record { answer = Done; value = v; next = at + n } ≡ text_read l n at
+  pub text_in : (v : ℕ) → at + n ≤ length l → v ≡ spelt (take n (drop at l)) → Ok (record { value = v; next = at + n }) ≡ number_or_fault (text_read l n at)
   unfolding text_read
-  text_in v h e = simp (le-leb (at + n) (length l) h) (ap (λ (x : ℕ). record { answer = Done; value = x; next = at + n }) e)
+  text_in v h e = simp (le-leb (at + n) (length l) h) (ap (λ (x : ℕ). Ok (record { value = x; next = at + n })) e)
 
-  pub text_past : length l < at + n → no_number_of (EndsEarly (length l)) (length l) ≡ text_read l n at
+  pub text_past : length l < at + n → Err (record { answer = EndsEarly (length l); place = length l }) ≡ number_or_fault (text_read l n at)
   unfolding text_read
   text_past h = simp (lt-leb (at + n) (length l) h)
 
--- ---- a number, and what follows it
-module _ (m n : Number) (more : Number → Number) (e : n ≡ m) where
-  goes_on : is_done n.answer ≡ true → more n ≡ then_number m more
-  goes_on d = let w : is_done m.answer ≡ true = rw e at d in simp w (ap more e)
-
-  stands : is_done n.answer ≡ false → n ≡ then_number m more
-  stands d = let w : is_done m.answer ≡ false = rw e at d in simp w e
-
 -- ---- "a symbol length outside 1 to 8"
-module _ (l : List ℕ) (place : ℕ) (n : Number) (e : n ≡ number_at_of l place) where
-  abbrev after : Number → Number
-  after n = pick (good_length_of n.value) (text_read l n.value n.next) (no_number_of Unsound place)
+module _ (l : List ℕ) (place : ℕ) where
+  abbrev told : ToldNumber
+  told = number_at_of l place
 
-  pub no_number : is_done n.answer ≡ false → n ≡ symbol_read l place
+  pub no_number : (f : Fault) → Err f ≡ number_or_fault told → Err f ≡ number_or_fault (symbol_read l place)
   unfolding symbol_read
-  no_number d = stands (number_at_of l place) n after e d
+  no_number f e =
+      let d = (err_of told.answer told.next (record { value = told.value; next = told.next }) f e).0 in
+      let s : told ≡ symbol_read l place = simp d in
+      e ∙ ap number_or_fault s
 
-  module _ (d : is_done n.answer ≡ true) where
-    follows : {r : Number} → r ≡ after n → r ≡ symbol_read l place
+  module _ (n : Number) (e : Ok n ≡ number_or_fault told) where
+    follows : pick (good_length_of n.value) (text_read l n.value n.next) (no_number_of Unsound place) ≡ symbol_read l place
     unfolding symbol_read
-    follows h = h ∙ goes_on (number_at_of l place) n after e d
+    follows = let o = ok_of told.answer told.next (record { value = told.value; next = told.next }) n e in rw o.1 (simp o.0)
 
-    pub no_length : n.value ≡ 0 → no_number_of Unsound place ≡ symbol_read l place
-    no_length z = follows (simp (lt-leb 1 n.value (omega arith)))
+    pub good_length : 1 ≤ n.value → n.value ≤ 8 → number_or_fault (text_read l n.value n.next) ≡ number_or_fault (symbol_read l place)
+    good_length some few =
+        let s : text_read l n.value n.next ≡ pick (good_length_of n.value) (text_read l n.value n.next) (no_number_of Unsound place) =
+        simp (le-leb 1 n.value some, le-leb n.value 8 few)
+        in
+        ap number_or_fault (s ∙ follows)
 
-    pub good_length : (n.value ≡ 0 → ⊥) → n.value ≤ 8 → text_read l n.value n.next ≡ symbol_read l place
-    good_length z h = follows (simp (le-leb 1 n.value (omega (arith, z)), le-leb n.value 8 h))
+    bad_length : good_length_of n.value ≡ false → Err (record { answer = Unsound; place = place }) ≡ number_or_fault (symbol_read l place)
+    bad_length b = let s : no_number_of Unsound place ≡ pick (good_length_of n.value) (text_read l n.value n.next) (no_number_of Unsound place) = simp b in ap number_or_fault (s ∙ follows)
 
-    pub long-length : 8 < n.value → no_number_of Unsound place ≡ symbol_read l place
-    long-length h = follows (simp (lt-leb n.value 8 h, both_false))
+    pub no_length : n.value < 1 → Err (record { answer = Unsound; place = place }) ≡ number_or_fault (symbol_read l place)
+    no_length z = bad_length (simp (lt-leb 1 n.value z))
+
+    pub long-length : 8 < n.value → Err (record { answer = Unsound; place = place }) ≡ number_or_fault (symbol_read l place)
+    long-length h = bad_length (simp (lt-leb n.value 8 h, both_false))

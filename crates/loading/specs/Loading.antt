@@ -1,5 +1,5 @@
 -- Document 02, 5: what loading answers, and the account that a file holds.
-use Rattle.std.specs.Prelude.{ℕ, List, eqb, length}
+use Rattle.std.specs.Prelude.{ℕ, List, eqb, length, Result, Ok, Err}
 use Rattle.answer.specs.Choice.{pick}
 use Rattle.answer.specs.Numbers.{is_done, unless, or_later}
 use Rattle.answer.specs.declared.Answer.{Answer}
@@ -27,6 +27,10 @@ load_answer l =
     (or_later (positions_in l).answer
     (unless (eqb (positions_in l).next (length l)) (LeftOver (positions_in l).next)
     (unless (sound_account (file_account l)) Unsound Done)))))
+
+-- the account, or why the file is refused
+abbrev pub account_read : List ℕ → Result Account Answer
+account_read l = pick (is_done (load_answer l)) (Ok (file_account l)) (Err (load_answer l))
 
 abbrev pub not_loaded : Answer → Changed
 not_loaded w = answered w zero_account

@@ -1,84 +1,56 @@
 // One number of the file, and numbers in a row.
-ghost use Rattle.std.specs.Prelude.{◌≡◌, ◌+◌, ◌≤◌, ◌<◌, ◌^◌, length};
+ghost use Rattle.std.specs.Prelude.{◌≡◌, ◌+◌, ◌<◌, ◌^◌, length};
 ghost use Rattle.std.proofs.lemmas.List.Edits.{sets};
+ghost use Rattle.seven_bit.specs.Placed.{number_or_fault};
 ghost use Rattle.saved_form.specs.Fields.{field_at};
 ghost use Rattle.saved_form.specs.Inner.Fields.{fields_from};
-ghost use Rattle.loading.specs.Reading.{no_number_of, field_read, fields_read_of};
+ghost use Rattle.loading.specs.Reading.{field_read, fields_read_of};
 ghost use Rattle.loading.specs.Inner.Reading.{reached};
 
-use answer::{Answer, is_done};
+use answer::Answer;
 use saved_form::{allows, nth_field, stands};
-use seven_bit::{Number, number_at};
-
-// Where a run of numbers ended: after the last one, or at the first refusal.
-#[derive(Clone, Copy)]
-pub(crate) struct Reached {
-    pub(crate) answer: Answer,
-    pub(crate) next: usize,
-}
-
-// No number, and why: a refusal, or none where the form has no number there.
-pub(crate) fn no_number(answer: Answer, place: usize) -> Number
-    ensures { result ≡ no_number_of answer place }
-{
-    Number {
-        answer,
-        value: 0,
-        next: place,
-    }
-}
+use seven_bit::{Fault, Number, number_at};
 
 // The number of a field after the one before it; 0 where the form has none there.
-pub(crate) fn field_at(bytes: &[u8], place: usize, form: u64, i: usize, before: u64) -> Number
-    ensures { result ≡ field_read bytes.now form (field_at i) before place }
+fn field_at(bytes: &[u8], place: usize, form: u64, i: usize, before: u64) -> Result<Number, Fault>
+    ensures { result ≡ number_or_fault (field_read bytes.now form (field_at i) before place) }
 {
-    let f = nth_field(i);
-    if !stands(form, f, before) {
-        return no_number(Answer::Done, place);
+    let field = nth_field(i);
+    if !stands(form, field, before) {
+        return Ok(Number {
+            value: 0,
+            next: place,
+        });
     }
-    let n = number_at(bytes, place);
-    let answer = n.answer;
-    if !is_done(answer) {
-        return n;
+    let number = number_at(bytes, place)?;
+    if !allows(field.kind, number.value) {
+        return Err(Fault {
+            answer: Answer::Unsound,
+            place,
+        });
     }
-    let kind = f.kind;
-    if !allows(kind, n.value) {
-        return no_number(Answer::Unsound, place);
-    }
-    n
+    Ok(number)
 }
 
-// As many fields as there are places for, from one on. It stops at the first refusal.
+// As many fields as there are places for, from one on, and the place after them. It stops at the first fault.
 pub(crate) fn fields_at(
     bytes: &[u8],
     place: usize,
     form: u64,
     first: usize,
     out: &mut [u64],
-) -> Reached
+) -> Result<usize, Fault>
     requires { first + length out.old < 2 ^ 64 }
     ensures { let run = fields_read_of bytes.now form (fields_from first (length out.old)) 0 place in
         (result ≡ reached run) × (out.new ≡ sets out.old 0 run.values) }
 {
-    let mut i: usize = 0;
     let mut at = place;
-    let mut before: u64 = 0;
-    while i < out.len() {
-        let n = field_at(bytes, at, form, first + i, before);
-        let answer = n.answer;
-        if !is_done(answer) {
-            return Reached {
-                answer,
-                next: n.next,
-            };
-        }
-        out[i] = n.value;
-        before = n.value;
-        at = n.next;
-        i += 1;
+    let mut before = 0;
+    for (i, value) in out.iter_mut().enumerate() {
+        let number = field_at(bytes, at, form, first + i, before)?;
+        *value = number.value;
+        before = number.value;
+        at = number.next;
     }
-    Reached {
-        answer: Answer::Done,
-        next: at,
-    }
+    Ok(at)
 }

@@ -6,6 +6,7 @@ use mathlib.Core.List.{List, foldl}
 use native.Mathlib.Omega.{arith}
 use lib.ListN.{length, drop, get_or, drop_of_length-le}
 use lib.Ieee.{Float}
+use Rattle.std.proofs.Common.{Some, None}
 use Rattle.doubles.specs.Doubles.{finite, all_finite}
 use Rattle.doubles.proofs.Finite.{drop-next}
 use Rattle.metrics.specs.Curve.{flat, curve_after}
@@ -17,7 +18,6 @@ use Rattle.metrics.specs.declared.tally.Tally.{Tally}
 use Rattle.metrics.proofs.FiniteEquity.{equity-finite}
 
 pub record Gathering (rs : List Float) (c : Curve) (t : Tally) (i : ℕ) : Type 0 where
-  pub inside : i ≤ length rs
   pub won : t.winning_periods ≤ i
   pub lost : t.losing_periods ≤ i
   pub whole_curve : foldl curve_after c (drop i rs) ≡ foldl curve_after flat rs
@@ -29,7 +29,7 @@ counted-one n i false l = omega arith
 
 module _ (rs : List Float) where
   pub gather_first : Gathering rs flat no_returns 0
-  gather_first = record { inside = omega arith; won = omega arith; lost = omega arith; whole_curve = refl; whole_tally = refl }
+  gather_first = record { won = omega arith; lost = omega arith; whole_curve = refl; whole_tally = refl }
 
   pub gather_on : (c : Curve) (t : Tally) (i : ℕ) (d : Float) → i < length rs → Gathering rs c t i
       → Gathering rs (curve_after c (get_or rs i d)) (tally_after t (get_or rs i d)) (i + 1)
@@ -37,23 +37,30 @@ module _ (rs : List Float) where
   gather_on c t i d l g =
       let r = get_or rs i d in
       record {
-        inside = omega arith;
         won = counted-one t.winning_periods i (wins r) g.won;
         lost = counted-one t.losing_periods i (loses r) g.lost;
         whole_curve = sym (ap (foldl curve_after c) (drop-next rs i d l)) ∙ g.whole_curve;
         whole_tally = sym (ap (foldl tally_after t) (drop-next rs i d l)) ∙ g.whole_tally;
       }
 
-  last_curve : (c : Curve) (t : Tally) (i : ℕ) → length rs ≤ i → Gathering rs c t i → c ≡ foldl curve_after flat rs
-  last_curve c t i l g = sym (ap (foldl curve_after c) (drop_of_length-le rs l)) ∙ g.whole_curve
+  module _ (c : Curve) (t : Tally) (i : ℕ) (l : length rs ≤ i) (g : Gathering rs c t i) where
+    last_curve : c ≡ foldl curve_after flat rs
+    last_curve = sym (ap (foldl curve_after c) (drop_of_length-le rs l)) ∙ g.whole_curve
 
-  -- a finite equity settles whether all are finite
-  pub equity_settles : (c : Curve) (t : Tally) (i : ℕ) → length rs ≤ i → Gathering rs c t i → finite c.equity ≡ true → true ≡ all_finite rs
-  equity_settles c t i l g h = sym (equity-finite flat rs (ap (λ c. finite c.equity) (sym (last_curve c t i l g)) ∙ h)).1
+    last_tally : t ≡ foldl tally_after no_returns rs
+    last_tally = sym (ap (foldl tally_after t) (drop_of_length-le rs l)) ∙ g.whole_tally
 
-  pub gather_last : (f : Bool) (c : Curve) (t : Tally) (i : ℕ) → length rs ≤ i → Gathering rs c t i → f ≡ all_finite rs → record { finite = f; curve = c; tally = t } ≡ gathered rs
+    -- a finite equity settles whether all are finite
+    pub equity_settles : finite c.equity ≡ true → true ≡ all_finite rs
+    equity_settles h = sym (equity-finite flat rs (ap (λ c. finite c.equity) (sym last_curve) ∙ h)).1
+
+    pub gather_all : true ≡ all_finite rs → Some (record { curve = c; tally = t }) ≡ gathered rs
+    unfolding gathered
+    gather_all e =
+        let d = last_curve in
+        let u = last_tally in
+        rw (← e) (cc)
+
+  pub gather_none : false ≡ all_finite rs → None ≡ gathered rs
   unfolding gathered
-  gather_last f c t i l g e =
-      let d : c ≡ foldl curve_after flat rs = last_curve c t i l g in
-      let u : t ≡ foldl tally_after no_returns rs = sym (ap (foldl tally_after t) (drop_of_length-le rs l)) ∙ g.whole_tally in
-      cc
+  gather_none e = rw (← e)

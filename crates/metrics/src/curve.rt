@@ -10,6 +10,7 @@ pub(crate) struct Curve {
 }
 
 // The other value where it is above the first. A NaN is above nothing.
+// Kept: `f64::max` gives the other number where one is a NaN, and here a NaN stays.
 #[tactic(auto, unfolding(crate::specs::Curve::raised))]
 fn raised(value: f64, other: f64) -> f64
     ensures { result ≡ raised value other }

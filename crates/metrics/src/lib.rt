@@ -8,8 +8,10 @@ mod tally;
 
 ghost use Rattle.std.specs.Prelude.{◌≡◌};
 ghost use Rattle.metrics.specs.Answers.{metrics_of, refusal};
-ghost use Rattle.metrics.specs.Inner.Gathered.{figures_from};
+ghost use Rattle.metrics.specs.Inner.Gathered.{figures_from, measured};
 
+use crate::series::{Gathered, gather};
+use crate::tally::Tally;
 use answer::Answer;
 
 // At most 4,096 returns in one set of figures.
@@ -37,6 +39,7 @@ pub struct Figures {
     pub kelly: f64,
 }
 
+// Kept: `answer` stands beside figures, since document 01 says "Each refusal returns its number with zero figures".
 #[derive(Clone, Copy)]
 pub struct Metrics {
     pub answer: Answer,
@@ -48,30 +51,37 @@ pub struct Metrics {
 fn refused(answer: Answer) -> Metrics
     ensures { result ≡ refusal answer }
 {
-    let figures = Figures {
-        total_return: 0.0,
-        max_drawdown: 0.0,
-        num_periods: 0,
-        winning_periods: 0,
-        losing_periods: 0,
-        win_rate: 0.0,
-        profit_factor: 0.0,
-        payoff_ratio: 0.0,
-        kelly: 0.0,
-    };
-    Metrics { answer, figures }
+    Metrics {
+        answer,
+        figures: Figures {
+            total_return: 0.0,
+            max_drawdown: 0.0,
+            num_periods: 0,
+            winning_periods: 0,
+            losing_periods: 0,
+            win_rate: 0.0,
+            profit_factor: 0.0,
+            payoff_ratio: 0.0,
+            kelly: 0.0,
+        },
+    }
 }
 
 // The figures of what one pass over `num_periods` returns gathered.
 #[tactic(auto, unfolding(crate::specs::Inner::Gathered::figures_from, crate::specs::Inner::Gathered::tally_payoff))]
-fn figures_of(num_periods: u64, curve: curve::Curve, tally: tally::Tally) -> Figures
-    ensures { result ≡ figures_from num_periods curve tally }
+fn figures_of(num_periods: u64, gathered: Gathered) -> Figures
+    ensures { result ≡ figures_from num_periods gathered.curve gathered.tally }
 {
-    let winning_periods = tally.winning_periods;
-    let losing_periods = tally.losing_periods;
+    let Gathered { curve, tally } = gathered;
+    let Tally {
+        winning_periods,
+        losing_periods,
+        sum_positive,
+        sum_negative,
+    } = tally;
     let win_rate = ratio::win_rate(winning_periods, num_periods);
-    let mean_winning = ratio::mean(tally.sum_positive, winning_periods);
-    let mean_losing = ratio::mean(tally.sum_negative, losing_periods);
+    let mean_winning = ratio::mean(sum_positive, winning_periods);
+    let mean_losing = ratio::mean(sum_negative, losing_periods);
     let payoff_ratio = ratio::gain_over_loss(mean_winning, mean_losing);
     Figures {
         total_return: curve.equity - 1.0,
@@ -80,32 +90,38 @@ fn figures_of(num_periods: u64, curve: curve::Curve, tally: tally::Tally) -> Fig
         winning_periods,
         losing_periods,
         win_rate,
-        profit_factor: ratio::gain_over_loss(tally.sum_positive, tally.sum_negative),
+        profit_factor: ratio::gain_over_loss(sum_positive, sum_negative),
         payoff_ratio,
         kelly: ratio::kelly(win_rate, payoff_ratio),
     }
 }
 
-// Compute performance metrics from a series of periodic returns: answer 6 for a series over its bound,
-// then 12 for one that is empty or has a non-finite member.
-#[tactic(auto, using(crate::proofs::OnePass::figures_are), unfolding(crate::specs::Answers::metrics_of, crate::specs::Inner::Gathered::gathered))]
+// The figures of a series, and else why it has none: answer 6 for a series over its bound, then 12 for one that is empty or has
+// a non-finite member.
+#[tactic(auto, using(crate::proofs::OnePass::figures_are), unfolding(crate::specs::Inner::Gathered::measured, crate::specs::Inner::Gathered::gathered))]
+fn measure(returns: &[f64]) -> Result<Figures, Answer>
+    ensures { result ≡ measured returns.now }
+{
+    if returns.len() > MOST_RETURNS {
+        return Err(Answer::TooLong);
+    }
+    if returns.is_empty() {
+        return Err(Answer::BadSeries);
+    }
+    let gathered = gather(returns).ok_or(Answer::BadSeries)?;
+    Ok(figures_of(returns.len() as u64, gathered))
+}
+
+// Compute performance metrics from a series of periodic returns.
+#[tactic(auto, unfolding(crate::specs::Answers::metrics_of, crate::specs::Inner::Gathered::measured))]
 pub fn compute_metrics(returns: &[f64]) -> Metrics
     ensures { result ≡ metrics_of returns.now }
 {
-    if returns.len() > MOST_RETURNS {
-        return refused(Answer::TooLong);
-    }
-    if returns.len() == 0 {
-        return refused(Answer::BadSeries);
-    }
-    let gathered = series::gather(returns);
-    if !gathered.finite {
-        return refused(Answer::BadSeries);
-    }
-    let curve = gathered.curve;
-    let tally = gathered.tally;
-    Metrics {
-        answer: Answer::Done,
-        figures: figures_of(returns.len() as u64, curve, tally),
+    match measure(returns) {
+        Ok(figures) => Metrics {
+            answer: Answer::Done,
+            figures,
+        },
+        Err(answer) => refused(answer),
     }
 }

@@ -7,37 +7,28 @@ use crate::curve::Curve;
 use crate::tally::Tally;
 use doubles::{all_finite, is_finite};
 
-// What the returns so far have come to, and whether all of them are finite.
+// What the returns so far have come to.
 #[derive(Clone, Copy)]
 pub(crate) struct Gathered {
-    pub(crate) finite: bool,
     pub(crate) curve: Curve,
     pub(crate) tally: Tally,
 }
 
-// The figures' passes over the series in one: each reads the returns in the same order. After a return that is not
-// finite no equity is, so the returns are looked at one by one only where the equity at the end is not finite.
-pub(crate) fn gather(returns: &[f64]) -> Gathered
+// The figures' passes over the series in one: each reads the returns in the same order. None where a return is not finite:
+// after one no equity is, so the returns are looked at one by one only where the equity at the end is not finite.
+pub(crate) fn gather(returns: &[f64]) -> Option<Gathered>
     requires { length returns.now ≤ most_returns }
     ensures { result ≡ gathered returns.now }
 {
     let mut curve = Curve::start();
     let mut tally = Tally::start();
-    let mut i = 0usize;
-    while i < returns.len() {
-        let r = returns[i];
-        curve = curve.after(r);
-        tally = tally.after(r);
-        i += 1;
+    for r in returns {
+        curve = curve.after(*r);
+        tally = tally.after(*r);
     }
-    let finite = if is_finite(curve.equity) {
-        true
+    if is_finite(curve.equity) || all_finite(returns) {
+        Some(Gathered { curve, tally })
     } else {
-        all_finite(returns)
-    };
-    Gathered {
-        finite,
-        curve,
-        tally,
+        None
     }
 }

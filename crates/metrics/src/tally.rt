@@ -16,7 +16,7 @@ fn counted(n: u64, counts: bool) -> u64
     requires { n < most_returns }
     ensures { result ≡ counted_if n counts }
 {
-    if counts { n + 1 } else { n }
+    n + u64::from(counts)
 }
 
 // The sum with the return where it counts. Else -0.0 is added, which leaves every double as it is: a sum that is

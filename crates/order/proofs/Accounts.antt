@@ -8,7 +8,8 @@ use lib.IntN.{ℤ, pos, ◌+ℤ◌}
 use Rattle.position.specs.declared.position.Position.{Position}
 use Rattle.cost_model.specs.declared.CostModel.{CostModel}
 use Rattle.cost_model.specs.Costs.{good_costs}
-use Rattle.table.specs.Rows.{Cols, rows}
+use Rattle.table.specs.Rows.{rows}
+use Rattle.table.specs.declared.table.Columns.{Columns}
 use Rattle.table.specs.Inner.Rows.{Ordered}
 use Rattle.account.specs.declared.account.Account.{Account}
 use Rattle.account.specs.Account.{table_of}
@@ -50,7 +51,7 @@ module _ (a : Account) (t : Terms) (os : List Order) (s : State) (g : OrdersOn a
 
   -- and of the count and the five columns that two such runs leave
   pub same-columns : (v w : List Order) → Perm Order os v → Perm Order os w → AllWhole t v s → AllWhole t w s
-      → (n m : ℕ) (c d : Cols) → Ordered n c → Ordered m d → rows n c ≡ (fill_all t v s).held → rows m d ≡ (fill_all t w s).held → table_with n c ≡ table_with m d
+      → (n m : ℕ) (c d : Columns) → Ordered n c → Ordered m d → rows n c ≡ (fill_all t v s).held → rows m d ≡ (fill_all t w s).held → table_with n c ≡ table_with m d
   same-columns v w p q x y n m c d o k e f =
       let same = order_is_free.same v w p q x y in
       sym (ordered-table n c o) ∙ ap table_of (e ∙ same.held ∙ sym f) ∙ ordered-table m d k

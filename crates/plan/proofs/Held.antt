@@ -14,7 +14,8 @@ use Rattle.table.specs.Keyed.{pick}
 use Rattle.table.specs.Inner.Places.{found}
 use Rattle.table.specs.declared.found.Found.{Found}
 use Rattle.table.specs.declared.found.Found.TheVariants.{At, Absent}
-use Rattle.table.specs.Rows.{Cols, zipped, rows, Full, row_at}
+use Rattle.table.specs.Rows.{zipped, rows, Full, row_at}
+use Rattle.table.specs.declared.table.Columns.{Columns}
 use Rattle.table.specs.Inner.Rows.{Ordered, held_at}
 use Rattle.table.proofs.Zipped.{zipped-length, zipped_at}
 use Rattle.table.proofs.Posting.{held_is_holding}
@@ -26,7 +27,7 @@ use Rattle.admission.specs.Running.{plan_of}
 use Rattle.admission.specs.Inner.Columns.{from}
 use Rattle.plan.specs.Inner.Adding.{close_at, closes_at, quantity_at, target_at, targets_at, wanted_at}
 
-quantity-held : (f : Found) (s : ℕ) (c : Cols) → quantity_at f c.quantity ≡ (held_at f s c).quantity.0
+quantity-held : (f : Found) (s : ℕ) (c : Columns) → quantity_at f c.quantity ≡ (held_at f s c).quantity.0
 quantity-held (At i) s c = go (ltb i 64)
   where
     go : (b : Bool) → pick b (get_or c.quantity i (pos 0)) (pos 0) ≡ (pick b (row_at i c) (fresh s)).quantity.0
@@ -34,7 +35,7 @@ quantity-held (At i) s c = go (ltb i 64)
     go false = refl
 quantity-held (Absent i) s c = refl
 
-module _ (s : Settings) (equity : ℤ) (price : ℕ → ℤ) (targets : List ℕ) (c : Cols) where
+module _ (s : Settings) (equity : ℤ) (price : ℕ → ℤ) (targets : List ℕ) (c : Columns) where
   closes_from : Full c → (i k : ℕ) → i + k ≤ 64 → from (close_at s equity price targets c.symbol c.quantity) i k ≡ closings s equity price targets (take k (drop i (zipped c)))
   unfolding closings closing
   closes_from f i zero h = refl

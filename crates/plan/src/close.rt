@@ -8,19 +8,14 @@ use account::Settings;
 use admission::{add_order, is_capped, most_of};
 use call_lists::{is_among, quote};
 use position::{Shares, Symbol};
-use table::used;
+use table::{Columns, used};
 use wanted::planned_close;
 
 // Whether a symbol is a target. The hinted place is looked at first; the answer does not depend on the hint.
 fn is_target(symbol: u64, targets: &[u64], hint: usize) -> bool
     ensures { result ≡ among symbol targets.now }
 {
-    if hint < targets.len() {
-        if targets[hint] == symbol {
-            return true;
-        }
-    }
-    is_among(symbol, targets)
+    hint < targets.len() && targets[hint] == symbol || is_among(symbol, targets)
 }
 
 // Adds the closes of n holdings to a plan of m orders; returns the count. A holding that is kept likely stands at its own place among the
@@ -50,19 +45,15 @@ pub fn plan_closes<'a>(
     let capped = is_capped(s);
     let most = most_of(s);
     let mut count = m;
-    let mut hint = 0usize;
-    let mut i = 0usize;
-    while i < places {
-        let k = key[i];
-        let h = held[i];
-        if !is_target(k, targets, i) {
-            let q = quote(symbols, prices, k, hint);
+    let mut hint = 0;
+    for (i, (k, h)) in key[..places].iter().zip(&held[..places]).enumerate() {
+        if !is_target(*k, targets, i) {
+            let q = quote(symbols, prices, *k, hint);
             hint = q.next;
-            let o = planned_close(s, equity, Symbol(k), Shares::from_raw(h), q.price, false);
+            let o = planned_close(s, equity, Symbol(*k), Shares::from_raw(*h), q.price, false);
             count = add_order(symbol, quantity, price, drift, count, o, capped);
         }
-        count = used(count, most);
-        i += 1;
+        count = count.min(most);
     }
     count
 }

@@ -8,6 +8,7 @@ use crate::close::plan_closes;
 use crate::target::plan_targets;
 use account::Settings;
 use admission::{admit, notional_sum, run_order};
+use table::Columns;
 
 // How many orders there are, and what they come to at listed prices.
 #[derive(Clone, Copy)]
@@ -38,7 +39,7 @@ pub fn admit_plan<'a>(
         (counted_plan 0 c) (counted_plan result d) }
 {
     let closes = plan_closes(
-        key, held, n, targets, symbols, prices, s, equity, symbol, quantity, price, drift, 0usize,
+        key, held, n, targets, symbols, prices, s, equity, symbol, quantity, price, drift, 0,
     );
     let wanted = plan_targets(
         key, held, n, targets, weights, symbols, prices, s, equity, symbol, quantity, price, drift,

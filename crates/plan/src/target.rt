@@ -8,19 +8,17 @@ use account::Settings;
 use admission::{add_order, is_capped, most_of};
 use call_lists::quote;
 use position::{Shares, Symbol};
-use table::{Found, find, used};
+use table::{Columns, Found, find};
 use wanted::planned_target;
 
 // The quantity at a place that a search found, 0 where it found none.
 fn quantity_at(held: &[i64; 64], f: Found) -> i64
     ensures { result ≡ quantity_at f held.now }
 {
-    if let Found::At(i) = f {
-        if i < 64 {
-            return held[i];
-        }
+    match f {
+        Found::At(i) if i < 64 => held[i],
+        _ => 0,
     }
-    0
 }
 
 // The quantity that is held of a symbol, where the symbols ascend.
@@ -33,8 +31,7 @@ fn quantity_of<'a>(
 ) -> i64
     ensures { HoldsQuantity key.now held.now n symbol result }
 {
-    let f = find(key, n, symbol, hint);
-    quantity_at(held, f)
+    quantity_at(held, find(key, n, symbol, hint))
 }
 
 // Adds the orders for the targets to a plan of m orders; returns the count. A target is likely held at its own place in the list.
@@ -60,22 +57,16 @@ pub fn plan_targets<'a>(
         PlansTargets s equity key.now held.now n targets.now weights.now symbols.now prices.now
         (counted_plan m c) (counted_plan result d) }
 {
-    let places = used(targets.len(), weights.len());
     let capped = is_capped(s);
     let most = most_of(s);
     let mut count = m;
-    let mut hint = 0usize;
-    let mut i = 0usize;
-    while i < places {
-        let k = targets[i];
-        let w = weights[i];
-        let q = quote(symbols, prices, k, hint);
+    let mut hint = 0;
+    for (i, (k, w)) in targets.iter().zip(weights).enumerate() {
+        let q = quote(symbols, prices, *k, hint);
         hint = q.next;
-        let h = quantity_of(key, held, n, k, i);
-        let o = planned_target(s, equity, Symbol(k), Shares::from_raw(h), q.price, w);
-        count = add_order(symbol, quantity, price, drift, count, o, capped);
-        count = used(count, most);
-        i += 1;
+        let h = quantity_of(key, held, n, *k, i);
+        let o = planned_target(s, equity, Symbol(*k), Shares::from_raw(h), q.price, *w);
+        count = add_order(symbol, quantity, price, drift, count, o, capped).min(most);
     }
     count
 }

@@ -13,7 +13,8 @@ use Rattle.position.specs.declared.position.Position.{Position}
 use Rattle.position.specs.Rows.{key_of}
 use Rattle.table.specs.Keyed.{pick, there, new, seek}
 use Rattle.table.specs.Inner.Places.{found, found_from}
-use Rattle.table.specs.Rows.{Cols, rows}
+use Rattle.table.specs.Rows.{rows}
+use Rattle.table.specs.declared.table.Columns.{Columns}
 use Rattle.table.specs.Inner.Rows.{Ordered}
 use Rattle.table.specs.declared.found.Found.{Found}
 use Rattle.table.specs.declared.found.Found.TheVariants.{At, Absent}
@@ -53,5 +54,5 @@ unfolding lacking not_held
 lacking-keys [] ps = refl
 lacking-keys (t ∷ l) ps = rw (lacked_new 0 t ps, lacking-keys l ps) (counted-new (seek key_of t ps) (not_held l ps))
 
-pub lacking-held : (ts : List ℕ) (n : ℕ) (c : Cols) → Ordered n c → lacking ts (take n c.symbol) ≡ not_held ts (rows n c)
+pub lacking-held : (ts : List ℕ) (n : ℕ) (c : Columns) → Ordered n c → lacking ts (take n c.symbol) ≡ not_held ts (rows n c)
 lacking-held ts n c o = sym (ap (lacking ts) (keys_of n c o.full)) ∙ lacking-keys ts (rows n c)

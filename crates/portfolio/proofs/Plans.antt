@@ -62,13 +62,13 @@ module _ (a : Account) (ts : List ℕ) (ws : List Float) (ps : List ℕ) (room :
   own = equity_of price a.cash (held_in a.positions)
 
   abbrev at_places : ℤ
-  at_places = equity_at price a.cash a.positions.count a.positions.symbol a.positions.quantity
+  at_places = equity_at price a.cash a.positions.count a.positions.columns.symbol a.positions.columns.quantity
 
   own_equity : at_places ≡ own
   own_equity = equity_of_places price a y.sound y.full
 
   abbrev wanted_at_lem : List PlannedOrder
-  wanted_at_lem = wanted_at a.settings at_places price a.positions.count a.positions.symbol a.positions.quantity ts ws
+  wanted_at_lem = wanted_at a.settings at_places price a.positions.count a.positions.columns.symbol a.positions.columns.quantity ts ws
 
   plan_of_account : pick (le_z at_places (pos 0)) [] (admitted a.settings (added_all a.settings wanted_at_lem [])) ≡ admitted_plan a ts ws price
   unfolding admitted_plan
@@ -97,14 +97,14 @@ module _ (a : Account) (ts : List ℕ) (ws : List Float) (ps : List ℕ) (room :
 
   -- at equity 0 or below, or else
   stands_by : (b : Bool) (k c : PlanCols) (r : Planned) → FullPlan k
-      → standing c r ≡ pick b (standing k (record { count = 0; notional = pos 0 })) (plan_made a.settings at_places price a.positions.count a.positions.symbol a.positions.quantity ts ws k)
+      → standing c r ≡ pick b (standing k (record { count = 0; notional = pos 0 })) (plan_made a.settings at_places price a.positions.count a.positions.columns.symbol a.positions.columns.quantity ts ws k)
       → PlanStands a.settings (pick b [] (admitted a.settings (added_all a.settings wanted_at_lem []))) c r
   stands_by true k c r f e = rw (ap (λ x. x.columns) e, ap (λ x. x.planned) e) (no_plan a.settings k f)
-  stands_by false k c r f e = made_stands a.settings at_places price a.positions.count a.positions.symbol a.positions.quantity ts ws k f few-orders c r e
+  stands_by false k c r f e = made_stands a.settings at_places price a.positions.count a.positions.columns.symbol a.positions.columns.quantity ts ws k f few-orders c r e
 
 -- what the function that plans it answers
 pub account_stands : (a : Account) (ts : List ℕ) (ws : List Float) (ps : List ℕ) (vs : List ℤ) (room : ℕ) → Ready a ts ws ps room → (k c : PlanCols) (r : Planned)
-    → FullPlan k → PlansFromCash a.settings a.cash a.positions.symbol a.positions.quantity a.positions.count ts ws ps vs k c r → PlanStands a.settings (admitted_plan a ts ws (price_of ps vs)) c r
+    → FullPlan k → PlansFromCash a.settings a.cash a.positions.columns.symbol a.positions.columns.quantity a.positions.count ts ws ps vs k c r → PlanStands a.settings (admitted_plan a ts ws (price_of ps vs)) c r
 unfolding plan_at
 account_stands a ts ws ps vs room y k c r f p =
     let price = price_of ps vs in

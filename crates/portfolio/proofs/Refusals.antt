@@ -9,13 +9,16 @@ use lib.IntN.{ℤ, pos}
 use lib.Ieee.{Float}
 use lib.ListN.{length}
 use lib.Signed.{le_z}
-use borrow.Author.Tests.{leb-true, le-leb, lt-leb}
+use borrow.Author.Tests.{leb-true}
+use Rattle.std.proofs.Common.{Result, Ok, Err}
+use Rattle.answer.specs.declared.Answer.{Answer}
+use Rattle.answer.specs.Numbers.{checked}
 use Rattle.answer.specs.declared.Answer.TheVariants.{Done, BadSymbol, BadPrice, TooMany, NoRecordRoom, BufferFull, Unsound}
 use Rattle.answer.specs.Places.{alone}
 use Rattle.answer.proofs.Answers.{done_is, passed, passed_both}
-use Rattle.table.specs.Keyed.{both}
+use Rattle.table.specs.Keyed.{pick, both}
 use Rattle.table.specs.Inner.Keyed.{Rising}
-use Rattle.table.specs.Rows.{columns_of, Full}
+use Rattle.table.specs.Rows.{cols, columns_of, Full}
 use Rattle.table.proofs.Keyed.{both_true}
 use Rattle.call_lists.specs.Checks.{unless, lists_answer, prices_answer}
 use Rattle.call_lists.proofs.Checks.{Accepted, done_accepted}
@@ -24,6 +27,25 @@ use Rattle.position.specs.Symbols.{good_symbol}
 use Rattle.account.specs.Account.{sound_account, held_in}
 use Rattle.portfolio.specs.Answers.{is_done, or_later, has_room_of, not_held, rebalance_answer, query_answer, return_answer, close_answer}
 use Rattle.portfolio.specs.Inner.Planned.{Ready}
+
+-- columns of 64 places, as every function knows of those that it is lent
+pub full : {k : List ℕ} {q a r t : List ℤ} → length k ≡ 64 → length q ≡ 64 → length a ≡ 64 → length r ≡ 64 → length t ≡ 64 → Full (cols k q a r t)
+full k q a r t = record { symbol = k; quantity = q; average = a; realized = r; total = t }
+
+-- ---- what a check tells of its answer
+no_error_at : (w : Answer) (b : Bool) → ◌≡◌ {A = Result Unit Answer} (Ok tt) (pick b (Ok tt) (Err w)) → b ≡ true
+no_error_at w true e = refl
+no_error_at w false e = absurd (let z : ◌≡◌ {A = ℕ} 0 1 = cc in omega arith)
+
+pub no_error : (w : Answer) → Ok tt ≡ checked w → is_done w ≡ true
+no_error w e = no_error_at w (is_done w) e
+
+error_at : (v w : Answer) (b : Bool) → ◌≡◌ {A = Result Unit Answer} (Err v) (pick b (Ok tt) (Err w)) → (v ≡ w) × (b ≡ false)
+error_at v w true e = absurd (let z : ◌≡◌ {A = ℕ} 0 1 = cc in omega arith)
+error_at v w false e = (cc, refl)
+
+pub an_error : (v w : Answer) → Err v ≡ checked w → (v ≡ w) × (is_done w ≡ false)
+an_error v w e = error_at v w (is_done w) e
 
 -- ---- a query with prices
 pub record Queried (a : Account) (ps : List ℕ) (vs : List ℤ) : Type 0 where
@@ -38,7 +60,7 @@ query_done a ps vs e =
 
 -- ---- recording a return
 -- the answer of a query comes first
-pub return_as_query : (a : Account) (ps : List ℕ) (vs : List ℤ) (n m : ℕ) → return_answer a ps vs n m
+return_as_query : (a : Account) (ps : List ℕ) (vs : List ℤ) (n m : ℕ) → return_answer a ps vs n m
     ≡ or_later (query_answer a ps vs) (unless (both (leb (a.series.equity_count + 1) n) (leb (a.series.return_count + 1) m)) BufferFull Done)
 unfolding return_answer query_answer
 return_as_query a ps vs n m = go (sound_account a)
@@ -47,17 +69,6 @@ return_as_query a ps vs n m = go (sound_account a)
         ≡ or_later (unless b Unsound (prices_answer ps vs)) (unless (both (leb (a.series.equity_count + 1) n) (leb (a.series.return_count + 1) m)) BufferFull Done)
     go true = refl
     go false = refl
-
-module _ (a : Account) (ps : List ℕ) (vs : List ℤ) (n m : ℕ) where
-  module _ (e : is_done (query_answer a ps vs) ≡ true) where
-    pub return_no_equity : n ≤ a.series.equity_count → return_answer a ps vs n m ≡ BufferFull
-    return_no_equity h = return_as_query a ps vs n m ∙ simp (e, lt-leb (a.series.equity_count + 1) n (omega arith))
-
-    pub return_no_return : a.series.equity_count < n → m ≤ a.series.return_count → return_answer a ps vs n m ≡ BufferFull
-    return_no_return g h = return_as_query a ps vs n m ∙ simp (e, le-leb (a.series.equity_count + 1) n (omega arith), lt-leb (a.series.return_count + 1) m (omega arith))
-
-    pub return-roomy : a.series.equity_count < n → a.series.return_count < m → return_answer a ps vs n m ≡ Done
-    return-roomy g h = return_as_query a ps vs n m ∙ simp (e, le-leb (a.series.equity_count + 1) n (omega arith), le-leb (a.series.return_count + 1) m (omega arith))
 
 pub record Returned (a : Account) (ps : List ℕ) (vs : List ℤ) (n m : ℕ) : Type 0 where
   pub query : query_answer a ps vs ≡ Done

@@ -9,7 +9,8 @@ use lib.ListN.{length, length-take, set, replicate}
 use lib.IntN.{ℤ, pos}
 use borrow.Author.Tests.{leb-true}
 use Rattle.answer.specs.declared.Answer.TheVariants.{Done}
-use Rattle.table.specs.Rows.{Cols, holding}
+use Rattle.table.specs.Rows.{holding}
+use Rattle.table.specs.declared.table.Columns.{Columns}
 use Rattle.fills.specs.declared.terms.Book.{Book}
 use Rattle.fills.specs.declared.terms.Order.{Order}
 use Rattle.fills.specs.declared.record.ExecutionKind.{ExecutionKind}
@@ -45,7 +46,7 @@ room-recorded m w i e =
 abbrev pub filing : Account → Buffers → Filed
 filing x b = record { answer = Done; account = x; records = b.written; words = b.words; ints = b.ints }
 
-module _ (h : Ledger) (c : Cols) (os : List Order) (period : ℕ) (kind : ExecutionKind) (ws : List ℕ) (is : List ℤ) (r : Book) (d : Cols) (ws' : List ℕ) (is' : List ℤ)
+module _ (h : Ledger) (c : Columns) (os : List Order) (period : ℕ) (kind : ExecutionKind) (ws : List ℕ) (is : List ℤ) (r : Book) (d : Columns) (ws' : List ℕ) (is' : List ℤ)
     (m : ℕ) (few : length os ≤ m) (room : has_room_of (account_with h c) m (record_places (length ws) (length is)) ≡ true)
     (g : Runs (terms_by h.settings period kind) os (book_of_ledger h) c (buffers ws is 0) r d (buffers ws' is' r.written)) where
   abbrev a : Account

@@ -16,12 +16,12 @@ use Rattle.wanted.specs.Inner.Equity.{worth_places}
 use Rattle.wanted.proofs.Worth.{worth_of_rows}
 
 pub equity_of_places : (price : ℕ → ℤ) (a : Account) → sound_account a ≡ true → Full (columns_of a.positions)
-    → sat_add a.cash (worth_places price (shorter a.positions.count 64) a.positions.symbol a.positions.quantity)
+    → sat_add a.cash (worth_places price (shorter a.positions.count 64) a.positions.columns.symbol a.positions.columns.quantity)
     ≡ equity_of price a.cash (held_in a.positions)
 unfolding equity_of
 equity_of_places price a e f =
     let o = account-ordered a e f in
-    ap (sat_add a.cash) (ap (λ n. worth_places price n a.positions.symbol a.positions.quantity) (shorter-same a.positions.count 64 o.small) ∙ worth_of_rows price (columns_of a.positions) f a.positions.count o.small)
+    ap (sat_add a.cash) (ap (λ n. worth_places price n a.positions.columns.symbol a.positions.columns.quantity) (shorter-same a.positions.count 64 o.small) ∙ worth_of_rows price (columns_of a.positions) f a.positions.count o.small)
 
 -- only the price of each symbol matters
 pub worth-same : (p q : ℕ → ℤ) → ((s : ℕ) → p s ≡ q s) → (n : ℕ) (ks : List ℕ) (qs : List ℤ) → worth_places p n ks qs ≡ worth_places q n ks qs

@@ -7,20 +7,17 @@ ghost use Rattle.portfolio.specs.Close.{position_closed};
 ghost use Rattle.portfolio.specs.Trades.{filed, filed_by};
 ghost use Rattle.portfolio.specs.Inner.Trades.{traded_on};
 
-use crate::refusal::{close_answer, holding_of, places};
+use crate::refusal::{check_close, holding_of, places};
 use crate::trade::{Ran, Traded, ledger_of, run, traded_on, whole_columns};
 use account::{Account, Ledger};
-use answer::is_done;
 use fills::ExecutionKind;
+use table::Columns;
 
 // The whole holding, the other way; the last-rebalance figures stay.
+#[tactic(auto, unfolding(crate::specs::Close::position_closed, fills::specs::Records::all_words, fills::specs::Records::all_ints))]
 pub fn close_on(
     h: Ledger,
-    symbol: &mut [u64; 64],
-    quantity: &mut [i64; 64],
-    average: &mut [i64; 64],
-    realized: &mut [i64; 64],
-    total: &mut [i64; 64],
+    columns: &mut Columns,
     s: u64,
     price: i64,
     period: u64,
@@ -28,37 +25,39 @@ pub fn close_on(
     words: &mut [u64],
     ints: &mut [i64],
 ) -> Ran
-    ensures { let c = cols symbol.old quantity.old average.old realized.old total.old in
-        let d = cols symbol.new quantity.new average.new realized.new total.new in
-        filed_by (traded_on result d) words.new ints.new
-        ≡ filed (position_closed (account_with h c) s price period kind (record_places (length words.old) (length ints.old))) words.old ints.old }
+    ensures { filed_by (traded_on result columns.new) words.new ints.new
+        ≡ filed (position_closed (account_with h columns.old) s price period kind (record_places (length words.old) (length ints.old))) words.old ints.old }
 {
-    whole_columns(*symbol, *quantity, *average, *realized, *total);
+    whole_columns(*columns);
     let room = places(words.len(), ints.len());
-    let answer = close_answer(
-        h, symbol, quantity, average, realized, total, s, price, room,
-    );
-    if !is_done(answer) {
+    if let Err(answer) = check_close(h, columns, s, price, room) {
         return Ran {
             answer,
             records: 0,
             ledger: h,
         };
     }
-    let p = holding_of(symbol, quantity, average, realized, total, h.count, s);
-    let q = p.quantity.neg();
-    let shares = q.raw();
-    let mut os = [0u64; 64];
-    let mut oq = [0i64; 64];
-    let mut op = [0i64; 64];
+    let p = holding_of(columns, h.count, s);
+    let mut os = [0; 64];
+    let mut oq = [0; 64];
+    let mut op = [0; 64];
     os[0] = s;
-    oq[0] = shares;
+    oq[0] = p.quantity.neg().raw();
     op[0] = price;
-    let n = h.counters.last_rebalance_order_count;
-    let v = h.counters.last_rebalance_notional;
+    let c = h.counters;
     run(
-        symbol, quantity, average, realized, total, &os, &oq, &op, 1, period, kind, n, v, words,
-        ints, h,
+        columns,
+        &os,
+        &oq,
+        &op,
+        1,
+        period,
+        kind,
+        c.last_rebalance_order_count,
+        c.last_rebalance_notional,
+        words,
+        ints,
+        h,
     )
 }
 
@@ -75,20 +74,10 @@ pub fn close_position_at(
     ensures { filed_by result words.new ints.new
         ≡ filed (position_closed a symbol price period kind (record_places (length words.old) (length ints.old))) words.old ints.old }
 {
-    let h = ledger_of(a);
-    let t = a.positions;
-    let mut key = t.symbol;
-    let mut quantity = t.quantity;
-    let mut average = t.avg_entry_price;
-    let mut realized = t.realized_pnl;
-    let mut total = t.total_cost;
+    let mut t = a.positions;
     let r = close_on(
-        h,
-        &mut key,
-        &mut quantity,
-        &mut average,
-        &mut realized,
-        &mut total,
+        ledger_of(a),
+        &mut t.columns,
         symbol,
         price,
         period,
@@ -96,5 +85,5 @@ pub fn close_position_at(
         words,
         ints,
     );
-    traded_on(r, &key, &quantity, &average, &realized, &total)
+    traded_on(r, &t)
 }

@@ -11,16 +11,17 @@ ghost use Rattle.wanted.specs.Inner.Equity.{worth_places};
 ghost use Rattle.portfolio.specs.Answers.{query_answer};
 ghost use Rattle.portfolio.specs.Queries.{told_equity};
 
-use crate::refusal::query_answer;
-use account::{Account, Cents};
-use answer::is_done;
+use crate::refusal::check_query;
+use account::{Account, Told};
+use answer::Answer;
 use call_lists::{is_ascending, sort_prices};
 use wanted::total_worth;
 
 // Cash and what the first n places are worth. Prices whose symbols ascend are used in place; others are sorted first.
-pub(crate) fn equity_on<'a>(
-    symbol: &'a [u64; 64],
-    quantity: &'a [i64; 64],
+// Kept: no heap, so the sorted prices stand in two fixed columns, of which slices go on.
+pub(crate) fn equity_on(
+    symbol: &[u64; 64],
+    quantity: &[i64; 64],
     n: usize,
     cash: i64,
     symbols: &[u64],
@@ -34,7 +35,7 @@ pub(crate) fn equity_on<'a>(
     }
     let mut keys = [0u64; 128];
     let mut values = [0i64; 128];
-    let m = sort_prices(symbols, prices, &mut keys[..], &mut values[..]);
+    let m = sort_prices(symbols, prices, &mut keys, &mut values);
     sums::saturating_add(
         cash,
         total_worth(symbol, quantity, n, &keys[..m], &values[..m]),
@@ -47,16 +48,25 @@ pub(crate) fn equity_of(a: Account, symbols: &[u64], prices: &[i64]) -> i64
     ensures { result ≡ equity_of (price_of symbols.now prices.now) a.cash (held_in a.positions) }
 {
     let t = a.positions;
-    equity_on(&t.symbol, &t.quantity, t.count, a.cash, symbols, prices)
+    equity_on(
+        &t.columns.symbol,
+        &t.columns.quantity,
+        t.count,
+        a.cash,
+        symbols,
+        prices,
+    )
 }
 
-pub fn total_equity(a: Account, symbols: &[u64], prices: &[i64]) -> Cents
+#[tactic(auto, unfolding(crate::specs::Queries::told_equity))]
+pub fn total_equity(a: Account, symbols: &[u64], prices: &[i64]) -> Told<i64>
     ensures { result ≡ told_equity a symbols.now prices.now }
 {
-    let answer = query_answer(a, symbols, prices);
-    if !is_done(answer) {
-        return Cents { answer, cents: 0 };
+    match check_query(a, symbols, prices) {
+        Ok(()) => Told {
+            answer: Answer::Done,
+            value: equity_of(a, symbols, prices),
+        },
+        Err(answer) => Told { answer, value: 0 },
     }
-    let cents = equity_of(a, symbols, prices);
-    Cents { answer, cents }
 }

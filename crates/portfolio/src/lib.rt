@@ -11,6 +11,6 @@ mod trade;
 pub use close::{close_on, close_position_at};
 pub use equity::total_equity;
 pub use rebalance::{rebalance_on, rebalance_simple};
-pub use refusal::query_answer;
+pub use refusal::check_query;
 pub use returns::{Noted, record_return, return_on};
 pub use trade::{Ran, Traded};

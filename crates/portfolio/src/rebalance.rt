@@ -10,20 +10,21 @@ ghost use Rattle.portfolio.specs.Rebalance.{admitted_plan, after_rebalance, reba
 ghost use Rattle.portfolio.specs.Trades.{filed, filed_by};
 ghost use Rattle.portfolio.specs.Inner.Trades.{traded_on};
 
-use crate::refusal::{places, rebalance_answer};
+use crate::refusal::{check_rebalance, places};
 use crate::trade::{Ran, Traded, ledger_of, run, traded_on, whole_columns};
 use account::{Account, Ledger, Settings};
-use answer::is_done;
 use call_lists::{is_ascending, sort_prices};
 use fills::ExecutionKind;
 use plan::{Planned, make_plan};
+use table::Columns;
 use wanted::total_worth;
 
 // "At equity 0 or below the call is done with no orders and both last-rebalance figures 0": else the plan of what is held, in columns that the
 // caller lends.
-fn plan_on<'a>(
-    key: &'a [u64; 64],
-    held: &'a [i64; 64],
+#[tactic(auto, unfolding(crate::specs::Inner::Planned::plan_at))]
+fn plan_on(
+    key: &[u64; 64],
+    held: &[i64; 64],
     n: usize,
     targets: &[u64],
     weights: &[f64],
@@ -56,11 +57,7 @@ fn plan_on<'a>(
 // Plans at prices whose symbols ascend, and fills the plan as it stands then.
 fn plan_and_fill(
     h: Ledger,
-    symbol: &mut [u64; 64],
-    quantity: &mut [i64; 64],
-    average: &mut [i64; 64],
-    realized: &mut [i64; 64],
-    total: &mut [i64; 64],
+    columns: &mut Columns,
     targets: &[u64],
     weights: &[f64],
     symbols: &[u64],
@@ -70,37 +67,44 @@ fn plan_and_fill(
     words: &mut [u64],
     ints: &mut [i64],
 ) -> Ran
-    ensures { let c = cols symbol.old quantity.old average.old realized.old total.old in
-        let d = cols symbol.new quantity.new average.new realized.new total.new in
+    ensures { let c = columns.old in
+        let d = columns.new in
         Ready (account_with h c) targets.now weights.now symbols.now (record_places (length words.old) (length ints.old))
         → filed_by (traded_on result d) words.new ints.new
         ≡ filed (after_rebalance (account_with h c) (admitted_plan (account_with h c) targets.now weights.now (price_of symbols.now prices.now)) period kind)
         words.old ints.old }
 {
-    let mut os = [0u64; 64];
-    let mut oq = [0i64; 64];
-    let mut op = [0i64; 64];
-    let mut od = [0.0f64; 64];
+    let mut os = [0; 64];
+    let mut oq = [0; 64];
+    let mut op = [0; 64];
+    let mut od = [0.0; 64];
     let p = plan_on(
-        symbol, quantity, h.count, targets, weights, symbols, prices, h.settings, h.cash, &mut os,
-        &mut oq, &mut op, &mut od,
+        &columns.symbol,
+        &columns.quantity,
+        h.count,
+        targets,
+        weights,
+        symbols,
+        prices,
+        h.settings,
+        h.cash,
+        &mut os,
+        &mut oq,
+        &mut op,
+        &mut od,
     );
-    let m = p.count;
-    let n = m as u64;
+    let orders = p.count as u64;
     run(
-        symbol, quantity, average, realized, total, &os, &oq, &op, m, period, kind, n, p.notional,
-        words, ints, h,
+        columns, &os, &oq, &op, p.count, period, kind, orders, p.notional, words, ints, h,
     )
 }
 
 // Moves the account to its targets at the listed prices. Prices whose symbols ascend are used in place; others are sorted first.
+// Kept: no heap, so the sorted prices stand in two fixed columns, of which slices go on.
+#[tactic(auto, unfolding(crate::specs::Rebalance::rebalanced, fills::specs::Records::all_words, fills::specs::Records::all_ints))]
 pub fn rebalance_on(
     h: Ledger,
-    symbol: &mut [u64; 64],
-    quantity: &mut [i64; 64],
-    average: &mut [i64; 64],
-    realized: &mut [i64; 64],
-    total: &mut [i64; 64],
+    columns: &mut Columns,
     targets: &[u64],
     weights: &[f64],
     symbols: &[u64],
@@ -110,18 +114,13 @@ pub fn rebalance_on(
     words: &mut [u64],
     ints: &mut [i64],
 ) -> Ran
-    ensures { let c = cols symbol.old quantity.old average.old realized.old total.old in
-        let d = cols symbol.new quantity.new average.new realized.new total.new in
-        filed_by (traded_on result d) words.new ints.new
-        ≡ filed (rebalanced (account_with h c) targets.now weights.now symbols.now prices.now period kind
+    ensures { filed_by (traded_on result columns.new) words.new ints.new
+        ≡ filed (rebalanced (account_with h columns.old) targets.now weights.now symbols.now prices.now period kind
         (record_places (length words.old) (length ints.old))) words.old ints.old }
 {
-    whole_columns(*symbol, *quantity, *average, *realized, *total);
+    whole_columns(*columns);
     let room = places(words.len(), ints.len());
-    let answer = rebalance_answer(
-        h, symbol, quantity, average, realized, total, targets, weights, symbols, prices, room,
-    );
-    if !is_done(answer) {
+    if let Err(answer) = check_rebalance(h, columns, targets, weights, symbols, prices, room) {
         return Ran {
             answer,
             records: 0,
@@ -130,20 +129,15 @@ pub fn rebalance_on(
     }
     if is_ascending(symbols) {
         return plan_and_fill(
-            h, symbol, quantity, average, realized, total, targets, weights, symbols, prices,
-            period, kind, words, ints,
+            h, columns, targets, weights, symbols, prices, period, kind, words, ints,
         );
     }
-    let mut keys = [0u64; 128];
-    let mut values = [0i64; 128];
-    let m = sort_prices(symbols, prices, &mut keys[..], &mut values[..]);
+    let mut keys = [0; 128];
+    let mut values = [0; 128];
+    let m = sort_prices(symbols, prices, &mut keys, &mut values);
     plan_and_fill(
         h,
-        symbol,
-        quantity,
-        average,
-        realized,
-        total,
+        columns,
         targets,
         weights,
         &keys[..m],
@@ -171,20 +165,10 @@ pub fn rebalance_simple(
         ≡ filed (rebalanced a targets.now weights.now symbols.now prices.now period kind
         (record_places (length words.old) (length ints.old))) words.old ints.old }
 {
-    let h = ledger_of(a);
-    let t = a.positions;
-    let mut symbol = t.symbol;
-    let mut quantity = t.quantity;
-    let mut average = t.avg_entry_price;
-    let mut realized = t.realized_pnl;
-    let mut total = t.total_cost;
+    let mut t = a.positions;
     let r = rebalance_on(
-        h,
-        &mut symbol,
-        &mut quantity,
-        &mut average,
-        &mut realized,
-        &mut total,
+        ledger_of(a),
+        &mut t.columns,
         targets,
         weights,
         symbols,
@@ -194,5 +178,5 @@ pub fn rebalance_simple(
         words,
         ints,
     );
-    traded_on(r, &symbol, &quantity, &average, &realized, &total)
+    traded_on(r, &t)
 }

@@ -1,25 +1,26 @@
 // What each call is refused for, in the order of document 01.
-ghost use Rattle.std.specs.Prelude.{◌≡◌, true, ◌+◌, ◌≤◌, leb, length, take};
-ghost use Rattle.portfolio.specs.Answers.{is_done, record_places, room_for, query_answer, rebalance_answer, close_answer};
-ghost use Rattle.portfolio.specs.Inner.Planned.{lacked_by, lacking, Lacking};
+ghost use Rattle.std.specs.Prelude.{◌≡◌, ◌+◌, ◌≤◌, leb, length, take};
+ghost use Rattle.answer.specs.Numbers.{checked};
+ghost use Rattle.portfolio.specs.Answers.{record_places, room_for, query_answer, rebalance_answer, close_answer};
+ghost use Rattle.portfolio.specs.Inner.Planned.{lacking, Lacking};
 ghost use Rattle.table.specs.Inner.Keyed.{Rising};
-ghost use Rattle.table.specs.Rows.{cols, rows, holding, Full};
+ghost use Rattle.table.specs.Rows.{cols, rows, holding};
 ghost use Rattle.table.specs.Inner.Rows.{Ordered};
 ghost use Rattle.account.specs.Inner.Account.{account_with};
 
+use crate::trade::whole_columns;
 use account::{Account, Ledger, sound_account};
-use answer::{Answer, Entry, is_done};
+use answer::{Answer, Entry};
 use call_lists::{check_lists, check_prices};
 use position::{Position, Symbol};
-use table::{Found, find, held};
+use table::{Columns, Found, find};
 
 // A query with prices.
-pub fn query_answer(a: Account, symbols: &[u64], prices: &[i64]) -> Answer
-    ensures { result ≡ query_answer a symbols.now prices.now }
+#[tactic(auto, unfolding(crate::specs::Answers::query_answer))]
+pub fn check_query(a: Account, symbols: &[u64], prices: &[i64]) -> Result<(), Answer>
+    ensures { result ≡ checked (query_answer a symbols.now prices.now) }
 {
-    if !a.is_sound() {
-        return Answer::Unsound;
-    }
+    a.check_sound()?;
     check_prices(symbols, prices)
 }
 
@@ -27,41 +28,23 @@ pub fn query_answer(a: Account, symbols: &[u64], prices: &[i64]) -> Answer
 pub(crate) fn places(words: usize, ints: usize) -> usize
     ensures { result ≡ record_places words ints }
 {
-    let w = words / 4;
-    let i = ints / 8;
-    if w < i { w } else { i }
+    (words / 4).min(ints / 8)
 }
 
 // Not "recording is on and the record buffer has under 64 places", or under those that a call asks for.
 fn has_room(recording: bool, asked: usize, room: usize) -> bool
     ensures { result ≡ room_for recording asked room }
 {
-    if recording {
-        return asked <= room;
-    }
-    true
+    !recording || asked <= room
 }
 
-// 1 for a symbol that a search did not find: a sum in the loop below needs no branch there.
-fn lacked_by(f: Found) -> usize
-    ensures { result ≡ lacked_by f }
-{
-    match f {
-        Found::At(_) => 0,
-        Found::Absent(_) => 1,
-    }
-}
-
-// The targets that are not among the first n symbols. A target is likely held at its own place in the list.
+// The targets that are not among the first n symbols: a sum, so that the loop has no branch. A target is likely held at its own place in the list.
 fn count_not_held(key: &[u64; 64], n: usize, targets: &[u64]) -> usize
     ensures { Lacking key.now n targets.now result }
 {
-    let mut count = 0usize;
-    let mut i = 0usize;
-    while i < targets.len() {
-        let f = find(key, n, targets[i], i);
-        count += lacked_by(f);
-        i += 1;
+    let mut count = 0;
+    for (i, target) in targets.iter().enumerate() {
+        count += usize::from(matches!(find(key, n, *target, i), Found::Absent(_)));
     }
     count
 }
@@ -75,85 +58,67 @@ fn has_places(symbol: &[u64; 64], n: usize, targets: &[u64]) -> bool
 }
 
 // In the order 11, then 6, 2, 3, 5, 4 for the lists, then 8 and 7.
-pub(crate) fn rebalance_answer<'a>(
+#[tactic(auto, unfolding(crate::specs::Answers::rebalance_answer, crate::specs::Answers::has_room_of))]
+pub(crate) fn check_rebalance(
     h: Ledger,
-    symbol: &'a [u64; 64],
-    quantity: &'a [i64; 64],
-    average: &'a [i64; 64],
-    realized: &'a [i64; 64],
-    total: &'a [i64; 64],
+    columns: &Columns,
     targets: &[u64],
     weights: &[f64],
     symbols: &[u64],
     prices: &[i64],
     room: usize,
-) -> Answer
-    ensures { let c = cols symbol.now quantity.now average.now realized.now total.now in
-        Full c → result ≡ rebalance_answer (account_with h c) targets.now weights.now symbols.now prices.now room }
+) -> Result<(), Answer>
+    ensures { result ≡ checked (rebalance_answer (account_with h columns.now) targets.now weights.now symbols.now prices.now room) }
 {
-    if !sound_account(h, symbol, quantity, average, realized, total) {
-        return Answer::Unsound;
+    if !sound_account(h, columns) {
+        return Err(Answer::Unsound);
     }
-    let answer = check_lists(targets, weights, symbols, prices);
-    if !is_done(answer) {
-        return answer;
-    }
+    check_lists(targets, weights, symbols, prices)?;
     if !has_room(h.settings.recording, 64, room) {
-        return Answer::NoRecordRoom;
+        return Err(Answer::NoRecordRoom);
     }
-    if !has_places(symbol, h.count, targets) {
-        return Answer::TooMany;
+    if !has_places(&columns.symbol, h.count, targets) {
+        return Err(Answer::TooMany);
     }
-    Answer::Done
+    Ok(())
 }
 
 // The position of a symbol, flat where there is none.
-pub(crate) fn holding_of<'a>(
-    symbol: &'a [u64; 64],
-    quantity: &'a [i64; 64],
-    average: &'a [i64; 64],
-    realized: &'a [i64; 64],
-    total: &'a [i64; 64],
-    n: usize,
-    s: u64,
-) -> Position
-    ensures { let c = cols symbol.now quantity.now average.now realized.now total.now in
-        Ordered n c → result ≡ holding s (rows n c) }
+#[tactic(auto, using(table::proofs::Posting::held_is_holding))]
+pub(crate) fn holding_of(columns: &Columns, n: usize, s: u64) -> Position
+    ensures { Ordered n columns.now → result ≡ holding s (rows n columns.now) }
 {
-    let f = find(&symbol[..], n, s, 0);
-    held(symbol, quantity, average, realized, total, f, s)
+    let f = find(&columns.symbol, n, s, 0);
+    columns.held(f, s)
 }
 
 // "For closing, 8 asks for one place."
-pub(crate) fn close_answer<'a>(
+#[tactic(auto, unfolding(crate::specs::Answers::close_answer, crate::specs::Answers::has_room_of))]
+pub(crate) fn check_close(
     h: Ledger,
-    symbol: &'a [u64; 64],
-    quantity: &'a [i64; 64],
-    average: &'a [i64; 64],
-    realized: &'a [i64; 64],
-    total: &'a [i64; 64],
+    columns: &Columns,
     s: u64,
     price: i64,
     room: usize,
-) -> Answer
-    ensures { let c = cols symbol.now quantity.now average.now realized.now total.now in
-        Full c → result ≡ close_answer (account_with h c) s price room }
+) -> Result<(), Answer>
+    ensures { result ≡ checked (close_answer (account_with h columns.now) s price room) }
 {
-    if !sound_account(h, symbol, quantity, average, realized, total) {
-        return Answer::Unsound;
+    whole_columns(*columns);
+    if !sound_account(h, columns) {
+        return Err(Answer::Unsound);
     }
     if !Symbol(s).is_good() {
-        return Answer::BadSymbol(Entry::Price(0));
+        return Err(Answer::BadSymbol(Entry::Price(0)));
     }
     if price < 1 {
-        return Answer::BadPrice(Entry::Price(0));
+        return Err(Answer::BadPrice(Entry::Price(0)));
     }
     if !has_room(h.settings.recording, 1, room) {
-        return Answer::NoRecordRoom;
+        return Err(Answer::NoRecordRoom);
     }
-    let p = holding_of(symbol, quantity, average, realized, total, h.count, s);
+    let p = holding_of(columns, h.count, s);
     if p.quantity.is_zero() {
-        return Answer::NotHeld;
+        return Err(Answer::NotHeld);
     }
-    Answer::Done
+    Ok(())
 }

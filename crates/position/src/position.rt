@@ -9,7 +9,7 @@ use crate::symbol::Symbol;
 use answer::{Answer, Entry};
 
 // Quantity (positive = long, negative = short), average entry price and realized profit; money in cents.
-#[derive(Clone, Copy)]
+#[derive(Clone, Copy, PartialEq, Eq)]
 pub struct Position {
     pub symbol: Symbol,
     pub quantity: Shares,
@@ -20,7 +20,8 @@ pub struct Position {
 }
 
 // What a fill by itself answers, and the position after it.
-#[derive(Clone, Copy)]
+// Kept: no Result, as document 01 says "Each refusal returns its number with zero figures, the account as given".
+#[derive(Clone, Copy, PartialEq, Eq)]
 pub struct Filled {
     pub answer: Answer,
     pub position: Position,
@@ -46,10 +47,7 @@ impl Position {
     pub fn is_sound(self) -> bool
         ensures { result ≡ sound self }
     {
-        if !self.symbol.is_good() {
-            return false;
-        }
-        sound_numbers(self.quantity, self.avg_entry_price, self.total_cost)
+        self.symbol.is_good() && sound_numbers(self.quantity, self.avg_entry_price, self.total_cost)
     }
 
     // A fill by itself: refuses an unsound position and a price below 0, and then returns the position as given. A price of 0 is taken: "slippage can
@@ -160,13 +158,9 @@ impl Position {
     fn closed(self, realized: i64) -> Position
         ensures { result ≡ closed self realized }
     {
-        let symbol = self.symbol;
         Position {
-            symbol,
-            quantity: Shares::ZERO,
-            avg_entry_price: 0,
             realized_pnl: realized,
-            total_cost: 0,
+            ..Position::new(self.symbol)
         }
     }
 
@@ -217,15 +211,13 @@ fn sound_numbers(quantity: Shares, average: i64, total: i64) -> bool
     if quantity.is_zero() {
         return average == 0 && total == 0;
     }
-    if average < 0 {
-        return false;
-    }
     let worth = sums::value(quantity.0, average);
-    if quantity.is_positive() {
-        worth <= total
-    } else {
-        total <= worth
-    }
+    0 <= average
+        && if quantity.is_positive() {
+            worth <= total
+        } else {
+            total <= worth
+        }
 }
 
 // Of two quantities that are not zero: whether both are long or both are short.
@@ -233,11 +225,7 @@ fn sound_numbers(quantity: Shares, average: i64, total: i64) -> bool
 fn same_side(a: Shares, b: Shares) -> bool
     ensures { result ≡ same_side a.0 b.0 }
 {
-    if a.is_positive() {
-        b.is_positive()
-    } else {
-        !b.is_positive()
-    }
+    a.is_positive() == b.is_positive()
 }
 
 // The part of a holding that an opposite fill closes.
@@ -245,9 +233,7 @@ fn same_side(a: Shares, b: Shares) -> bool
 fn closed_by(held: Shares, fill: Shares) -> Shares
     ensures { result.0 ≡ closed_by held.0 fill.0 }
 {
-    let most = held.abs();
-    let part = fill.abs();
-    if part.0 < most.0 { part } else { most }
+    Shares(held.abs().0.min(fill.abs().0))
 }
 
 // A position entered whole at one price.

@@ -6,11 +6,8 @@ ghost use Rattle.position.specs.Shares.{from_whole, to_f64, whole_shares, is_zer
 
 // A share count in fixed-point micro-shares: 1 unit is 0.000001 share.
 // A type of its own, so that a share count never stands for a price or a value.
-#[derive(Clone, Copy)]
+#[derive(Clone, Copy, PartialEq, Eq, PartialOrd, Ord)]
 pub struct Shares(pub(crate) i64);
-
-// The largest count of whole shares whose micro-shares fit.
-const MOST_WHOLE: i64 = 9_223_372_036_854;
 
 impl Shares {
     // Micro-shares per whole share.
@@ -23,13 +20,7 @@ impl Shares {
     pub fn from_whole(n: i64) -> Shares
         ensures { result ≡ shares (from_whole n) }
     {
-        if MOST_WHOLE < n {
-            return Shares(sums::MAX);
-        }
-        if n < -MOST_WHOLE {
-            return Shares(sums::MIN);
-        }
-        Shares(n * Shares::SCALE)
+        Shares(n.saturating_mul(Shares::SCALE))
     }
 
     // Build from a raw micro-share count.
@@ -43,8 +34,7 @@ impl Shares {
     pub fn raw(self) -> i64
         ensures { result ≡ self.0 }
     {
-        let raw = self.0;
-        raw
+        self.0
     }
 
     // The quantity as a fractional share count.
@@ -91,7 +81,7 @@ impl Shares {
     pub fn unsigned_abs(self) -> u64
         ensures { result ≡ nat_abs self.0 }
     {
-        sums::unsigned_abs(self.0)
+        self.0.unsigned_abs()
     }
 
     pub fn add(self, other: Shares) -> Shares

@@ -98,11 +98,7 @@ pub added_on : (price : ℕ → ℤ) (equity : ℤ) (ps : List Position) (ls : L
     → (c : Weighed) → c ≡ weighed (weigh price equity (open_ones (take i ps))) → added_weight p (get_or ls i (pos 0)) (of_i64 equity) c ≡ weighed (weigh price equity (open_ones (take (i + 1) ps)))
 added_on price equity ps ls i h k p e listed c l = rw (l, e, listed i h) (added_at price equity ps i h k)
 
--- no weights; and each position adds one at most
-pub none-weighed : weighed [] ≡ weight_columns 0 (replicate 64 0) (replicate 64 (fin false 0 (pos 0)))
-unfolding weighed
-none-weighed = refl
-
+-- each position adds one at most
 pub added-most : (p : Position) (price : ℤ) (equity : Float) (c : Weighed) → (added_weight p price equity c).count ≤ c.count + 1
 unfolding added_weight
 added-most p price equity c = go (is_zero p.quantity.0) _ refl

@@ -14,7 +14,8 @@ use Rattle.sums.specs.Sums.{sat_add, value}
 use Rattle.position.specs.declared.position.Position.{Position}
 use Rattle.position.specs.Rows.{fresh, key_of}
 use Rattle.table.specs.Keyed.{pick}
-use Rattle.table.specs.Rows.{Cols, is_zero, rows}
+use Rattle.table.specs.Rows.{is_zero, rows}
+use Rattle.table.specs.declared.table.Columns.{Columns}
 use Rattle.table.specs.Inner.Rows.{Ordered}
 use Rattle.call_lists.proofs.Lists.{from_place, from_end}
 use Rattle.account.proofs.Columns.{rows-length, row_of}
@@ -100,7 +101,7 @@ price-more price i ks ls v h before e j k = go (ltb j i) refl
         rw l (get_or-set_same ls i v (pos 0) h ∙ e)
 
 -- ---- prices of the places are prices of the positions there
-pub places-priced : (price : ℕ → ℤ) (n : ℕ) (c : Cols) (ls : List ℤ) → Ordered n c → PricesOf price n c.symbol ls → PositionPrices price (rows n c) ls
+pub places-priced : (price : ℕ → ℤ) (n : ℕ) (c : Columns) (ls : List ℤ) → Ordered n c → PricesOf price n c.symbol ls → PositionPrices price (rows n c) ls
 places-priced price n c ls o e i h =
     let k : i < n = omega (arith, rows-length c o.full n o.small) in
     e i k ∙ sym (ap (λ p. price (key_of p)) (row_of c o.full n i k))

@@ -54,7 +54,7 @@ told_snapshot a ps vs = pick (is_done (query_answer a ps vs)) (snapshot_of (pric
 
 -- ---- the weights alone
 abbrev pub answered_weights : Answer → Weighed → Weights
-answered_weights answer w = record { answer = answer; count = w.count; symbol = w.symbol; weight = w.weight }
+answered_weights answer w = record { answer = answer; weights = w }
 
 unfoldable pub weights_now : (ℕ → ℤ) → Account → List Weight
 weights_now price a = weights_of price (equity_of price a.cash (held_in a.positions)) (held_in a.positions)

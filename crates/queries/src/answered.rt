@@ -1,4 +1,5 @@
 // What each query answers.
+// Kept: an answer beside the figures, and a flag beside a symbol, since "Each refusal returns its number with zero figures".
 use answer::Answer;
 
 // Not present, with symbol 0, where each holding has a price.
@@ -10,6 +11,7 @@ pub struct Unpriced {
 }
 
 // Symbols and their weights in the first places; the others are 0.
+// Kept: two arrays and a count, since "weights come back by value" without a heap, and `weighed` states the unused places of both.
 #[derive(Clone, Copy)]
 pub struct Weighed {
     pub count: usize,
@@ -33,7 +35,5 @@ pub struct Snapshot {
 #[derive(Clone, Copy)]
 pub struct Weights {
     pub answer: Answer,
-    pub count: usize,
-    pub symbol: [u64; 64],
-    pub weight: [f64; 64],
+    pub weights: Weighed,
 }

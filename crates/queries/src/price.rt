@@ -7,33 +7,25 @@ ghost use Rattle.queries.specs.Inner.Places.{Looks, PricesOf};
 
 use call_lists::{is_ascending, quote, sort_prices};
 
-#[derive(Clone, Copy)]
-pub(crate) struct Prices {
-    pub price: [i64; 64],
-}
-
 // In a list whose symbols ascend. Symbols that ascend likely find their prices each at the place after the last.
-fn looked_up(symbol: &[u64; 64], n: usize, symbols: &[u64], prices: &[i64]) -> Prices
+fn looked_up(symbol: &[u64; 64], n: usize, symbols: &[u64], prices: &[i64]) -> [i64; 64]
     requires { n ≤ 64 }
-    ensures { Looks n symbol.now symbols.now prices.now result.price }
+    ensures { Looks n symbol.now symbols.now prices.now result }
 {
     let mut price = [0i64; 64];
     let mut hint = 0usize;
-    let mut i = 0usize;
-    while i < n {
+    for i in 0..n {
         let q = quote(symbols, prices, symbol[i], hint);
         hint = q.next;
-        let listed = q.price;
-        price[i] = listed;
-        i += 1;
+        price[i] = q.price;
     }
-    Prices { price }
+    price
 }
 
 // Prices whose symbols ascend are used in place; others are sorted first.
-pub(crate) fn prices_of(symbol: &[u64; 64], n: usize, symbols: &[u64], prices: &[i64]) -> Prices
+pub(crate) fn prices_of(symbol: &[u64; 64], n: usize, symbols: &[u64], prices: &[i64]) -> [i64; 64]
     requires { (n ≤ 64) × (prices_answer symbols.now prices.now ≡ Done) }
-    ensures { PricesOf (price_of symbols.now prices.now) n symbol.now result.price }
+    ensures { PricesOf (price_of symbols.now prices.now) n symbol.now result }
 {
     if is_ascending(symbols) {
         return looked_up(symbol, n, symbols, prices);

@@ -10,8 +10,8 @@ use crate::price::prices_of;
 use crate::sum::summed;
 use crate::weight::{no_weights, weights_on};
 use account::Account;
-use answer::{Answer, is_done};
-use portfolio::query_answer;
+use answer::Answer;
+use portfolio::check_query;
 
 // Of a sound account, at prices that were not refused.
 fn snapshot_of(a: Account, symbols: &[u64], prices: &[i64]) -> Snapshot
@@ -20,34 +20,16 @@ fn snapshot_of(a: Account, symbols: &[u64], prices: &[i64]) -> Snapshot
 {
     let t = a.positions;
     let n = t.count;
-    let listed = prices_of(&t.symbol, n, symbols, prices);
-    let sums = summed(
-        &t.symbol,
-        &t.quantity,
-        &t.avg_entry_price,
-        &t.realized_pnl,
-        &t.total_cost,
-        n,
-        &listed.price,
-    );
+    let listed = prices_of(&t.columns.symbol, n, symbols, prices);
+    let sums = summed(&t.columns, n, &listed);
     let equity = sums::saturating_add(a.cash, sums.worth);
-    let weights = weights_on(
-        &t.symbol,
-        &t.quantity,
-        &t.avg_entry_price,
-        &t.realized_pnl,
-        &t.total_cost,
-        n,
-        &listed.price,
-        equity,
-    );
     Snapshot {
         answer: Answer::Done,
         cash: a.cash,
         equity,
         num_positions: sums.open_count,
         total_realized_pnl: sums.profit,
-        weights,
+        weights: weights_on(&t.columns, n, &listed, equity),
     }
 }
 
@@ -55,25 +37,24 @@ fn snapshot_of(a: Account, symbols: &[u64], prices: &[i64]) -> Snapshot
 fn refused(answer: Answer) -> Snapshot
     ensures { result ≡ no_snapshot answer }
 {
-    let weights = no_weights();
     Snapshot {
         answer,
         cash: 0,
         equity: 0,
         num_positions: 0,
         total_realized_pnl: 0,
-        weights,
+        weights: no_weights(),
     }
 }
 
+// The whole of an account at given prices, or what refuses it.
 pub fn snapshot(a: Account, symbols: &[u64], prices: &[i64]) -> Snapshot
     ensures { result ≡ told_snapshot a symbols.now prices.now }
 {
-    let answer = query_answer(a, symbols, prices);
-    if !is_done(answer) {
-        return refused(answer);
+    match check_query(a, symbols, prices) {
+        Ok(()) => snapshot_of(a, symbols, prices),
+        Err(answer) => refused(answer),
     }
-    snapshot_of(a, symbols, prices)
 }
 
 // The weights of a snapshot, with its answer.
@@ -81,14 +62,8 @@ pub fn current_weights(a: Account, symbols: &[u64], prices: &[i64]) -> Weights
     ensures { result ≡ told_weights a symbols.now prices.now }
 {
     let s = snapshot(a, symbols, prices);
-    let answer = s.answer;
-    let w = s.weights;
-    let symbol = w.symbol;
-    let weight = w.weight;
     Weights {
-        answer,
-        count: w.count,
-        symbol,
-        weight,
+        answer: s.answer,
+        weights: s.weights,
     }
 }

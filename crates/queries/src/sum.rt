@@ -6,7 +6,7 @@ ghost use Rattle.table.specs.Inner.Rows.{Ordered};
 ghost use Rattle.queries.specs.Inner.Places.{AddsUp};
 
 use position::Shares;
-use table::{Found, held};
+use table::{Columns, Found};
 
 #[derive(Clone, Copy)]
 pub(crate) struct Sums {
@@ -26,30 +26,19 @@ fn open_one(quantity: Shares) -> u64
 }
 
 // Of the first n places, with their prices.
-pub(crate) fn summed<'a>(
-    symbol: &'a [u64; 64],
-    quantity: &'a [i64; 64],
-    average: &'a [i64; 64],
-    realized: &'a [i64; 64],
-    total: &'a [i64; 64],
-    n: usize,
-    price: &'a [i64; 64],
-) -> Sums
-    requires { Ordered n (cols symbol.now quantity.now average.now realized.now total.now) }
-    ensures { let c = cols symbol.now quantity.now average.now realized.now total.now in
-        AddsUp (rows n c) price.now result }
+pub(crate) fn summed(columns: &Columns, n: usize, price: &[i64; 64]) -> Sums
+    requires { Ordered n columns.now }
+    ensures { AddsUp (rows n columns.now) price.now result }
 {
     let mut worth = 0i64;
     let mut open_count = 0u64;
     let mut profit = 0i64;
-    let mut i = 0usize;
-    while i < n {
-        let p = held(symbol, quantity, average, realized, total, Found::At(i), 0);
+    for i in 0..n {
+        let p = columns.held(Found::At(i), 0);
         let v = sums::value(p.quantity.raw(), price[i]);
         worth = sums::saturating_add(worth, v);
         profit = sums::saturating_add(profit, p.realized_pnl);
         open_count += open_one(p.quantity);
-        i += 1;
     }
     Sums {
         worth,

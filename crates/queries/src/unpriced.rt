@@ -3,57 +3,54 @@ ghost use Rattle.std.specs.Prelude.{◌≡◌};
 ghost use Rattle.table.specs.Rows.{cols, rows};
 ghost use Rattle.table.specs.Inner.Rows.{Ordered};
 ghost use Rattle.queries.specs.Queries.{unpriced};
-ghost use Rattle.queries.specs.Inner.Places.{First};
-ghost use Rattle.queries.specs.Answers.{told_unpriced};
+ghost use Rattle.queries.specs.Inner.Places.{First, told_symbol};
+ghost use Rattle.queries.specs.Answers.{answered_unpriced, told_unpriced};
 
 use crate::answered::Unpriced;
 use crate::price::prices_of;
 use account::Account;
-use answer::{Answer, is_done};
-use portfolio::query_answer;
-use position::Shares;
-use table::{Found, held};
+use answer::Answer;
+use portfolio::check_query;
+use position::{Shares, Symbol};
+use table::{Columns, Found};
 
 // Whether a quantity is open and its price below 1, as that of an unlisted symbol is.
+#[tactic(auto, unfolding(crate::specs::Queries::unpriced))]
 fn is_unpriced(quantity: Shares, price: i64) -> bool
     ensures { result ≡ unpriced quantity.0 price }
 {
-    if quantity.is_zero() {
-        return false;
-    }
-    price < 1
+    !quantity.is_zero() && price < 1
 }
 
 // Of the first n places, with their prices.
-fn first_unpriced<'a>(
-    symbol: &'a [u64; 64],
-    quantity: &'a [i64; 64],
-    average: &'a [i64; 64],
-    realized: &'a [i64; 64],
-    total: &'a [i64; 64],
-    n: usize,
-    price: &'a [i64; 64],
-) -> Unpriced
-    requires { Ordered n (cols symbol.now quantity.now average.now realized.now total.now) }
-    ensures { let c = cols symbol.now quantity.now average.now realized.now total.now in
-        First (rows n c) price.now result }
+fn first_unpriced(columns: &Columns, n: usize, price: &[i64; 64]) -> Option<Symbol>
+    requires { Ordered n columns.now }
+    ensures { First (rows n columns.now) price.now result }
 {
-    let mut i = 0usize;
-    while i < n {
-        let p = held(symbol, quantity, average, realized, total, Found::At(i), 0);
+    for i in 0..n {
+        let p = columns.held(Found::At(i), 0);
         if is_unpriced(p.quantity, price[i]) {
-            return Unpriced {
-                answer: Answer::Done,
-                present: true,
-                symbol: p.symbol.0,
-            };
+            return Some(p.symbol);
         }
-        i += 1;
     }
-    Unpriced {
-        answer: Answer::Done,
-        present: false,
-        symbol: 0,
+    None
+}
+
+// An answer, and the symbol that a search told, if any.
+fn told(answer: Answer, symbol: Option<Symbol>) -> Unpriced
+    ensures { result ≡ answered_unpriced answer (told_symbol symbol) }
+{
+    match symbol {
+        None => Unpriced {
+            answer,
+            present: false,
+            symbol: 0,
+        },
+        Some(s) => Unpriced {
+            answer,
+            present: true,
+            symbol: s.0,
+        },
     }
 }
 
@@ -61,23 +58,11 @@ fn first_unpriced<'a>(
 pub fn unpriced_holding(a: Account, symbols: &[u64], prices: &[i64]) -> Unpriced
     ensures { result ≡ told_unpriced a symbols.now prices.now }
 {
-    let answer = query_answer(a, symbols, prices);
-    if !is_done(answer) {
-        return Unpriced {
-            answer,
-            present: false,
-            symbol: 0,
-        };
+    if let Err(answer) = check_query(a, symbols, prices) {
+        return told(answer, None);
     }
     let t = a.positions;
-    let listed = prices_of(&t.symbol, t.count, symbols, prices);
-    first_unpriced(
-        &t.symbol,
-        &t.quantity,
-        &t.avg_entry_price,
-        &t.realized_pnl,
-        &t.total_cost,
-        t.count,
-        &listed.price,
-    )
+    let listed = prices_of(&t.columns.symbol, t.count, symbols, prices);
+    let first = first_unpriced(&t.columns, t.count, &listed);
+    told(Answer::Done, first)
 }

@@ -1,5 +1,5 @@
 -- Records that fill the first places of a run, one after another.
-use Prim.Native.Nat.{ℕ, zero, suc, ◌+◌, ◌*◌, ◌^◌, ◌≤◌, ◌<◌}
+use Prim.Native.Nat.{ℕ, zero, suc, ◌+◌, ◌<◌}
 use mathlib.Core.Path.{◌≡◌, refl, sym, ap, ◌∙◌}
 use mathlib.Core.List.{List, [], ◌∷◌, ◌++◌}
 use native.Mathlib.Numerals.{add-one}
@@ -11,36 +11,21 @@ use Rattle.fills.specs.Records.{fronted}
 use Rattle.records.specs.Read.{record_at}
 use Rattle.records.specs.Run.{records_at}
 
--- ---- where a place of a run lies: the bytes of a record, and no place of a run wraps
-abbrev pub bytes : ℕ
-bytes = 96
-
-pub in_reach : (i n : ℕ) → i < n → n * bytes < 2 ^ 63 → i * bytes < 2 ^ 64
-in_reach i n h k = omega arith
-
 module _ {A : Type 0} where
-  pub front_next : (xs ys : List A) (r : A) → length xs < length ys → set (fronted xs ys) (length xs) r ≡ fronted (xs ++ (r ∷ [])) ys
+  front_next : (xs ys : List A) (r : A) → length xs < length ys → set (fronted xs ys) (length xs) r ≡ fronted (xs ++ (r ∷ [])) ys
   front_next [] [] r h = absurd (omega arith)
   front_next (x ∷ xs) [] r h = absurd (omega arith)
   front_next [] (y ∷ ys) r h = refl
   front_next (x ∷ xs) (y ∷ ys) r h = ap (λ l. x ∷ l) (front_next xs ys r (omega arith))
 
-  pub front_long : (xs ys : List A) → length xs ≤ length ys → length (fronted xs ys) ≡ length ys
-  front_long [] ys h = refl
-  front_long (x ∷ xs) [] h = absurd (omega arith)
-  front_long (x ∷ xs) (y ∷ ys) h = ap suc (front_long xs ys (omega arith))
-
   one_longer : (xs : List A) (r : A) → length (xs ++ (r ∷ [])) ≡ suc (length xs)
   one_longer xs r = omega (arith, length-append xs (r ∷ []))
 
 module _ (ws : List ℕ) (is : List ℤ) where
-  pub records-long : (n : ℕ) → length (records_at ws is n) ≡ n
+  records-long : (n : ℕ) → length (records_at ws is n) ≡ n
   unfolding records_at
   records-long zero = refl
   records-long (suc n) = one_longer (records_at ws is n) _ ∙ ap suc (records-long n)
-
-  pub run_long : (n : ℕ) (ys : List ExecutionRecord) → n ≤ length ys → length (fronted (records_at ws is n) ys) ≡ length ys
-  run_long n ys h = front_long (records_at ws is n) ys (omega (arith, records-long n))
 
   -- the record of place n goes to place n
   pub run-next : (n : ℕ) (ys : List ExecutionRecord) → n < length ys → set (fronted (records_at ws is n) ys) n (record_at ws is n) ≡ fronted (records_at ws is (n + 1)) ys

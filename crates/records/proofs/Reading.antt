@@ -6,8 +6,7 @@ use native.Mathlib.Omega.{arith}
 use lib.IntN.{ℤ, pos}
 use lib.ListN.{length, get_or, take, drop, length-append}
 use lib.Seq.{sets, sets-eq, length-sets, length-take-le, take-suc, take-length}
-use borrow.Author.Tests.{lt-leb, le-leb}
-use Rattle.table.proofs.Keyed.{both_false}
+use borrow.Author.Tests.{le-leb}
 use Rattle.fills.specs.declared.record.ExecutionKind.{ExecutionKind}
 use Rattle.fills.specs.declared.record.ExecutionKind.TheVariants.{Rebalance, StopExit}
 use Rattle.fills.specs.declared.record.ExecutionRecord.{ExecutionRecord}
@@ -17,20 +16,8 @@ use Rattle.fills.proofs.Fronts.{words_long, ints-long}
 use Rattle.records.specs.Read.{record_in, record_at, blank}
 use Rattle.records.specs.Run.{records_at}
 
--- ---- by whether both slices have the place
+-- ---- where both slices have the place
 module _ (ws : List ℕ) (is : List ℤ) (i : ℕ) where
-  pub lacks_words : length ws / 4 ≤ i → record_at ws is i ≡ blank
-  unfolding record_at room
-  lacks_words h =
-      let l : length ws < i * 4 + 4 = omega arith in
-      simp (lt-leb _ _ l)
-
-  pub lacks_ints : length is / 8 ≤ i → record_at ws is i ≡ blank
-  unfolding record_at room
-  lacks_ints h =
-      let l : length is < i * 8 + 8 = omega arith in
-      simp (lt-leb _ _ l, both_false)
-
   pub has_place : i < length ws / 4 → i < length is / 8 → record_at ws is i ≡ record_in ws is i
   unfolding record_at room
   has_place h g =

@@ -2,4 +2,3 @@
 pub mod Read
 pub mod Run
 pub mod Into
-pub mod Inner

@@ -26,17 +26,17 @@ fn no_record() -> ExecutionRecord
 }
 
 // The record at a place that both slices have.
+#[tactic(auto, unfolding(crate::specs::Read::record_in))]
 fn record_in(words: &[u64], ints: &[i64], i: usize) -> ExecutionRecord
     requires { (i * 4 + 4 ≤ length words.now) × (i * 8 + 8 ≤ length ints.now) }
     ensures { result ≡ record_in words.now ints.now i }
 {
     let w = i * 4;
     let n = i * 8;
-    let kind = fills::kind_of(words[w + 2]);
     ExecutionRecord {
         sequence: words[w],
         period_index: words[w + 1],
-        kind,
+        kind: fills::kind_of(words[w + 2]),
         symbol: Symbol(words[w + 3]),
         quantity: Shares::from_raw(ints[n]),
         price: ints[n + 1],
@@ -50,14 +50,14 @@ fn record_in(words: &[u64], ints: &[i64], i: usize) -> ExecutionRecord
 }
 
 // The record at a place, as `fills::store` wrote it.
+// Kept: it answers the blank record where the slices lack the place, as its clause says, and no Option.
+#[tactic(auto, unfolding(crate::specs::Read::record_at, fills::specs::Records::room))]
 pub fn record_at(words: &[u64], ints: &[i64], i: usize) -> ExecutionRecord
     ensures { result ≡ record_at words.now ints.now i }
 {
-    if words.len() / 4 <= i {
-        return no_record();
+    if i < words.len() / 4 && i < ints.len() / 8 {
+        record_in(words, ints, i)
+    } else {
+        no_record()
     }
-    if ints.len() / 8 <= i {
-        return no_record();
-    }
-    record_in(words, ints, i)
 }

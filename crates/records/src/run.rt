@@ -6,6 +6,7 @@ use crate::read::record_at;
 use fills::ExecutionRecord;
 
 // Stores one record at a place. Where the run lacks the place, it stays as it is.
+// Kept: "A thin function stores one record into a lent slice of structs".
 pub fn store_record<'a>(out: &'a mut [ExecutionRecord], i: usize, r: ExecutionRecord)
     ensures { out.new ≡ set out.old i r }
 {
@@ -23,10 +24,7 @@ pub fn collect<'w, 'i, 'a>(
 )
     ensures { out.new ≡ collected words.now ints.now count out.old }
 {
-    let mut i: usize = 0;
-    while (i < count) & (i < out.len()) {
-        let r = record_at(words, ints, i);
-        store_record(out, i, r);
-        i += 1;
+    for i in 0..count.min(out.len()) {
+        out[i] = record_at(words, ints, i);
     }
 }

@@ -24,8 +24,7 @@ enum Outcome {
 
 // A number that no leaf has agrees with nothing.
 fn agrees(r: Row) -> bool {
-    let group = r.leaf / 10;
-    match group {
+    match r.leaf / 10 {
         0 => shares_rows::agrees(r),
         1 => wide_rows::agrees(r),
         3 => casts_rows::agrees(r),
@@ -67,24 +66,18 @@ fn replay_row(file: &mut File) -> io::Result<Outcome> {
 const MOST: u64 = 1_000_000;
 
 fn replay(rt: &HostRuntime, file: &mut File) -> io::Result<()> {
-    let mut left = MOST;
     let mut differences = 0u64;
-    while left > 0 {
-        let outcome = replay_row(file)?;
-        match outcome {
-            Outcome::End => break,
+    for row in 0..MOST {
+        match replay_row(file)? {
+            Outcome::End => return summary(rt, row, differences),
             Outcome::Same => {}
-            Outcome::Differs => {
-                differences = differences.wrapping_add(1);
-            }
+            Outcome::Differs => differences = differences.wrapping_add(1),
         }
-        left -= 1;
     }
-    summary(rt, left, differences)
+    summary(rt, MOST, differences)
 }
 
-fn summary(rt: &HostRuntime, left: u64, differences: u64) -> io::Result<()> {
-    let rows = MOST.wrapping_sub(left);
+fn summary(rt: &HostRuntime, rows: u64, differences: u64) -> io::Result<()> {
     println!(rt; "{rows} rows, {differences} differences")?;
     Ok(())
 }

@@ -1,10 +1,10 @@
 // Calls that change the account.
-use crate::row::{Row, head, same_made, same_told, within};
+use crate::row::{Row, head, prices_of, same_made, same_told, targets_of, within};
 use crate::state::{cap, count, same_account};
 use account::{Account, Changed};
 use cost_model::CostModel;
 use fills::ExecutionKind;
-use list_bytes::{read_prices, read_targets, write_records};
+use list_bytes::write_records;
 use portfolio::Traded;
 use word_bytes::{float, pattern, signed, unsigned};
 
@@ -56,10 +56,10 @@ pub(crate) fn change(r: Row, a: Account, told: &[u8]) -> bool {
 }
 
 fn kind(number: u64) -> ExecutionKind {
-    if number == 0 {
-        return ExecutionKind::Rebalance;
+    match number {
+        0 => ExecutionKind::Rebalance,
+        _ => ExecutionKind::StopExit,
     }
-    ExecutionKind::StopExit
 }
 
 // A rebalance to as many targets as the row has, at as many prices.
@@ -91,8 +91,8 @@ fn rebalance<'a>(
 }
 
 fn rebalanced(r: Row, a: Account, words: &mut [u64], ints: &mut [i64]) -> Traded {
-    let t = read_targets(&r.targets[..]);
-    let p = read_prices(&r.prices[..]);
+    let t = targets_of(r);
+    let p = prices_of(r);
     rebalance(
         r,
         a,
@@ -112,10 +112,8 @@ fn nth(k: usize) -> u64 {
 }
 
 fn put_symbols(column: &mut [u64]) {
-    let mut k = 0usize;
-    while k < column.len() {
-        column[k] = nth(k);
-        k += 1;
+    for (k, symbol) in column.iter_mut().enumerate() {
+        *symbol = nth(k);
     }
 }
 
@@ -261,33 +259,23 @@ fn fewer_prices(r: Row, a: Account, words: &mut [u64], ints: &mut [i64]) -> Trad
 }
 
 fn traded(r: Row, a: Account, words: &mut [u64], ints: &mut [i64]) -> Traded {
-    let number = head(r, 0);
-    if number == 10 {
-        return rebalanced(r, a, words, ints);
+    match head(r, 0) {
+        10 => rebalanced(r, a, words, ints),
+        13 => long_lists(r, a, words, ints),
+        14 => longer_targets(r, a, words, ints),
+        15 => longer_prices(r, a, words, ints),
+        16 => longer_bad(r, a, words, ints),
+        17 => fewer_weights(r, a, words, ints),
+        18 => fewer_prices(r, a, words, ints),
+        _ => closed(r, a, words, ints),
     }
-    if number == 13 {
-        return long_lists(r, a, words, ints);
-    }
-    if number == 14 {
-        return longer_targets(r, a, words, ints);
-    }
-    if number == 15 {
-        return longer_prices(r, a, words, ints);
-    }
-    if number == 16 {
-        return longer_bad(r, a, words, ints);
-    }
-    if number == 17 {
-        return fewer_weights(r, a, words, ints);
-    }
-    if number == 18 {
-        return fewer_prices(r, a, words, ints);
-    }
-    let price = signed(head(r, 3));
+}
+
+fn closed(r: Row, a: Account, words: &mut [u64], ints: &mut [i64]) -> Traded {
     portfolio::close_position_at(
         a,
         head(r, 2),
-        price,
+        signed(head(r, 3)),
         head(r, 4),
         kind(head(r, 5)),
         words,
@@ -360,7 +348,7 @@ fn recorded_crowded<'a>(r: Row, a: Account, symbols: &'a [u64], prices: &'a [i64
 }
 
 fn period_crowded(r: Row, a: Account, told: &[u8]) -> bool {
-    let p = read_prices(&r.prices[..]);
+    let p = prices_of(r);
     let c = recorded_crowded(r, a, &p.symbol[..], &p.price[..]);
     let given = c.answer;
     same_told(r, answer::number(given), 0, 0, 0, 0) && same_account(told, c.account)
@@ -373,7 +361,7 @@ pub(crate) fn period(r: Row, a: Account, told: &[u8]) -> bool {
     }
     let mut equities = [0i64; 128];
     let mut returns = [0.0f64; 128];
-    let p = read_prices(&r.prices[..]);
+    let p = prices_of(r);
     let e = (a.series.equity_count % 128) as usize;
     let g = (a.series.return_count % 128) as usize;
     let c = recorded(

@@ -22,20 +22,13 @@ enum Outcome {
 // Whether a call on an account answers what the row has, and leaves the account that is told. A row of number 30 has no call: it tells the account that the
 // next one starts from.
 fn agrees(r: Row, a: Account, told: &[u8]) -> bool {
-    let number = row::head(r, 0);
-    if number < 10 {
-        return call::change(r, a, told);
+    match row::head(r, 0) {
+        0..=9 => call::change(r, a, told),
+        12 => call::period(r, a, told),
+        10..=19 => call::trade(r, a, told),
+        30 => true,
+        _ => told::tell(r, a) && state::same_account(told, a),
     }
-    if number == 12 {
-        return call::period(r, a, told);
-    }
-    if number < 20 {
-        return call::trade(r, a, told);
-    }
-    if number == 30 {
-        return true;
-    }
-    told::tell(r, a) && state::same_account(told, a)
 }
 
 // How many bytes were read: fewer than there is room for at the file's end alone.
@@ -85,33 +78,23 @@ const MOST: u64 = 1_000_000;
 // Tells the first row that differs, counted from 0.
 fn replay(rt: &HostRuntime, file: &mut File) -> io::Result<()> {
     let mut account = [0u8; 488];
-    let mut left = MOST;
     let mut differences = 0u64;
-    while left > 0 {
-        let outcome = replay_row(file, &mut account[..])?;
-        match outcome {
-            Outcome::End => break,
+    for row in 0..MOST {
+        match replay_row(file, &mut account)? {
+            Outcome::End => return summary(rt, row, differences),
             Outcome::Same => {}
             Outcome::Differs => {
                 if differences == 0 {
-                    first(rt, left)?;
+                    println!(rt; "row {row} differs")?;
                 }
                 differences = differences.wrapping_add(1);
             }
         }
-        left -= 1;
     }
-    summary(rt, left, differences)
+    summary(rt, MOST, differences)
 }
 
-fn first(rt: &HostRuntime, left: u64) -> io::Result<()> {
-    let row = MOST.wrapping_sub(left);
-    println!(rt; "row {row} differs")?;
-    Ok(())
-}
-
-fn summary(rt: &HostRuntime, left: u64, differences: u64) -> io::Result<()> {
-    let calls = MOST.wrapping_sub(left);
+fn summary(rt: &HostRuntime, calls: u64, differences: u64) -> io::Result<()> {
     println!(rt; "{calls} calls, {differences} differences")?;
     Ok(())
 }

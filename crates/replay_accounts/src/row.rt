@@ -3,6 +3,7 @@
 // account after the call (state.rt).
 ghost use Rattle.std.specs.Prelude.{◌≤◌};
 
+use list_bytes::{Prices, Targets, read_prices, read_targets};
 use word_bytes::word_at;
 
 #[derive(Clone, Copy)]
@@ -17,17 +18,26 @@ pub(crate) fn head(r: Row, i: usize) -> u64 {
     word_at(&r.head[..], i)
 }
 
+// The lists of a row are whole.
+pub(crate) fn targets_of(r: Row) -> Targets {
+    read_targets(&r.targets).unwrap_or(Targets {
+        count: 0,
+        symbol: [0; 64],
+        weight: [0.0; 64],
+    })
+}
+
+pub(crate) fn prices_of(r: Row) -> Prices {
+    read_prices(&r.prices).unwrap_or(Prices {
+        count: 0,
+        symbol: [0; 128],
+        price: [0; 128],
+    })
+}
+
 // Whether both have the same first n words.
 fn same_words(made: &[u8], bytes: &[u8], n: usize) -> bool {
-    let mut same = true;
-    let mut k = 0usize;
-    while k < n {
-        if word_at(bytes, k) != word_at(made, k) {
-            same = false;
-        }
-        k += 1;
-    }
-    same
+    (0..n).all(|k| word_at(bytes, k) == word_at(made, k))
 }
 
 // The answer's number, how many records or weights there are, and their words.

@@ -1,10 +1,10 @@
 // The account that a row tells, in 61 words: the Rust's fields in its own order, and eight places of a position's five. No word of it is a word of the C
 // interface's bytes, so that those may change and the sample stays. What the Rust lacks is as an opening leaves it.
-ghost use Rattle.std.specs.Prelude.{◌≤◌};
+ghost use Rattle.std.specs.Prelude.{◌≤◌, ◌<◌};
 
 use account::{Account, Counters, Rules, Series, Settings, TradeCap};
 use cost_model::CostModel;
-use table::Table;
+use table::{Columns, Table};
 use word_bytes::{float, pattern, signed, symbol_at, unsigned, word_at};
 
 // The places of the words.
@@ -83,16 +83,15 @@ fn costs_of(told: &[u8]) -> CostModel {
 
 // The settings that the Rust has, and the rest as it was opened.
 fn settings_of(told: &[u8], opened: Settings) -> Settings {
-    let cost_model = costs_of(told);
-    let rules = Rules { cost_model };
-    let max_trades_per_rebalance = cap(word_at(told, CAP_MARK_AT), word_at(told, CAP_COUNT_AT));
     Settings {
-        rules,
+        rules: Rules {
+            cost_model: costs_of(told),
+        },
         quantity_step: number(told, STEP_AT),
         min_order_value: number(told, MIN_ORDER_AT),
         max_order_value: number(told, MAX_ORDER_AT),
         no_trade_band_bps: rate(told, BAND_AT),
-        max_trades_per_rebalance,
+        max_trades_per_rebalance: cap(word_at(told, CAP_MARK_AT), word_at(told, CAP_COUNT_AT)),
         max_rebalance_notional: number(told, MAX_NOTIONAL_AT),
         recording: word_at(told, RECORDING_AT) == 1,
         ..opened
@@ -120,68 +119,51 @@ fn series_of(told: &[u8]) -> Series {
 
 // The symbols of the eight places; those past them are zero, here and below.
 fn symbols_of(told: &[u8]) -> [u64; 64] {
-    let mut column = [0u64; 64];
-    column[0] = symbol_at(told, 21);
-    column[1] = symbol_at(told, 26);
-    column[2] = symbol_at(told, 31);
-    column[3] = symbol_at(told, 36);
-    column[4] = symbol_at(told, 41);
-    column[5] = symbol_at(told, 46);
-    column[6] = symbol_at(told, 51);
-    column[7] = symbol_at(told, 56);
+    let mut column = [0; 64];
+    for k in 0..8 {
+        column[k] = symbol_at(told, 21 + 5 * k);
+    }
     column
 }
 
-// A field of each position, by the place of the first one's.
-fn numbers_of(told: &[u8], first: usize) -> [i64; 64] {
-    let i = first % 64;
-    let mut column = [0i64; 64];
-    column[0] = number(told, i);
-    column[1] = number(told, i + 5);
-    column[2] = number(told, i + 10);
-    column[3] = number(told, i + 15);
-    column[4] = number(told, i + 20);
-    column[5] = number(told, i + 25);
-    column[6] = number(told, i + 30);
-    column[7] = number(told, i + 35);
+// A field of each position, by its place among the five of a position, the symbol's being 0.
+fn numbers_of(told: &[u8], field: usize) -> [i64; 64]
+    requires { field < 5 }
+{
+    let mut column = [0; 64];
+    for k in 0..8 {
+        column[k] = number(told, 21 + field + 5 * k);
+    }
     column
+}
+
+fn columns_of(told: &[u8]) -> Columns {
+    Columns {
+        symbol: symbols_of(told),
+        quantity: numbers_of(told, 1),
+        average: numbers_of(told, 2),
+        realized: numbers_of(told, 3),
+        total: numbers_of(told, 4),
+    }
 }
 
 fn positions_of(told: &[u8]) -> Table {
-    let symbol = symbols_of(told);
-    let quantity = numbers_of(told, 22);
-    let avg_entry_price = numbers_of(told, 23);
-    let realized_pnl = numbers_of(told, 24);
-    let total_cost = numbers_of(told, 25);
     Table {
         count: count(word_at(told, COUNT_AT)),
-        symbol,
-        quantity,
-        avg_entry_price,
-        realized_pnl,
-        total_cost,
+        columns: columns_of(told),
     }
 }
 
 pub(crate) fn account_of(told: &[u8]) -> Account {
-    let mut equity = [0i64; 1];
-    let c = account::open(0, CostModel::zero(), &mut equity[..]);
-    let opened = c.account;
-    let settings = settings_of(told, opened.settings);
-    let counters = counters_of(told, opened.counters);
-    let series = series_of(told);
-    let positions = positions_of(told);
+    let mut equity = [0; 1];
+    let opened = account::open(0, CostModel::zero(), &mut equity).account;
     Account {
         cash: number(told, CASH_AT),
-        settings,
-        counters,
-        series,
-        positions,
+        settings: settings_of(told, opened.settings),
+        counters: counters_of(told, opened.counters),
+        series: series_of(told),
+        positions: positions_of(told),
     }
-}
-
-fn flag(on: bool) -> u64 {
-    if on { 1 } else { 0 }
 }
 
 fn same_cap(told: &[u8], cap: TradeCap) -> bool {
@@ -193,9 +175,7 @@ fn same_cap(told: &[u8], cap: TradeCap) -> bool {
 }
 
 fn same_settings(told: &[u8], s: Settings) -> bool {
-    let cap = s.max_trades_per_rebalance;
-    let rules = s.rules;
-    let costs = rules.cost_model;
+    let costs = s.rules.cost_model;
     word_at(told, COMMISSION_AT) == pattern(costs.commission_bps)
         && word_at(told, SLIPPAGE_AT) == pattern(costs.slippage_bps)
         && word_at(told, MIN_COMMISSION_AT) == unsigned(costs.min_commission)
@@ -203,9 +183,9 @@ fn same_settings(told: &[u8], s: Settings) -> bool {
         && word_at(told, MIN_ORDER_AT) == unsigned(s.min_order_value)
         && word_at(told, MAX_ORDER_AT) == unsigned(s.max_order_value)
         && word_at(told, BAND_AT) == pattern(s.no_trade_band_bps)
-        && same_cap(told, cap)
+        && same_cap(told, s.max_trades_per_rebalance)
         && word_at(told, MAX_NOTIONAL_AT) == unsigned(s.max_rebalance_notional)
-        && word_at(told, RECORDING_AT) == flag(s.recording)
+        && word_at(told, RECORDING_AT) == u64::from(s.recording)
         && !s.cash_first
 }
 
@@ -220,43 +200,15 @@ fn same_counts(told: &[u8], k: Counters, s: Series) -> bool {
         && word_at(told, PREV_EQUITY_AT) == unsigned(s.prev_equity)
 }
 
-// Whether both columns are the same in all places.
-fn same_symbols(a: [u64; 64], b: [u64; 64]) -> bool {
-    let mut same = true;
-    let mut k = 0usize;
-    while k < 64 {
-        if a[k] != b[k] {
-            same = false;
-        }
-        k += 1;
-    }
-    same
-}
-
-fn same_numbers(a: [i64; 64], b: [i64; 64]) -> bool {
-    let mut same = true;
-    let mut k = 0usize;
-    while k < 64 {
-        if a[k] != b[k] {
-            same = false;
-        }
-        k += 1;
-    }
-    same
-}
-
-fn same_positions(told: &[u8], t: Table) -> bool {
-    let symbol = t.symbol;
-    let quantity = t.quantity;
-    let average = t.avg_entry_price;
-    let realized = t.realized_pnl;
-    let total = t.total_cost;
-    word_at(told, COUNT_AT) == t.count as u64
-        && same_symbols(symbols_of(told), symbol)
-        && same_numbers(numbers_of(told, 22), quantity)
-        && same_numbers(numbers_of(told, 23), average)
-        && same_numbers(numbers_of(told, 24), realized)
-        && same_numbers(numbers_of(told, 25), total)
+fn same_positions(told: &[u8], positions: Table) -> bool {
+    let theirs = columns_of(told);
+    let ours = positions.columns;
+    word_at(told, COUNT_AT) == positions.count as u64
+        && theirs.symbol == ours.symbol
+        && theirs.quantity == ours.quantity
+        && theirs.average == ours.average
+        && theirs.realized == ours.realized
+        && theirs.total == ours.total
 }
 
 // Whether an account is the one that is told, in all that the Rust has and in what it lacks.

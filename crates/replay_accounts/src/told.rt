@@ -1,15 +1,11 @@
 // Queries, which leave the account as it is.
-use crate::row::{Row, head, same_made, same_told, within};
+use crate::row::{Row, head, prices_of, same_made, same_told, within};
 use crate::state::count;
 use account::Account;
-use list_bytes::{read_prices, write_weights};
+use list_bytes::write_weights;
 use position::Symbol;
 use queries::Snapshot;
 use word_bytes::unsigned;
-
-fn flag(on: bool) -> u64 {
-    if on { 1 } else { 0 }
-}
 
 fn position(r: Row, a: Account) -> bool {
     let h = a.position(Symbol(head(r, 2)));
@@ -23,7 +19,7 @@ fn position(r: Row, a: Account) -> bool {
         unsigned(p.avg_entry_price),
         unsigned(p.realized_pnl),
         unsigned(p.total_cost),
-    ) && head(r, 8) == flag(h.present)
+    ) && head(r, 8) == u64::from(h.present)
 }
 
 fn weights(r: Row, s: Snapshot) -> bool {
@@ -45,13 +41,20 @@ fn weights(r: Row, s: Snapshot) -> bool {
 fn equity(r: Row, a: Account, symbols: &[u64], prices: &[i64]) -> bool {
     let e = portfolio::total_equity(a, symbols, prices);
     let given = e.answer;
-    same_told(r, answer::number(given), unsigned(e.cents), 0, 0, 0)
+    same_told(r, answer::number(given), unsigned(e.value), 0, 0, 0)
 }
 
 fn unpriced(r: Row, a: Account, symbols: &[u64], prices: &[i64]) -> bool {
     let u = queries::unpriced_holding(a, symbols, prices);
     let given = u.answer;
-    same_told(r, answer::number(given), flag(u.present), u.symbol, 0, 0)
+    same_told(
+        r,
+        answer::number(given),
+        u64::from(u.present),
+        u.symbol,
+        0,
+        0,
+    )
 }
 
 fn snapshot(r: Row, a: Account, symbols: &[u64], prices: &[i64]) -> bool {
@@ -68,14 +71,11 @@ fn snapshot(r: Row, a: Account, symbols: &[u64], prices: &[i64]) -> bool {
 }
 
 fn at_prices(r: Row, a: Account, symbols: &[u64], prices: &[i64]) -> bool {
-    let number = head(r, 0);
-    if number == 21 {
-        return equity(r, a, symbols, prices);
+    match head(r, 0) {
+        21 => equity(r, a, symbols, prices),
+        22 => unpriced(r, a, symbols, prices),
+        _ => snapshot(r, a, symbols, prices),
     }
-    if number == 22 {
-        return unpriced(r, a, symbols, prices);
-    }
-    snapshot(r, a, symbols, prices)
 }
 
 // At as many prices as the row has.
@@ -88,6 +88,6 @@ pub(crate) fn tell(r: Row, a: Account) -> bool {
     if head(r, 0) == 20 {
         return position(r, a);
     }
-    let p = read_prices(&r.prices[..]);
-    at_first(r, a, &p.symbol[..], &p.price[..])
+    let p = prices_of(r);
+    at_first(r, a, &p.symbol, &p.price)
 }

@@ -6,10 +6,10 @@ use mathlib.Core.Bool.{Bool, true, false}
 use mathlib.Core.List.{List, [], ◌∷◌, ◌++◌, map}
 use lib.Dec.{ltb}
 use lib.ListN.{length, get_or, take, drop, replicate}
-use borrow.Author.Tests.{le-leb, lt-leb, ltb-true, ltb-false}
+use borrow.Author.Tests.{ltb-true, ltb-false}
 use Rattle.saved_form.specs.declared.field.Kind.TheVariants.{Any, Flag, AfterMark, Pattern, Positions}
 use Rattle.saved_form.specs.declared.field.Field.{Field}
-use Rattle.saved_form.specs.Fields.{since, head_fields, position_fields, field_at, follows, has_field}
+use Rattle.saved_form.specs.Fields.{since, head_fields, position_fields, field_at}
 use Rattle.saved_form.specs.Inner.Fields.{fields_from}
 
 in_row : {A : Type 0} (x d : A) (n : ℕ) (l : List A) (i : ℕ) → i < n → get_or (replicate n x ++ l) i d ≡ x
@@ -69,21 +69,12 @@ pub positions_at : (i : ℕ) → i ≡ 22 → field_at i ≡ since 1 Positions
 unfolding field_at head_fields position_fields
 positions_at i e = ap field_at e
 
-pub beyond : (i k : ℕ) → k ≤ i → (i ≡ k → ⊥) → suc k ≤ i
-beyond zero zero h n = absurd (n refl)
-beyond (suc i) zero h n = omega arith
-beyond zero (suc k) h n = absurd (omega arith)
-beyond (suc i) (suc k) h n = let g = beyond i k (omega arith) (λ e. n (ap suc e)) in omega arith
-
-pub flags_after : (i : ℕ) → 9 ≤ i → (i ≡ 9 → ⊥) → (i ≡ 10 → ⊥) → (i ≡ 11 → ⊥) → i < 14 → field_at i ≡ since 1 Flag
-flags_after i h a b c k = flags i (beyond i 11 (beyond i 10 (beyond i 9 h a) b) c) k
-
 pub any_after : (i : ℕ) → 14 ≤ i → (i ≡ 22 → ⊥) → field_at i ≡ any
 any_after i h n = go (ltb i 22) refl
   where
     go : (t : Bool) → ltb i 22 ≡ t → field_at i ≡ any
     go true e = counters_any i h (ltb-true i 22 e)
-    go false e = last_any i (beyond i 22 (ltb-false i 22 e) n)
+    go false e = last_any i (omega (arith, ltb-false i 22 e))
 
 -- every field stands since form 1
 all-since_in : (l : List Field) → map (λ (f : Field). since 1 f.kind) l ≡ l → (i : ℕ) → since 1 (get_or l i any).kind ≡ get_or l i any
@@ -97,15 +88,6 @@ all-since_in l e i = sym (getD-map-of l i) ∙ ap (λ (k : List Field). get_or k
 pub all-since : (i : ℕ) → since 1 (field_at i).kind ≡ field_at i
 unfolding field_at head_fields position_fields
 all-since i = all-since_in fields refl i
-
--- ---- whether a form has a field
-pub too_early : (form : ℕ) (f : Field) (before : ℕ) → form < f.since → false ≡ has_field form f before
-unfolding has_field
-too_early form f before h = simp (lt-leb f.since form h)
-
-pub in_time : (form : ℕ) (f : Field) (before : ℕ) → f.since ≤ form → follows f.kind before ≡ has_field form f before
-unfolding has_field
-in_time form f before h = simp (le-leb f.since form h)
 
 -- ---- the lists by number
 pub head_fields_lem : fields_from 0 23 ≡ head_fields

@@ -53,63 +53,46 @@ pub fn nth_field(i: usize) -> Field
 fn kind_of(i: usize) -> Kind
     ensures { result ≡ (field_at i).kind }
 {
-    if i < 6 {
-        return Kind::Any;
+    match i {
+        ..6 => Kind::Any,
+        ..9 => Kind::Pattern,
+        CAP_MARK => Kind::Flag,
+        CAP_COUNT => Kind::AfterMark,
+        CEILING => Kind::Any,
+        ..14 => Kind::Flag,
+        POSITION_COUNT => Kind::Positions,
+        _ => Kind::Any,
     }
-    if i < 9 {
-        return Kind::Pattern;
-    }
-    if i == CAP_MARK {
-        return Kind::Flag;
-    }
-    if i == CAP_COUNT {
-        return Kind::AfterMark;
-    }
-    if i == CEILING {
-        return Kind::Any;
-    }
-    if i < 14 {
-        return Kind::Flag;
-    }
-    if i == POSITION_COUNT {
-        return Kind::Positions;
-    }
-    Kind::Any
 }
 
 // Whether a number may stand as it is met.
+#[tactic(auto, unfolding(crate::specs::Fields::allowed))]
 pub fn allows(kind: Kind, n: u64) -> bool
     ensures { result ≡ allowed kind n }
 {
     match kind {
-        Kind::Any => true,
+        Kind::Any | Kind::AfterMark => true,
         Kind::Flag => n < 2,
-        Kind::AfterMark => true,
         Kind::Pattern => n != 0x8000_0000_0000_0000,
         Kind::Positions => n <= 64,
     }
 }
 
 // "A trade cap is 0, or 1 and the count"
+#[tactic(auto, unfolding(crate::specs::Fields::follows))]
 fn follows(kind: Kind, before: u64) -> bool
     ensures { result ≡ follows kind before }
 {
     match kind {
-        Kind::Any => true,
-        Kind::Flag => true,
         Kind::AfterMark => before == 1,
-        Kind::Pattern => true,
-        Kind::Positions => true,
+        _ => true,
     }
 }
 
 // Whether a file of a form has the field, after the number before it.
+#[tactic(auto, unfolding(crate::specs::Fields::has_field))]
 pub fn stands(form: u64, f: Field, before: u64) -> bool
     ensures { result ≡ has_field form f before }
 {
-    if form < f.since {
-        return false;
-    }
-    let kind = f.kind;
-    follows(kind, before)
+    f.since <= form && follows(f.kind, before)
 }

@@ -22,34 +22,34 @@ fn rate_pattern(x: f64) -> u64
 pub fn head_values(h: Ledger) -> [u64; HEAD_FIELDS]
     ensures { result ≡ head_values h }
 {
-    let s = h.settings;
-    let m = s.rules.cost_model;
-    let cap = s.max_trades_per_rebalance;
-    let k = h.counters;
-    let x = h.series;
+    let settings = h.settings;
+    let costs = settings.rules.cost_model;
+    let cap = settings.max_trades_per_rebalance;
+    let counters = h.counters;
+    let series = h.series;
     [
         folded(h.cash),
-        folded(m.min_commission),
-        folded(s.min_order_value),
-        folded(s.max_order_value),
-        folded(s.max_rebalance_notional),
-        folded(s.quantity_step),
-        rate_pattern(m.commission_bps),
-        rate_pattern(s.no_trade_band_bps),
-        rate_pattern(m.slippage_bps),
+        folded(costs.min_commission),
+        folded(settings.min_order_value),
+        folded(settings.max_order_value),
+        folded(settings.max_rebalance_notional),
+        folded(settings.quantity_step),
+        rate_pattern(costs.commission_bps),
+        rate_pattern(settings.no_trade_band_bps),
+        rate_pattern(costs.slippage_bps),
         cap_mark(cap),
         cap_count(cap),
-        folded(m.max_commission),
-        flag_word(s.recording),
-        flag_word(s.cash_first),
-        k.last_rebalance_order_count,
-        folded(k.last_rebalance_notional),
-        k.trimmed_fill_count,
-        folded(k.trimmed_shortfall_cents),
-        k.record_count,
-        x.equity_count,
-        x.return_count,
-        folded(x.prev_equity),
+        folded(costs.max_commission),
+        flag_word(settings.recording),
+        flag_word(settings.cash_first),
+        counters.last_rebalance_order_count,
+        folded(counters.last_rebalance_notional),
+        counters.trimmed_fill_count,
+        folded(counters.trimmed_shortfall_cents),
+        counters.record_count,
+        series.equity_count,
+        series.return_count,
+        folded(series.prev_equity),
         h.count as u64,
     ]
 }
@@ -57,15 +57,15 @@ pub fn head_values(h: Ledger) -> [u64; HEAD_FIELDS]
 fn settings_of(v: [u64; HEAD_FIELDS]) -> Settings
     ensures { result ≡ settings_of v }
 {
-    let cost_model = CostModel {
-        commission_bps: float(v[6]),
-        slippage_bps: float(v[8]),
-        min_commission: unfolded(v[1]),
-        max_commission: unfolded(v[11]),
-    };
-    let rules = Rules { cost_model };
     Settings {
-        rules,
+        rules: Rules {
+            cost_model: CostModel {
+                commission_bps: float(v[6]),
+                slippage_bps: float(v[8]),
+                min_commission: unfolded(v[1]),
+                max_commission: unfolded(v[11]),
+            },
+        },
         quantity_step: unfolded(v[5]),
         min_order_value: unfolded(v[2]),
         max_order_value: unfolded(v[3]),
@@ -103,14 +103,11 @@ fn series_of(v: [u64; HEAD_FIELDS]) -> Series
 pub fn account_of(v: [u64; HEAD_FIELDS], positions: Table) -> Account
     ensures { result ≡ account_of v positions }
 {
-    let settings = settings_of(v);
-    let counters = counters_of(v);
-    let series = series_of(v);
     Account {
         cash: unfolded(v[0]),
-        settings,
-        counters,
-        series,
+        settings: settings_of(v),
+        counters: counters_of(v),
+        series: series_of(v),
         positions,
     }
 }

@@ -11,9 +11,8 @@ use Rattle.answer.proofs.Answers.{done_is}
 use Rattle.answer.specs.declared.Answer.{Answer}
 use Rattle.answer.specs.declared.Answer.TheVariants.{Done, Unsound}
 use Rattle.word_bytes.proofs.Words.{Words}
-use Rattle.seven_bit.specs.declared.Number.{Number}
+use Rattle.seven_bit.specs.Placed.{ToldNumber, number_at_of}
 use Rattle.seven_bit.specs.Groups.{groups}
-use Rattle.seven_bit.specs.Placed.{number_at_of}
 use Rattle.seven_bit.proofs.Groups.{Octets}
 use Rattle.saved_form.specs.declared.field.Field.{Field}
 use Rattle.saved_form.specs.declared.field.Kind.{Kind}
@@ -53,7 +52,7 @@ allowed-length form (f ∷ fs) before (v ∷ vs) o = ap suc (allowed-length form
 -- ---- one field
 judged_back : (l rest : List ℕ) (k : Kind) (at v : ℕ) → allowed k v ≡ true → v < 2 ^ 64 → drop at l ≡ groups v ++ rest → judged k at (number_at_of l at) ≡ was v (at + length (groups v))
 unfolding judged
-judged_back l rest k at v s h e = ap (λ (n : Number). then_number n (λ n. pick (allowed k n.value) n (no_number_of Unsound at))) (number_back l rest at v h e) ∙ simp s
+judged_back l rest k at v s h e = ap (λ (n : ToldNumber). then_number n (λ n. pick (allowed k n.value) n (no_number_of Unsound at))) (number_back l rest at v h e) ∙ simp s
 
 field_by : (l rest : List ℕ) (k : Kind) (at v : ℕ) (t : Bool) → Stands t k v → drop at l ≡ pick t (groups v) [] ++ rest → pick t (judged k at (number_at_of l at)) (no_number_of Done at) ≡ was v (at + length (pick t (groups v) []))
 field_by l rest k at v true s e = judged_back l rest k at v s.0 s.1 e
@@ -78,21 +77,21 @@ fields_back l rest form (f ∷ fs) before (v ∷ vs) at o e =
     let s : drop at l ≡ x ++ (y ++ rest) = e ∙ append_assoc x y rest in
     let m = fields_back l rest form fs v vs (at + length x) o.1 (after l x (y ++ rest) at s) in
     let k : at + length x + length y ≡ at + length (x ++ y) = omega (arith, length-append x y) in
-    ap (λ (n : Number). then_run n (λ n. fields_read_of l form fs n.value n.next)) (field_back l (y ++ rest) form f before v at o.0 s) ∙ ap (with_value v) m ∙ ap (ran (v ∷ vs)) k
+    ap (λ (n : ToldNumber). then_run n (λ n. fields_read_of l form fs n.value n.next)) (field_back l (y ++ rest) form f before v at o.0 s) ∙ ap (with_value v) m ∙ ap (ran (v ∷ vs)) k
 
 -- ---- what is read is what would be written
-judged_by : (k : Kind) (at : ℕ) (n : Number) (w : Answer) (d t : Bool) → w ≡ n.answer → is_done w ≡ d → allowed k n.value ≡ t → (pick d (pick t n (no_number_of Unsound at)) n).answer ≡ Done
+judged_by : (k : Kind) (at : ℕ) (n : ToldNumber) (w : Answer) (d t : Bool) → w ≡ n.answer → is_done w ≡ d → allowed k n.value ≡ t → (pick d (pick t n (no_number_of Unsound at)) n).answer ≡ Done
     → (n.answer ≡ Done) × (allowed k n.value ≡ true) × (pick d (pick t n (no_number_of Unsound at)) n ≡ n)
 judged_by k at n w true true q e f h = (h, f, refl)
 judged_by k at n w true false q e f h = apart Unsound Done h (λ z. omega arith)
 judged_by k at n w false t q e f h = clash (is_done w) (ap is_done (q ∙ h)) e
 
-pub judged-done : (k : Kind) (at : ℕ) (n : Number) → (judged k at n).answer ≡ Done → (n.answer ≡ Done) × (allowed k n.value ≡ true) × (judged k at n ≡ n)
+pub judged-done : (k : Kind) (at : ℕ) (n : ToldNumber) → (judged k at n).answer ≡ Done → (n.answer ≡ Done) × (allowed k n.value ≡ true) × (judged k at n ≡ n)
 unfolding judged
 judged-done k at n h = judged_by k at n n.answer (is_done n.answer) (allowed k n.value) refl refl refl h
 
 -- a field that was read: its bytes, and that its number may stand
-pub record Taken (l : List ℕ) (t : Bool) (k : Kind) (at : ℕ) (n : Number) : Type 0 where
+pub record Taken (l : List ℕ) (t : Bool) (k : Kind) (at : ℕ) (n : ToldNumber) : Type 0 where
   pub stands : Stands t k n.value
   pub same : drop at l ≡ pick t (groups n.value) [] ++ drop n.next l
 
@@ -112,15 +111,15 @@ pub record Whole (l : List ℕ) (form : ℕ) (fs : List Field) (before at : ℕ)
   pub allowed : Allowed form fs before r.values
   pub same : drop at l ≡ fields_file form fs before r.values ++ drop r.next l
 
-then_by : (n : Number) (more : Number → Run) (d : Bool) → is_done n.answer ≡ d → (pick d (with_value n.value (more n)) (ended n.answer n.next)).answer ≡ Done
+then_by : (n : ToldNumber) (more : ToldNumber → Run) (d : Bool) → is_done n.answer ≡ d → (pick d (with_value n.value (more n)) (ended n.answer n.next)).answer ≡ Done
     → (n.answer ≡ Done) × ((more n).answer ≡ Done) × (pick d (with_value n.value (more n)) (ended n.answer n.next) ≡ with_value n.value (more n))
 then_by n more true e h = (done_is n.answer e, h, refl)
 then_by n more false e h = clash (is_done n.answer) (ap is_done h) e
 
-pub then-done : (n : Number) (more : Number → Run) → (then_run n more).answer ≡ Done → (n.answer ≡ Done) × ((more n).answer ≡ Done) × (then_run n more ≡ with_value n.value (more n))
+pub then-done : (n : ToldNumber) (more : ToldNumber → Run) → (then_run n more).answer ≡ Done → (n.answer ≡ Done) × ((more n).answer ≡ Done) × (then_run n more ≡ with_value n.value (more n))
 then-done n more h = then_by n more (is_done n.answer) refl h
 
-whole-more : (l : List ℕ) (form : ℕ) (f : Field) (fs : List Field) (before at : ℕ) (n : Number) (r : Run) → Taken l (has_field form f before) f.kind at n → Whole l form fs n.value n.next r → Whole l form (f ∷ fs) before at (with_value n.value r)
+whole-more : (l : List ℕ) (form : ℕ) (f : Field) (fs : List Field) (before at : ℕ) (n : ToldNumber) (r : Run) → Taken l (has_field form f before) f.kind at n → Whole l form fs n.value n.next r → Whole l form (f ∷ fs) before at (with_value n.value r)
 unfolding fields_file field_file
 whole-more l form f fs before at n r t w = record {
   allowed = (t.stands, w.allowed);

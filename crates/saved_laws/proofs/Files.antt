@@ -24,15 +24,13 @@ use Rattle.account.proofs.Tables.{held-table}
 use Rattle.account.proofs.SoundAccounts.{account-small, account-table}
 use Rattle.account_bytes.proofs.Lists.{Numbers, word_lt}
 use Rattle.account_bytes.proofs.AccountKept.{KeptTable, KeptAccount}
-use Rattle.seven_bit.specs.declared.Number.{Number}
+use Rattle.seven_bit.specs.Placed.{ToldNumber, number_at_of}
 use Rattle.seven_bit.specs.Groups.{groups}
-use Rattle.seven_bit.specs.Placed.{number_at_of}
 use Rattle.seven_bit.proofs.Signed.{folded_fits}
 use Rattle.saved_form.specs.Fields.{newest, head_fields}
 use Rattle.saved_form.specs.Values.{scalars_of, setting_values, counter_values, head_values}
 use Rattle.saved_form.specs.Writing.{fields_file, positions_file}
-use Rattle.loading.specs.declared.head.Head.{Head}
-use Rattle.loading.specs.Reading.{head_of, head_read_of, positions_read, filed, up_to64, table_read, head_in_of, positions_in}
+use Rattle.loading.specs.Reading.{ToldHead, head_of, head_read_of, positions_read, filed, up_to64, table_read, head_in_of, positions_in}
 use Rattle.saved_laws.proofs.Places.{was, number_back}
 use Rattle.saved_laws.proofs.Fields.{ran, fields_back}
 use Rattle.saved_laws.proofs.Texts.{text_of_lem}
@@ -47,12 +45,12 @@ number_at (z ∷ l) (suc i) o = number_at l i o.1
 
 row_fits : (t : Table) (i : ℕ) → KeptTable t → sound (row_at i (columns_of t)) ≡ true → Fit (row_at i (columns_of t))
 row_fits t i k s = record {
-  small = word_lt t.symbol i k.symbols;
-  text = text_of_lem (get_or t.symbol i 0) (word_lt t.symbol i k.symbols) (sound-symbol (row_at i (columns_of t)) s);
-  quantity = folded_fits (get_or t.quantity i (pos 0)) (number_at t.quantity i k.quantities);
-  average = folded_fits (get_or t.avg_entry_price i (pos 0)) (number_at t.avg_entry_price i k.averages);
-  realized = folded_fits (get_or t.realized_pnl i (pos 0)) (number_at t.realized_pnl i k.realized);
-  total = folded_fits (get_or t.total_cost i (pos 0)) (number_at t.total_cost i k.totals);
+  small = word_lt t.columns.symbol i k.symbols;
+  text = text_of_lem (get_or t.columns.symbol i 0) (word_lt t.columns.symbol i k.symbols) (sound-symbol (row_at i (columns_of t)) s);
+  quantity = folded_fits (get_or t.columns.quantity i (pos 0)) (number_at t.columns.quantity i k.quantities);
+  average = folded_fits (get_or t.columns.average i (pos 0)) (number_at t.columns.average i k.averages);
+  realized = folded_fits (get_or t.columns.realized i (pos 0)) (number_at t.columns.realized i k.realized);
+  total = folded_fits (get_or t.columns.total i (pos 0)) (number_at t.columns.total i k.totals);
 }
 
 each : (ps : List Position) → ((i : ℕ) → i < length ps → Fit (get_or ps i (fresh 0))) → Fits ps
@@ -78,7 +76,7 @@ head_file a = fields_file newest head_fields 0 (head_values (scalars_of a))
 abbrev pub held_file : Account → List ℕ
 held_file a = positions_file (held_in a.positions)
 
-abbrev pub head_to : Account → ℕ → Head
+abbrev pub head_to : Account → ℕ → ToldHead
 head_to a next = record { answer = Done; next = next; count = a.positions.count; values = head_values (scalars_of a) }
 
 head_whole : (a : Account) (next : ℕ) → head_of (ran (head_values (scalars_of a)) next) ≡ head_to a next
@@ -100,7 +98,7 @@ module _ (a : Account) (e : sound_account a ≡ true) (k : KeptAccount a) (l : L
     pub head_in : (rest : List ℕ) → drop n l ≡ head_file a ++ rest → head_in_of l ≡ head_to a (n + length (head_file a))
     unfolding head_read_of
     head_in rest q =
-        ap (λ (m : Number). head_read_of l m.value m.next) f
+        ap (λ (m : ToldNumber). head_read_of l m.value m.next) f
         ∙ ap head_of (fields_back l rest newest head_fields 0 (head_values (scalars_of a)) n (head_allowed a e k) q)
         ∙ head_whole a (n + length (head_file a))
 
@@ -108,8 +106,8 @@ module _ (a : Account) (e : sound_account a ≡ true) (k : KeptAccount a) (l : L
       places-read : positions_in l ≡ filed (positions_read (length (held_in a.positions)) l newest m)
       unfolding table_read
       places-read =
-          ap (λ (h : Head). table_read l (number_at_of l 0).value h.count h.next) g
-          ∙ ap (λ (i : Number). table_read l i.value a.positions.count m) f
+          ap (λ (h : ToldHead). table_read l (number_at_of l 0).value h.count h.next) g
+          ∙ ap (λ (i : ToldNumber). table_read l i.value a.positions.count m) f
           ∙ ap (λ (i : ℕ). filed (positions_read i l newest m)) (at_most_64 a.positions.count (account-small a e) ∙ sym (rows-count a e k))
 
       pub positions_in_lem : (rest : List ℕ) → drop m l ≡ held_file a ++ rest → positions_in l ≡ record { answer = Done; next = m + length (held_file a); table = a.positions }

@@ -16,17 +16,13 @@ use Rattle.answer.proofs.Answers.{done_is}
 use Rattle.answer.specs.declared.Answer.{Answer}
 use Rattle.answer.specs.declared.Answer.TheVariants.{Done, Unsound, EndsEarly, BadNumber}
 use Rattle.position.specs.Rows.{row}
-use Rattle.seven_bit.specs.declared.Number.{Number}
+use Rattle.seven_bit.specs.Placed.{ToldNumber, told, number_at_of}
 use Rattle.seven_bit.specs.Groups.{Out, ends, bad, got, read, number}
-use Rattle.seven_bit.specs.Placed.{told, number_at_of}
 use Rattle.saved_form.specs.declared.field.Field.{Field}
 use Rattle.saved_form.specs.declared.field.Kind.{Kind}
 use Rattle.saved_form.specs.Fields.{head_fields, position_fields, allowed, has_field}
 use Rattle.saved_form.specs.Texts.{good_length_of, spelt}
-use Rattle.loading.specs.declared.head.Head.{Head}
-use Rattle.loading.specs.declared.entry.Entry.{Entry}
-use Rattle.loading.specs.declared.positions.Positions.{Positions}
-use Rattle.loading.specs.Reading.{no_number_of, judged, field_read, Run, ended, with_value, fields_read_of, head_of, head_read_of, text_read, symbol_read, no_entry, signed_in, entry_of, entry_after, position_read, Rows, no_rows, with_row, then_rows, positions_read, filed, up_to64, table_read}
+use Rattle.loading.specs.Reading.{ToldHead, ToldEntry, ToldPositions, no_number_of, judged, field_read, Run, ended, with_value, fields_read_of, head_of, head_read_of, text_read, symbol_read, no_entry, signed_in, entry_of, entry_after, position_read, Rows, no_rows, with_row, then_rows, positions_read, filed, up_to64, table_read}
 use Rattle.seven_bit.proofs.Parts.{Grouped, read_grouped}
 use Rattle.saved_laws.proofs.Places.{apart, clash}
 
@@ -36,22 +32,22 @@ pub record Result (R : Type 0) : Type 0 where
   pub answer : R → Answer
   pub next : R → ℕ
 
-abbrev pub numbers : Result Number
+abbrev pub numbers : Result ToldNumber
 numbers = record { answer = λ n. n.answer; next = λ n. n.next }
 
 abbrev pub runs : Result Run
 runs = record { answer = λ r. r.answer; next = λ r. r.next }
 
-abbrev pub heads : Result Head
+abbrev pub heads : Result ToldHead
 heads = record { answer = λ h. h.answer; next = λ h. h.next }
 
-abbrev pub entries : Result Entry
+abbrev pub entries : Result ToldEntry
 entries = record { answer = λ e. e.answer; next = λ e. e.next }
 
 abbrev pub rolls : Result Rows
 rolls = record { answer = λ r. r.answer; next = λ r. r.next }
 
-abbrev pub tables : Result Positions
+abbrev pub tables : Result ToldPositions
 tables = record { answer = λ t. t.answer; next = λ t. t.next }
 
 -- what it may answer, and the place that it then tells
@@ -182,7 +178,7 @@ module _ (l : List ℕ) (p : ℕ) where
     before = λ h.
         let q : at ≡ p = ap place_of h in
         let z : p - at ≡ 0 = omega arith in
-        (omega arith, ap (λ (n : Number). n.answer) (number-there at ends (ap (λ (i : ℕ). number (take i (drop at l))) z)));
+        (omega arith, ap (λ (n : ToldNumber). n.answer) (number-there at ends (ap (λ (i : ℕ). number (take i (drop at l))) z)));
   }
   number_by at (got v n) e g = record {
     among = done refl;
@@ -190,7 +186,7 @@ module _ (l : List ℕ) (p : ℕ) where
       onward = omega arith;
       inside = λ i. omega (arith, g.0, length-drop at l);
       alone = λ i. number-there at (got v n) (g.1 (p - at) (omega arith));
-      cut = λ i j. ap (λ (n : Number). n.answer) (number-there at ends (g.2 (p - at) (omega arith)));
+      cut = λ i j. ap (λ (n : ToldNumber). n.answer) (number-there at ends (g.2 (p - at) (omega arith)));
     };
     before = λ h. apart Done (BadNumber p) h (λ z. omega arith);
   }
@@ -201,7 +197,7 @@ module _ (l : List ℕ) (p : ℕ) where
   judged_reads : (k : Kind) (at : ℕ) → Reads numbers l p at (judged k at (number_at_of l at)) (judged k at (number_at_of m at))
   unfolding judged
   judged_reads k at =
-      let more : Number → Number = λ n. pick (allowed k n.value) n (no_number_of Unsound at) in
+      let more : ToldNumber → ToldNumber = λ n. pick (allowed k n.value) n (no_number_of Unsound at) in
       let n = number_at_of l at in
       followed_by numbers numbers n (number_at_of m at) more more (λ n. n) (λ _. refl) (number_reads at)
       (λ d. by_test numbers (allowed k n.value) n n (no_number_of Unsound at) (no_number_of Unsound at) (stays numbers n d refl) (refuses numbers (no_number_of Unsound at) (no_number_of Unsound at) refl))
@@ -223,7 +219,7 @@ module _ (l : List ℕ) (p : ℕ) where
   head_reads form at = formed runs heads head_of (λ _. refl) (λ _. refl) _ _ (fields_read form head_fields 0 at)
 
   -- ---- symbols
-  abbrev text : ℕ → ℕ → Number
+  abbrev text : ℕ → ℕ → ToldNumber
   text n at = record { answer = Done; value = spelt (take n (drop at l)); next = at + n }
 
   text_by : (n at : ℕ) (t : Bool) → leb (at + n) (length l) ≡ t → Reads numbers l p at (pick t (text n at) (no_number_of (EndsEarly (length l)) (length l))) (text_read m n at)
@@ -264,7 +260,7 @@ module _ (l : List ℕ) (p : ℕ) where
   entry_reads : (s at : ℕ) (r r' : Run) → Reads runs l p at r r' → Reads entries l p at (entry_of s r) (entry_of s r')
   unfolding entry_of
   entry_reads s at r r' h =
-      let whole : Run → Entry = λ r. record { answer = Done; next = r.next; position = row s (signed_in r 0) (signed_in r 1) (signed_in r 2) (signed_in r 3) } in
+      let whole : Run → ToldEntry = λ r. record { answer = Done; next = r.next; position = row s (signed_in r 0) (signed_in r 1) (signed_in r 2) (signed_in r 3) } in
       followed_by runs entries r r' whole whole (λ r. no_entry r.answer r.next) (λ _. refl) h (λ d. stays entries (whole r) refl refl)
 
   position_reads : (form at : ℕ) → Reads entries l p at (position_read l form at) (position_read m form at)

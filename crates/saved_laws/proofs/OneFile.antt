@@ -1,6 +1,6 @@
 -- Every file that is taken is what writing its account gives; what is loaded is sound, and a refused file leaves zeros.
 use mathlib.Core.Path.{◌≡◌, refl, sym, ◌∙◌, ap, subst}
-use Prim.Native.Nat.{ℕ, zero, suc, ◌+◌, ◌-◌, ◌≤◌}
+use Prim.Native.Nat.{ℕ, zero, suc, ◌-◌, ◌≤◌}
 use native.Mathlib.Omega.{arith}
 use mathlib.Core.Bool.{Bool, true, false}
 use mathlib.Core.List.{List, [], ◌++◌, append-nil}
@@ -28,9 +28,7 @@ use Rattle.seven_bit.proofs.Groups.{Octets}
 use Rattle.saved_form.specs.Fields.{newest, head_fields}
 use Rattle.saved_form.specs.Values.{scalars_of, head_values, settings_of, account_of}
 use Rattle.saved_form.specs.Writing.{fields_file, positions_file, file_of}
-use Rattle.loading.specs.declared.head.Head.{Head}
-use Rattle.loading.specs.declared.positions.Positions.{Positions}
-use Rattle.loading.specs.Reading.{Run, fields_read_of, head_of, head_read_of, position_read, Rows, no_rows, with_row, then_rows, positions_read, filed, table_read, head_in_of, positions_in}
+use Rattle.loading.specs.Reading.{ToldHead, ToldPositions, Run, fields_read_of, head_of, head_read_of, position_read, Rows, no_rows, with_row, then_rows, positions_read, filed, table_read, head_in_of, positions_in}
 use Rattle.loading.specs.Loading.{file_account, load_answer, not_loaded, loaded}
 use Rattle.saved_laws.proofs.Places.{number-one}
 use Rattle.saved_laws.proofs.Fields.{allowed-length, allowed-words, Whole, fields_one}
@@ -132,7 +130,7 @@ module _ (l : List ℕ) where
     positions-are : positions_in l ≡ filed places
     unfolding table_read
     positions-are =
-        ap (λ (h : Head). table_read l (number_at_of l 0).value h.count h.next) head-is
+        ap (λ (h : ToldHead). table_read l (number_at_of l 0).value h.count h.next) head-is
         ∙ ap (λ (v : ℕ). table_read l v (get_or run.values 22 0) run.next) passes.known
         ∙ ap (λ (k : ℕ). filed (positions_read k l newest run.next)) (at_most_64 (get_or run.values 22 0) at_most)
 
@@ -142,8 +140,8 @@ module _ (l : List ℕ) where
     account_is : file_account l ≡ account_of run.values (table_of held_rows)
     unfolding file_account filed
     account_is =
-        ap (λ (h : Head). account_of h.values (positions_in l).table) head-is
-        ∙ ap (λ (p : Positions). account_of run.values p.table) positions-are
+        ap (λ (h : ToldHead). account_of h.values (positions_in l).table) head-is
+        ∙ ap (λ (p : ToldPositions). account_of run.values p.table) positions-are
 
     account-sound : sound_account (account_of run.values (table_of held_rows)) ≡ true
     account-sound = sym (ap sound_account account_is) ∙ passes.sound
@@ -157,12 +155,12 @@ module _ (l : List ℕ) where
 
     rolled : Rolled l (get_or run.values 22 0) run.next places
     unfolding filed
-    rolled = positions_one (get_or run.values 22 0) l run.next o (sym (ap (λ (p : Positions). p.answer) positions-are) ∙ passes.positions) each-sound
+    rolled = positions_one (get_or run.values 22 0) l run.next o (sym (ap (λ (p : ToldPositions). p.answer) positions-are) ∙ passes.positions) each-sound
 
     last-first : drop run.next l ≡ positions_file held_rows
     unfolding filed
     last-first =
-        let n : places.next ≡ length l = sym (ap (λ (p : Positions). p.next) positions-are) ∙ passes.end in
+        let n : places.next ≡ length l = sym (ap (λ (p : ToldPositions). p.next) positions-are) ∙ passes.end in
         rolled.same ∙ ap (λ (k : ℕ). positions_file held_rows ++ drop k l) n ∙ ap (λ (x : List ℕ). positions_file held_rows ++ x) (drop-length l) ∙ append-nil (positions_file held_rows)
 
     rates-numbers : NoNan (settings_of run.values)

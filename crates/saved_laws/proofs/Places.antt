@@ -9,9 +9,8 @@ use lib.Seq.{drop_at, drop-drop}
 use Rattle.answer.specs.declared.Answer.{Answer}
 use Rattle.answer.specs.declared.Answer.TheVariants.{Done, EndsEarly, BadNumber}
 use Rattle.answer.specs.Numbers.{number_of}
-use Rattle.seven_bit.specs.declared.Number.{Number}
+use Rattle.seven_bit.specs.Placed.{ToldNumber, told, number_at_of}
 use Rattle.seven_bit.specs.Groups.{Out, ends, bad, got, number, groups}
-use Rattle.seven_bit.specs.Placed.{told, number_at_of}
 use Rattle.seven_bit.proofs.Groups.{Octets, number-groups, number_shortest}
 
 -- a fact of the first of a row, and one of the others
@@ -42,14 +41,14 @@ pub apart : {A : Type 0} (a b : Answer) → a ≡ b → (number_of a ≡ number_
 apart a b e f = absurd (f (ap number_of e))
 
 -- ---- a number
-abbrev pub was : ℕ → ℕ → Number
+abbrev pub was : ℕ → ℕ → ToldNumber
 was v next = record { answer = Done; value = v; next = next }
 
 pub number_back : (l rest : List ℕ) (at v : ℕ) → v < 2 ^ 64 → drop at l ≡ groups v ++ rest → number_at_of l at ≡ was v (at + length (groups v))
 unfolding told
 number_back l rest at v h e = ap (λ (m : List ℕ). told at (length l) (number m)) e ∙ ap (told at (length l)) (number-groups rest v h)
 
-pub record Shortest (l : List ℕ) (at : ℕ) (n : Number) : Type 0 where
+pub record Shortest (l : List ℕ) (at : ℕ) (n : ToldNumber) : Type 0 where
   pub fits : n.value < 2 ^ 64
   pub same : drop at l ≡ groups n.value ++ drop n.next l
 

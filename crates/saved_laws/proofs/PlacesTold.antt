@@ -17,13 +17,10 @@ use Rattle.answer.specs.declared.Answer.TheVariants.{Done, Unsound, EndsEarly, B
 use Rattle.account.specs.declared.account.Account.{Account}
 use Rattle.account.specs.Account.{sound_account}
 use Rattle.account.specs.Calls.{zero_account}
-use Rattle.seven_bit.specs.declared.Number.{Number}
-use Rattle.seven_bit.specs.Placed.{number_at_of}
+use Rattle.seven_bit.specs.Placed.{ToldNumber, number_at_of}
 use Rattle.saved_form.specs.Fields.{newest}
 use Rattle.saved_form.specs.Values.{account_of}
-use Rattle.loading.specs.declared.head.Head.{Head}
-use Rattle.loading.specs.declared.positions.Positions.{Positions}
-use Rattle.loading.specs.Reading.{head_read_of, table_read, head_in_of, positions_in}
+use Rattle.loading.specs.Reading.{ToldHead, ToldPositions, head_read_of, table_read, head_in_of, positions_in}
 use Rattle.loading.specs.Loading.{file_account, load_answer}
 use Rattle.saved_laws.specs.Statement.{Placed}
 use Rattle.saved_laws.proofs.Places.{apart, clash}
@@ -41,13 +38,13 @@ wholes = record { answer = λ r. r.answer; next = λ r. r.next }
 abbrev stopped : Answer → ℕ → Parts
 stopped w at = record { answer = w; next = at; account = zero_account }
 
-abbrev held : Head → Positions → Parts
+abbrev held : ToldHead → ToldPositions → Parts
 held h t = record { answer = t.answer; next = t.next; account = account_of h.values t.table }
 
-abbrev after_head : List ℕ → ℕ → Head → Parts
+abbrev after_head : List ℕ → ℕ → ToldHead → Parts
 after_head l form h = pick (is_done h.answer) (held h (table_read l form h.count h.next)) (stopped h.answer h.next)
 
-abbrev after_form : List ℕ → Number → Parts
+abbrev after_form : List ℕ → ToldNumber → Parts
 after_form l n = pick (eqb n.value newest) (after_head l n.value (head_read_of l n.value n.next)) (stopped Unsound n.next)
 
 abbrev pub parts : List ℕ → Parts
@@ -61,7 +58,7 @@ abbrev answer_of : Parts → ℕ → Answer
 answer_of r end = or_later r.answer (last_of r.next end r.account)
 
 module _ (l : List ℕ) where
-  abbrev form : Number
+  abbrev form : ToldNumber
   form = number_at_of l 0
 
   abbrev behind_head : Answer

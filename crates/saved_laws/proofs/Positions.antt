@@ -14,7 +14,7 @@ use Rattle.position.specs.declared.position.Position.{Position}
 use Rattle.position.specs.Rows.{row, key_of, held, avg, realized, total, numbers_of}
 use Rattle.position.specs.Symbols.{good_symbol}
 use Rattle.position.specs.Fills.{sound, sound_numbers}
-use Rattle.seven_bit.specs.declared.Number.{Number}
+use Rattle.seven_bit.specs.Placed.{ToldNumber}
 use Rattle.seven_bit.specs.Signed.{folded, unfolded}
 use Rattle.seven_bit.proofs.Signed.{unfolded-folded, folded-unfolded, unfolded-fits}
 use Rattle.word_bytes.proofs.Words.{Words}
@@ -23,8 +23,7 @@ use Rattle.seven_bit.proofs.Groups.{Octets}
 use Rattle.saved_form.specs.Fields.{newest, position_fields, allowed, follows, has_field}
 use Rattle.saved_form.specs.Texts.{symbol_file}
 use Rattle.saved_form.specs.Writing.{fields_file, position_file, positions_file}
-use Rattle.loading.specs.declared.entry.Entry.{Entry}
-use Rattle.loading.specs.Reading.{Run, fields_read_of, no_entry, signed_in, entry_of, symbol_read, entry_after, position_read, Rows, no_rows, with_row, then_rows, positions_read}
+use Rattle.loading.specs.Reading.{ToldEntry, Run, fields_read_of, no_entry, signed_in, entry_of, symbol_read, entry_after, position_read, Rows, no_rows, with_row, then_rows, positions_read}
 use Rattle.saved_laws.proofs.Places.{◌▸◌, after, clash}
 use Rattle.saved_laws.proofs.Fields.{Allowed, allowed-words, ran, fields_back, Whole, fields_one}
 use Rattle.saved_laws.proofs.Texts.{Text}
@@ -50,7 +49,7 @@ numbers_allowed : (p : Position) → Fit p → Allowed newest position_fields 0 
 unfolding position_fields has_field follows allowed
 numbers_allowed p f = (refl, f.quantity) ▸ (refl, f.average) ▸ (refl, f.realized) ▸ (refl, f.total) ▸ omega arith
 
-abbrev pub read : Position → ℕ → Entry
+abbrev pub read : Position → ℕ → ToldEntry
 read p next = record { answer = Done; next = next; position = p }
 
 entry_back : (p : Position) (next : ℕ) → entry_of (key_of p) (ran (values_of p) next) ≡ read p next
@@ -84,7 +83,7 @@ positions_back l rest (p ∷ ps) at f e =
     let s : drop at l ≡ x ++ (y ++ rest) = e ∙ append_assoc x y rest in
     let m = positions_back l rest ps (at + length x) f.1 (after l x (y ++ rest) at s) in
     let k : at + length x + length y ≡ at + length (x ++ y) = omega (arith, length-append x y) in
-    ap (λ (n : Entry). then_rows n (λ e. positions_read (length ps) l newest e.next)) (position_back l (y ++ rest) p at f.0 s) ∙ ap (with_row p) m ∙ ap (rows_to (p ∷ ps)) k
+    ap (λ (n : ToldEntry). then_rows n (λ e. positions_read (length ps) l newest e.next)) (position_back l (y ++ rest) p at f.0 s) ∙ ap (with_row p) m ∙ ap (rows_to (p ∷ ps)) k
 
 -- ---- what is read is what would be written
 values_back : (s : ℕ) (vs : List ℕ) → Allowed newest position_fields 0 vs → values_of (row s (unfolded (get_or vs 0 0)) (unfolded (get_or vs 1 0)) (unfolded (get_or vs 2 0)) (unfolded (get_or vs 3 0))) ≡ vs
@@ -104,13 +103,13 @@ signed_numbers vs w =
     ▸ unfolded-fits (get_or vs 3 0) (word_lt vs 3 w)
     ▸ omega arith
 
-pub record Filed (l : List ℕ) (at : ℕ) (e : Entry) : Type 0 where
+pub record Filed (l : List ℕ) (at : ℕ) (e : ToldEntry) : Type 0 where
   pub small : key_of e.position < 2 ^ 64
   pub numbers : Numbers (numbers_of e.position)
   pub same : drop at l ≡ position_file e.position ++ drop e.next l
 
 module _ (l : List ℕ) (at : ℕ) (o : Octets l) where
-  entry_by : (n : Number) (r : Run) (t : Bool) → Spelt l at n → (r.answer ≡ Done → Whole l newest position_fields 0 n.next r) → is_done r.answer ≡ t
+  entry_by : (n : ToldNumber) (r : Run) (t : Bool) → Spelt l at n → (r.answer ≡ Done → Whole l newest position_fields 0 n.next r) → is_done r.answer ≡ t
       → (pick t (read (row n.value (signed_in r 0) (signed_in r 1) (signed_in r 2) (signed_in r 3)) r.next) (no_entry r.answer r.next)).answer ≡ Done
       → Filed l at (pick t (read (row n.value (signed_in r 0) (signed_in r 1) (signed_in r 2) (signed_in r 3)) r.next) (no_entry r.answer r.next))
   unfolding position_file
@@ -125,10 +124,10 @@ module _ (l : List ℕ) (at : ℕ) (o : Octets l) where
         same = s.same ∙ ap (λ (m : List ℕ). symbol_file n.value ++ m) q.same ∙ sym (append_assoc (symbol_file n.value) y (drop r.next l)) ∙ ap (λ (vs : List ℕ). (symbol_file n.value ++ fields_file newest position_fields 0 vs) ++ drop r.next l) (sym v);
       }
 
-  abbrev entered : Number → Entry
+  abbrev entered : ToldNumber → ToldEntry
   entered n = entry_of n.value (fields_read_of l newest position_fields 0 n.next)
 
-  entry_one : (n : Number) → Spelt l at n → (entered n).answer ≡ Done → Filed l at (entered n)
+  entry_one : (n : ToldNumber) → Spelt l at n → (entered n).answer ≡ Done → Filed l at (entered n)
   unfolding entry_of
   entry_one n s d = let r = fields_read_of l newest position_fields 0 n.next in entry_by n r (is_done r.answer) s (fields_one l newest position_fields 0 n.next o) refl d
 
@@ -138,11 +137,11 @@ module _ (l : List ℕ) (at : ℕ) (o : Octets l) where
   key_of_lem s r true e d = refl
   key_of_lem s r false e d = clash (is_done r.answer) (ap is_done d) e
 
-  entry_key : (n : Number) → (entered n).answer ≡ Done → key_of (entered n).position ≡ n.value
+  entry_key : (n : ToldNumber) → (entered n).answer ≡ Done → key_of (entered n).position ≡ n.value
   unfolding entry_of
   entry_key n d = let r = fields_read_of l newest position_fields 0 n.next in key_of_lem n.value r (is_done r.answer) refl d
 
-  position-one_by : (n : Number) (t : Bool) → (n.answer ≡ Done → good_symbol n.value ≡ true → Spelt l at n) → is_done n.answer ≡ t
+  position-one_by : (n : ToldNumber) (t : Bool) → (n.answer ≡ Done → good_symbol n.value ≡ true → Spelt l at n) → is_done n.answer ≡ t
       → (pick t (entered n) (no_entry n.answer n.next)).answer ≡ Done → good_symbol (key_of (pick t (entered n) (no_entry n.answer n.next)).position) ≡ true
       → Filed l at (pick t (entered n) (no_entry n.answer n.next))
   position-one_by n true s e d g = entry_one n (s (done_is n.answer e) (sym (ap good_symbol (entry_key n d)) ∙ g)) d
@@ -162,16 +161,16 @@ pub record Rolled (l : List ℕ) (k at : ℕ) (r : Rows) : Type 0 where
   pub count : length r.rows ≡ k
   pub same : drop at l ≡ positions_file r.rows ++ drop r.next l
 
-then_by : (e : Entry) (more : Entry → Rows) (d : Bool) → is_done e.answer ≡ d → (pick d (with_row e.position (more e)) (no_rows e.answer e.next)).answer ≡ Done
+then_by : (e : ToldEntry) (more : ToldEntry → Rows) (d : Bool) → is_done e.answer ≡ d → (pick d (with_row e.position (more e)) (no_rows e.answer e.next)).answer ≡ Done
     → (e.answer ≡ Done) × ((more e).answer ≡ Done) × (pick d (with_row e.position (more e)) (no_rows e.answer e.next) ≡ with_row e.position (more e))
 then_by e more true q h = (done_is e.answer q, h, refl)
 then_by e more false q h = clash (is_done e.answer) (ap is_done h) q
 
-pub rows-done : (e : Entry) (more : Entry → Rows) → (then_rows e more).answer ≡ Done → (e.answer ≡ Done) × ((more e).answer ≡ Done) × (then_rows e more ≡ with_row e.position (more e))
+pub rows-done : (e : ToldEntry) (more : ToldEntry → Rows) → (then_rows e more).answer ≡ Done → (e.answer ≡ Done) × ((more e).answer ≡ Done) × (then_rows e more ≡ with_row e.position (more e))
 unfolding then_rows
 rows-done e more h = then_by e more (is_done e.answer) refl h
 
-rolled_more : (l : List ℕ) (k at : ℕ) (e : Entry) (r : Rows) → Filed l at e → Rolled l k e.next r → Rolled l (suc k) at (with_row e.position r)
+rolled_more : (l : List ℕ) (k at : ℕ) (e : ToldEntry) (r : Rows) → Filed l at e → Rolled l k e.next r → Rolled l (suc k) at (with_row e.position r)
 unfolding positions_file
 rolled_more l k at e r f w = record {
   kept = (f.small, f.numbers, w.kept);

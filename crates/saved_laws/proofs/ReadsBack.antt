@@ -14,15 +14,12 @@ use Rattle.account.specs.declared.account.Account.{Account}
 use Rattle.account.specs.Account.{sound_account}
 use Rattle.account.specs.Calls.{answered}
 use Rattle.account_bytes.proofs.AccountKept.{KeptAccount}
-use Rattle.seven_bit.specs.declared.Number.{Number}
+use Rattle.seven_bit.specs.Placed.{ToldNumber, number_at_of}
 use Rattle.seven_bit.specs.Groups.{groups}
-use Rattle.seven_bit.specs.Placed.{number_at_of}
 use Rattle.saved_form.specs.Fields.{newest}
 use Rattle.saved_form.specs.Values.{scalars_of, head_values, account_of}
 use Rattle.saved_form.specs.Writing.{file_of}
-use Rattle.loading.specs.declared.head.Head.{Head}
-use Rattle.loading.specs.declared.positions.Positions.{Positions}
-use Rattle.loading.specs.Reading.{head_in_of, positions_in}
+use Rattle.loading.specs.Reading.{ToldHead, ToldPositions, head_in_of, positions_in}
 use Rattle.loading.specs.Loading.{file_account, load_answer, loaded}
 use Rattle.zero_laws.specs.Zeros.{plain_account}
 use Rattle.saved_laws.proofs.Places.{after, was}
@@ -32,7 +29,7 @@ use Rattle.saved_laws.proofs.Files.{head_file, held_file, head_to, form_in, head
 use Rattle.saved_laws.proofs.PlacesTold.{taken_ends}
 
 -- ---- the answer by the parts of a file
-abbrev pub judgement : Number → Head → Positions → ℕ → Account → Answer
+abbrev pub judgement : ToldNumber → ToldHead → ToldPositions → ℕ → Account → Answer
 judgement n h p end a =
     or_later n.answer
     (unless (eqb n.value newest) Unsound
@@ -45,7 +42,7 @@ pub by_parts : (l : List ℕ) → load_answer l ≡ judgement (number_at_of l 0)
 unfolding load_answer
 by_parts l = refl
 
-all_done : (next : ℕ) (h : Head) (p : Positions) (end : ℕ) (a : Account) → h.answer ≡ Done → p.answer ≡ Done → p.next ≡ end → sound_account a ≡ true → judgement (was newest next) h p end a ≡ Done
+all_done : (next : ℕ) (h : ToldHead) (p : ToldPositions) (end : ℕ) (a : Account) → h.answer ≡ Done → p.answer ≡ Done → p.next ≡ end → sound_account a ≡ true → judgement (was newest next) h p end a ≡ Done
 all_done next h p end a d e n s = simp (d, e, eq-eqb p.next end n, s)
 
 -- the account that is loaded where the answer is Done
@@ -61,7 +58,7 @@ module _ (a : Account) (e : sound_account a ≡ true) (k : KeptAccount a) where
   abbrev after_head : ℕ
   after_head = after_form + length (head_file a)
 
-  abbrev positions_to : Positions
+  abbrev positions_to : ToldPositions
   positions_to = record { answer = Done; next = after_head + length (held_file a); table = a.positions }
 
   -- ---- the whole file
@@ -81,20 +78,20 @@ module _ (a : Account) (e : sound_account a ≡ true) (k : KeptAccount a) where
     account-read : file_account l ≡ plain_account a
     unfolding file_account
     account-read =
-        ap (λ (h : Head). account_of h.values (positions_in l).table) head_read
-        ∙ ap (λ (p : Positions). account_of (head_values (scalars_of a)) p.table) positions_read_lem
+        ap (λ (h : ToldHead). account_of h.values (positions_in l).table) head_read
+        ∙ ap (λ (p : ToldPositions). account_of (head_values (scalars_of a)) p.table) positions_read_lem
         ∙ head_back a k
 
     ends_there : (positions_in l).next ≡ length l
     ends_there =
-        ap (λ (p : Positions). p.next) positions_read_lem
+        ap (λ (p : ToldPositions). p.next) positions_read_lem
         ∙ omega (arith, ap length q, length-append (groups newest) (head_file a ++ held_file a), length-append (head_file a) (held_file a))
 
     answer-done : load_answer l ≡ Done
     answer-done =
         by_parts l
-        ∙ ap (λ (n : Number). judgement n (head_in_of l) (positions_in l) (length l) (file_account l)) form-read
-        ∙ all_done after_form (head_in_of l) (positions_in l) (length l) (file_account l) (ap (λ (h : Head). h.answer) head_read) (ap (λ (p : Positions). p.answer) positions_read_lem)
+        ∙ ap (λ (n : ToldNumber). judgement n (head_in_of l) (positions_in l) (length l) (file_account l)) form-read
+        ∙ all_done after_form (head_in_of l) (positions_in l) (length l) (file_account l) (ap (λ (h : ToldHead). h.answer) head_read) (ap (λ (p : ToldPositions). p.answer) positions_read_lem)
         ends_there (ap sound_account account-read ∙ plain-sound a ∙ e)
 
   pub file_account_lem : file_account (file_of a) ≡ plain_account a

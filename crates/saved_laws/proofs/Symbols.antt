@@ -14,9 +14,8 @@ use Rattle.answer.proofs.Choice.{both_true}
 use Rattle.answer.proofs.Answers.{done_is}
 use Rattle.answer.specs.declared.Answer.TheVariants.{Done, Unsound, EndsEarly}
 use Rattle.position.specs.Symbols.{good_symbol}
-use Rattle.seven_bit.specs.declared.Number.{Number}
+use Rattle.seven_bit.specs.Placed.{ToldNumber, number_at_of}
 use Rattle.seven_bit.specs.Groups.{groups}
-use Rattle.seven_bit.specs.Placed.{number_at_of}
 use Rattle.seven_bit.proofs.Groups.{Octets}
 use Rattle.saved_form.specs.Texts.{text_of, symbol_file, good_length_of, spelt}
 use Rattle.loading.specs.Reading.{no_number_of, then_number, text_read, symbol_read}
@@ -32,7 +31,7 @@ text_back l rest t n at e s d =
     simp (le-leb (at + n) (length l) h, b)
 
 -- ---- a symbol
-abbrev text_after : List ℕ → ℕ → Number → Number
+abbrev text_after : List ℕ → ℕ → ToldNumber → ToldNumber
 text_after l at n = pick (good_length_of n.value) (text_read l n.value n.next) (no_number_of Unsound at)
 
 good_length : (n : ℕ) → 1 ≤ n → n ≤ 8 → good_length_of n ≡ true
@@ -46,10 +45,10 @@ symbol_back l rest s at t d =
     let n = number_back l (text_of s ++ rest) at (length (text_of s)) (omega (arith, t.short)) e in
     let b = text_back l rest (text_of s) (length (text_of s)) (at + length x) refl t.some (after l x (text_of s ++ rest) at e) in
     let k : at + length x + length (text_of s) ≡ at + length (x ++ text_of s) = omega (arith, length-append x (text_of s)) in
-    ap (λ (n : Number). then_number n (text_after l at)) n ∙ simp (good_length (length (text_of s)) t.some t.short, b, t.spells, k)
+    ap (λ (n : ToldNumber). then_number n (text_after l at)) n ∙ simp (good_length (length (text_of s)) t.some t.short, b, t.spells, k)
 
 -- ---- what is read is what would be written
-pub record Spelt (l : List ℕ) (at : ℕ) (n : Number) : Type 0 where
+pub record Spelt (l : List ℕ) (at : ℕ) (n : ToldNumber) : Type 0 where
   pub small : n.value < 2 ^ 64
   pub same : drop at l ≡ symbol_file n.value ++ drop n.next l
 
@@ -69,7 +68,7 @@ module _ (l : List ℕ) (at : ℕ) (o : Octets l) where
       }
   text_one n from a b s false e d g = apart (EndsEarly (length l)) Done d (λ z. omega arith)
 
-  length-one : (n : Number) → n.answer ≡ Done → Shortest l at n → (t : Bool) → good_length_of n.value ≡ t
+  length-one : (n : ToldNumber) → n.answer ≡ Done → Shortest l at n → (t : Bool) → good_length_of n.value ≡ t
       → (pick t (text_read l n.value n.next) (no_number_of Unsound at)).answer ≡ Done
       → good_symbol (pick t (text_read l n.value n.next) (no_number_of Unsound at)).value ≡ true
       → Spelt l at (pick t (text_read l n.value n.next) (no_number_of Unsound at))
@@ -79,7 +78,7 @@ module _ (l : List ℕ) (at : ℕ) (o : Octets l) where
       text_one n.value n.next (leb-true 1 n.value b.0) (leb-true n.value 8 b.1) s.same (leb (n.next + n.value) (length l)) refl d g
   length-one n e s false q d g = apart Unsound Done d (λ z. omega arith)
 
-  symbol-one_by : (n : Number) → (n.answer ≡ Done → Shortest l at n) → (t : Bool) → is_done n.answer ≡ t → (pick t (text_after l at n) n).answer ≡ Done → good_symbol (pick t (text_after l at n) n).value ≡ true → Spelt l at (pick t (text_after l at n) n)
+  symbol-one_by : (n : ToldNumber) → (n.answer ≡ Done → Shortest l at n) → (t : Bool) → is_done n.answer ≡ t → (pick t (text_after l at n) n).answer ≡ Done → good_symbol (pick t (text_after l at n) n).value ≡ true → Spelt l at (pick t (text_after l at n) n)
   symbol-one_by n s true e d g = length-one n (done_is n.answer e) (s (done_is n.answer e)) (good_length_of n.value) refl d g
   symbol-one_by n s false e d g = clash (is_done n.answer) (ap is_done d) e
 

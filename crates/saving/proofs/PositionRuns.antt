@@ -7,7 +7,8 @@ use lib.ListN.{length, get_or, drop, length-append, drop_of_length-le}
 use lib.Seq.{drop-cons}
 use Rattle.position.specs.declared.position.Position.{Position}
 use Rattle.position.specs.Rows.{fresh, key_of, numbers_of}
-use Rattle.table.specs.Rows.{Cols, rows, Full}
+use Rattle.table.specs.Rows.{rows, Full}
+use Rattle.table.specs.declared.table.Columns.{Columns}
 use Rattle.table.specs.Inner.Rows.{held_at}
 use Rattle.table.specs.declared.found.Found.TheVariants.{At}
 use Rattle.account.proofs.Columns.{held-row, rows-length, row_of}
@@ -45,15 +46,15 @@ unfolding positions_file
 positions_none ps i h = ap positions_file (drop_of_length-le ps h)
 
 -- ---- writing: each took 58 bytes at most
-pub record Writing (l : List ℕ) (place n : ℕ) (c : Cols) (now : List ℕ) (at i : ℕ) : Type 0 where
+pub record Writing (l : List ℕ) (place n : ℕ) (c : Columns) (now : List ℕ) (at i : ℕ) : Type 0 where
   pub within : i ≤ n
   pub few : at ≤ place + 58 * i
   pub left : Left l place (positions_file (rows n c)) now at (positions_file (drop i (rows n c)))
 
-pub write-from : (l : List ℕ) (place n : ℕ) (c : Cols) → Writing l place n c l place 0
+pub write-from : (l : List ℕ) (place n : ℕ) (c : Columns) → Writing l place n c l place 0
 write-from l place n c = record { within = omega arith; few = omega arith; left = left-all l place (positions_file (rows n c)) }
 
-module _ {l : List ℕ} {place n : ℕ} {c : Cols} {now : List ℕ} {at i : ℕ} (h : Writing l place n c now at i) (full : Full c) (small : n ≤ 64) where
+module _ {l : List ℕ} {place n : ℕ} {c : Columns} {now : List ℕ} {at i : ℕ} (h : Writing l place n c now at i) (full : Full c) (small : n ≤ 64) where
   pub write-next : {now' : List ℕ} {at' : ℕ} (p : Position) → i < n → p ≡ held_at (At i) 0 c → Put now at (position_file p) now' at' → Writing l place n c now' at' (i + 1)
   write-next p k e w =
       let k' : i < length (rows n c) = omega (arith, rows-length c full n small) in

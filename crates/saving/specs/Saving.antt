@@ -1,5 +1,5 @@
 -- Document 02, 5: what saving answers, and what it leaves in the lent bytes.
-use Rattle.std.specs.Prelude.{ℕ, List, leb, length}
+use Rattle.std.specs.Prelude.{ℕ, List, leb, length, Result, Ok, Err}
 use Rattle.std.proofs.lemmas.List.Edits.{sets}
 use Rattle.answer.specs.Choice.{pick}
 use Rattle.answer.specs.Numbers.{is_done, unless}
@@ -13,6 +13,10 @@ use Rattle.saving.specs.declared.file.Saved.{Saved}
 -- "Writing: 11, then 19 output room short."
 unfoldable pub save_answer : Account → ℕ → Answer
 save_answer a room = unless (sound_account a) Unsound (unless (leb (length (file_of a)) room) NoFileRoom Done)
+
+-- how long the file is, or why it is refused
+abbrev pub length_saved : Account → ℕ → Result ℕ Answer
+length_saved a room = pick (is_done (save_answer a room)) (Ok (length (file_of a))) (Err (save_answer a room))
 
 abbrev pub refused : Answer → Saved
 refused w = record { answer = w; length = 0 }

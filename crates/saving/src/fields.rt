@@ -26,13 +26,10 @@ pub(crate) fn put_fields(bytes: &mut [u8], place: usize, first: usize, values: &
         Put bytes.old place (fields_file newest (fields_from first (length vs)) 0 vs) bytes.new result }
 {
     let mut at = place;
-    let mut before: u64 = 0;
-    let mut i: usize = 0;
-    while i < values.len() {
-        let v = values[i];
-        at = put_field(bytes, at, first + i, before, v);
-        before = v;
-        i += 1;
+    let mut before = 0;
+    for (i, value) in values.iter().enumerate() {
+        at = put_field(bytes, at, first + i, before, *value);
+        before = *value;
     }
     at
 }

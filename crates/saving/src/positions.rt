@@ -9,7 +9,7 @@ use crate::text::put_symbol;
 use position::Position;
 use saved_form::HEAD_FIELDS;
 use seven_bit::folded;
-use table::{Found, held};
+use table::{Columns, Found};
 
 // "each in `Position`'s field order"
 fn put_position(bytes: &mut [u8], place: usize, p: Position) -> usize
@@ -30,23 +30,16 @@ fn put_position(bytes: &mut [u8], place: usize, p: Position) -> usize
 pub(crate) fn put_positions<'a>(
     bytes: &mut [u8],
     place: usize,
-    symbol: &'a [u64; 64],
-    quantity: &'a [i64; 64],
-    average: &'a [i64; 64],
-    realized: &'a [i64; 64],
-    total: &'a [i64; 64],
+    columns: &'a Columns,
     n: usize,
 ) -> usize
-    requires { (n ≤ 64) × (place + 58 * n ≤ length bytes.old) × (Full (cols symbol.now quantity.now average.now realized.now total.now)) }
-    ensures { let c = cols symbol.now quantity.now average.now realized.now total.now in
-        Put bytes.old place (positions_file (rows n c)) bytes.new result }
+    requires { (n ≤ 64) × (place + 58 * n ≤ length bytes.old) × (Full columns.now) }
+    ensures { Put bytes.old place (positions_file (rows n columns.now)) bytes.new result }
 {
     let mut at = place;
-    let mut i: usize = 0;
-    while i < n {
-        let p = held(symbol, quantity, average, realized, total, Found::At(i), 0);
-        at = put_position(bytes, at, p);
-        i += 1;
+    for i in 0..n {
+        let position = columns.held(Found::At(i), 0);
+        at = put_position(bytes, at, position);
     }
     at
 }

@@ -17,15 +17,13 @@ fn text_length(s: u64) -> usize
     ensures { result ≡ length (text_of s) }
 {
     let mut rest = s;
-    let mut n: usize = 0;
-    while n < 8 {
+    for n in 0..8 {
         if top_byte(rest) == 0 {
             return n;
         }
         rest = rest % 0x0100_0000_0000_0000 * 256;
-        n += 1;
     }
-    n
+    8
 }
 
 // Those bytes, from a place on.
@@ -34,17 +32,15 @@ fn put_text(bytes: &mut [u8], place: usize, s: u64) -> usize
     ensures { Put bytes.old place (text_of s) bytes.new result }
 {
     let mut rest = s;
-    let mut at = place;
-    while at < place + 8 {
-        let b = top_byte(rest);
-        if b == 0 {
+    for at in place..place + 8 {
+        let byte = top_byte(rest);
+        if byte == 0 {
             return at;
         }
-        bytes[at] = b;
+        bytes[at] = byte;
         rest = rest % 0x0100_0000_0000_0000 * 256;
-        at += 1;
     }
-    at
+    place + 8
 }
 
 pub(crate) fn put_symbol(bytes: &mut [u8], place: usize, s: u64) -> usize

@@ -5,4 +5,5 @@ pub mod Signed
 pub mod Placed
 pub mod Cases
 pub mod Reading
+pub mod Faults
 pub mod Writing

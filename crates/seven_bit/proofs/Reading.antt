@@ -3,21 +3,14 @@ use mathlib.Core.Path.{◌≡◌, refl, sym, ◌∙◌, ap}
 use Prim.Native.Nat.{ℕ, zero, suc, ◌+◌, ◌-◌, ◌*◌, ◌<◌, ◌≤◌}
 use native.Mathlib.Omega.{arith}
 use native.Mathlib.Nat.{mul-le-mul_left, mul-le-mul_right}
-use mathlib.Core.List.{List, [], ◌∷◌}
-use lib.ListN.{length, get_or, drop}
+use mathlib.Core.List.{List, ◌∷◌}
+use lib.ListN.{length, get_or, drop, drop_of_length-le}
 use lib.Seq.{drop-cons}
 use borrow.Author.Tests.{lt-ltb, le-ltb}
 use Rattle.answer.specs.declared.Answer.TheVariants.{Done, EndsEarly, BadNumber}
 use Rattle.seven_bit.specs.Groups.{Out, ends, bad, got, onto, read, number}
-use Rattle.seven_bit.specs.Placed.{told, number_at_of}
+use Rattle.seven_bit.specs.Placed.{ToldNumber, told, number_at_of}
 use Rattle.seven_bit.specs.Inner.Reading.{raised}
-use Rattle.seven_bit.specs.declared.Number.{Number}
-
-drop-none : (l : List ℕ) (n : ℕ) → length l ≤ n → drop n l ≡ []
-drop-none [] zero h = refl
-drop-none [] (suc n) h = refl
-drop-none (b ∷ l) zero h = absurd (omega arith)
-drop-none (b ∷ l) (suc n) h = drop-none l n (omega arith)
 
 front : (l : List ℕ) (at b : ℕ) → b ≡ get_or l at 0 → at < length l → drop at l ≡ b ∷ drop (suc at) l
 front l at b e f = drop-cons l at 0 f ∙ ap (λ (x : ℕ). x ∷ drop (suc at) l) (sym e)
@@ -68,7 +61,7 @@ onto-raised b (got v n) = let e : 1 + n ≡ suc n = omega arith in simp e
 module _ (l : List ℕ) (place : ℕ) where
   pub none_left : length l ≤ place → record { answer = EndsEarly (length l); value = 0; next = length l } ≡ number_at_of l place
   unfolding told read
-  none_left f = sym (ap (λ (m : List ℕ). told place (length l) (number m)) (drop-none l place f))
+  none_left f = sym (ap (λ (m : List ℕ). told place (length l) (number m)) (drop_of_length-le l f))
 
   pub one_group : (b : ℕ) → b ≡ get_or l place 0 → place < length l → b < 128 → record { answer = Done; value = b; next = place + 1 } ≡ number_at_of l place
   unfolding told
@@ -76,12 +69,12 @@ module _ (l : List ℕ) (place : ℕ) where
 
 -- ---- the answer at a place
 module _ (l : List ℕ) (place at sum scale left : ℕ) where
-  abbrev pub left_told : Number
+  abbrev pub left_told : ToldNumber
   left_told = told place (length l) (raised sum scale (at - place) (read 1 left (drop at l)))
 
   pub ended : length l ≤ at → record { answer = EndsEarly (length l); value = 0; next = length l } ≡ left_told
   unfolding told raised read
-  ended f = sym (ap (λ (m : List ℕ). told place (length l) (raised sum scale (at - place) (read 1 left m))) (drop-none l at f))
+  ended f = sym (ap (λ (m : List ℕ). told place (length l) (raised sum scale (at - place) (read 1 left m))) (drop_of_length-le l f))
 
   module _ (b : ℕ) (e : b ≡ get_or l at 0) (f : at < length l) where
     from-read : (o : Out) → read 1 left (b ∷ drop (suc at) l) ≡ o → told place (length l) (raised sum scale (at - place) o) ≡ left_told
@@ -103,11 +96,7 @@ module _ (l : List ℕ) (place at sum scale left : ℕ) where
     pub last-read : place ≤ at → 0 < left → b < 128 → (b ≡ 0 → ⊥) → record { answer = Done; value = sum + b * scale; next = at + 1 } ≡ left_told
     last-read p q h z =
         let v : sum + b * scale ≡ sum + scale * b = omega arith in
-        simp v (ending p b (read-last 1 left b (drop (suc at) l) q h (some b z)))
-      where
-        some : (m : ℕ) → (m ≡ 0 → ⊥) → 1 ≤ m
-        some zero f = absurd (f refl)
-        some (suc m) f = omega arith
+        simp v (ending p b (read-last 1 left b (drop (suc at) l) q h (omega arith)))
 
 -- the tenth
 module _ (l : List ℕ) (place at sum : ℕ) (f : at < length l) where
@@ -163,8 +152,8 @@ module _ {l : List ℕ} {place at sum scale left : ℕ} (h : Reading l place at 
   ended-number f = ended l place at sum scale left f ∙ h.same
 
   -- what is left after nine groups is the tenth
-  pub nine_read : left ≡ 0 → left_told l place at sum 9223372036854775808 0 ≡ number_at_of l place
-  nine_read p = rw p at (rw (top_here p) at h.same)
+  pub nine_read : left ≡ 0 → (end : ℕ) → at ≡ end → left_told l place end sum 9223372036854775808 0 ≡ number_at_of l place
+  nine_read p end e = rw e at (rw p at (rw (top_here p) at h.same))
 
   module _ (b : ℕ) (e : b ≡ get_or l at 0) (f : at < length l) where
     pub nought_number : b ≡ 0 → record { answer = BadNumber place; value = 0; next = place } ≡ number_at_of l place
@@ -173,16 +162,16 @@ module _ {l : List ℕ} {place at sum scale left : ℕ} (h : Reading l place at 
     pub last-number : 0 < left → b < 128 → (b ≡ 0 → ⊥) → record { answer = Done; value = sum + b * scale; next = at + 1 } ≡ number_at_of l place
     last-number p q z = last-read l place at sum scale left b e f h.begun p q z ∙ h.same
 
-  pub more : (b : ℕ) → b ≡ get_or l at 0 → at < length l → 0 < left → 128 ≤ b → b < 256 → Reading l place (at + 1) (sum + (b - 128) * scale) (scale * 128) (left - 1)
-  more b e f p q r =
-      let m : left ≡ left - 1 + 1 = omega arith in
+  pub more : (rest b : ℕ) → left ≡ rest + 1 → b ≡ get_or l at 0 → at < length l → 128 ≤ b → b < 256 → Reading l place (at + 1) (sum + (b - 128) * scale) (scale * 128) rest
+  more rest b m e f q r =
+      let p : 0 < left = omega arith in
       let a : at + 1 ≡ suc at = omega arith in
-      let o = read 1 (left - 1) (drop (suc at) l) in
+      let o = read 1 rest (drop (suc at) l) in
       record {
         begun = omega (arith, h.begun);
-        size = sized left (left - 1) m h.size;
+        size = sized left rest m h.size;
         small = omega (arith, h.small, group_fits (b - 128) 127 (omega arith));
-        same = rw a (sym (ap (told place (length l)) (raised-onto sum scale (at - place) (suc at - place) b o (omega (arith, h.begun)))) ∙ from-read l place at sum scale left b e f (onto b o) (read_more 1 left (left - 1) b (drop (suc at) l) m q) ∙ h.same);
+        same = rw a (sym (ap (told place (length l)) (raised-onto sum scale (at - place) (suc at - place) b o (omega (arith, h.begun)))) ∙ from-read l place at sum scale left b e f (onto b o) (read_more 1 left rest b (drop (suc at) l) m q) ∙ h.same);
       } where
         sized : (k j : ℕ) → k ≡ j + 1 → scale * pw k ≡ 9223372036854775808 → scale * 128 * pw j ≡ 9223372036854775808
         sized zero j p e = absurd (omega arith)

@@ -1,6 +1,6 @@
 -- A signed number and its word are each the other's inverse, and -2^63 to 2^63 - 1 are the words below 2^64.
 use mathlib.Core.Path.{◌≡◌, refl, sym, ◌∙◌, ap}
-use Prim.Native.Nat.{ℕ, zero, suc, ◌+◌, ◌-◌, ◌*◌, ◌/◌, ◌%◌, ◌<◌, ◌≤◌, ◌^◌}
+use Prim.Native.Nat.{ℕ, suc, ◌+◌, ◌-◌, ◌*◌, ◌/◌, ◌%◌, ◌<◌, ◌^◌}
 use native.Mathlib.Omega.{arith}
 use mathlib.Core.Bool.{Bool, true, false}
 use lib.Dec.{eqb}
@@ -25,10 +25,7 @@ unfolded-folded (negsuc k) =
 folded_by : (w : ℕ) (t : Bool) → eqb (w % 2) 0 ≡ t → folded (pick t (pos (w / 2)) (negsuc (w / 2))) ≡ w
 unfolding folded
 folded_by w true e = omega (arith, eqb-true (w % 2) 0 e)
-folded_by w false e = let h : 1 ≤ w % 2 = odd (w % 2) (eqb-false (w % 2) 0 e) in omega arith where
-  odd : (m : ℕ) → (m ≡ 0 → ⊥) → 1 ≤ m
-  odd zero f = absurd (f refl)
-  odd (suc m) f = omega arith
+folded_by w false e = omega (arith, eqb-false (w % 2) 0 e)
 
 pub folded-unfolded : (w : ℕ) → folded (unfolded w) ≡ w
 unfolding unfolded

@@ -7,11 +7,10 @@ pub fn folded(n: i64) -> u64
     ensures { result ≡ Signed.folded n }
 {
     if n < 0 {
-        let k = (!n) as u64;
-        return 2 * k + 1;
+        2 * (!n) as u64 + 1
+    } else {
+        2 * n as u64
     }
-    let k = n as u64;
-    2 * k
 }
 
 pub fn unfolded(w: u64) -> i64

@@ -5,15 +5,6 @@ mod folding;
 mod read;
 mod write;
 
-use answer::Answer;
 pub use folding::{folded, unfolded};
-pub use read::number_at;
+pub use read::{Fault, Number, number_at};
 pub use write::put_number;
-
-// A number read, and where the next one starts; or a refusal, and its place.
-#[derive(Clone, Copy)]
-pub struct Number {
-    pub answer: Answer,
-    pub value: u64,
-    pub next: usize,
-}

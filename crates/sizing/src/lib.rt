@@ -11,16 +11,14 @@ ghost use Rattle.sizing.specs.Sizing.{above, shares_for, sized, cut_to, drift};
 
 use cost_model::CostModel;
 use position::Shares;
-use sums::Wide;
-
-const SCALE: u64 = 1_000_000;
+use sums::{SCALE, Wide};
 
 // The part of x above zero: a price or a step of 0 or less divides nothing.
 #[tactic(auto, unfolding(crate::specs::Sizing::above))]
 fn above(x: i64) -> u64
     ensures { result ≡ above x }
 {
-    if 0 < x { x as u64 } else { 0 }
+    x.max(0) as u64
 }
 
 // The notional of a fill, from the exact magnitudes: that of the lowest number is not saturated first.
@@ -44,15 +42,11 @@ fn shares_for(value: u64, price: u64, step: u64) -> Wide
     ensures { result ≡ wide (shares_for value price step) }
 {
     let total = sums::mul_wide(value, SCALE);
-    if total.hi == 0 {
-        if price < 0x1_0000_0000 {
-            if step < 0x1_0000_0000 {
-                return Wide {
-                    hi: 0,
-                    lo: snapped_quotient(total.lo, price, step),
-                };
-            }
-        }
+    if total.hi == 0 && price < 0x1_0000_0000 && step < 0x1_0000_0000 {
+        return Wide {
+            hi: 0,
+            lo: snapped_quotient(total.lo, price, step),
+        };
     }
     sums::snap_wide(sums::div_wide(total, price), step)
 }
@@ -61,7 +55,7 @@ fn shares_for(value: u64, price: u64, step: u64) -> Wide
 pub fn size_qty(diff_value: i64, price: i64, step: i64) -> Shares
     ensures { result.0 ≡ sized diff_value price step }
 {
-    let snapped = shares_for(sums::unsigned_abs(diff_value), above(price), above(step));
+    let snapped = shares_for(diff_value.unsigned_abs(), above(price), above(step));
     Shares::from_raw(sums::clamped(diff_value < 0, snapped))
 }
 
@@ -69,10 +63,10 @@ pub fn size_qty(diff_value: i64, price: i64, step: i64) -> Shares
 pub fn truncate_qty_to_max_value(quantity: Shares, price: i64, step: i64, max_value: i64) -> Shares
     ensures { result.0 ≡ cut_to quantity.0 price step max_value }
 {
-    let snapped = shares_for(above(max_value), sums::unsigned_abs(price), above(step));
+    let snapped = shares_for(above(max_value), price.unsigned_abs(), above(step));
     let most = sums::clamped(false, snapped);
     if quantity.is_negative() {
-        return Shares::from_raw(0 - most);
+        return Shares::from_raw(-most);
     }
     Shares::from_raw(most)
 }
@@ -81,7 +75,7 @@ pub fn truncate_qty_to_max_value(quantity: Shares, price: i64, step: i64, max_va
 pub fn drift_bps_of(value: i64, equity: i64) -> f64
     ensures { result ≡ drift value equity }
 {
-    doubles::u64_to_f64(sums::unsigned_abs(value)) / doubles::i64_to_f64(equity) * 10_000.0
+    doubles::u64_to_f64(value.unsigned_abs()) / doubles::i64_to_f64(equity) * 10_000.0
 }
 
 // "A buy's need is notional plus commission, saturating."
@@ -89,10 +83,7 @@ pub fn drift_bps_of(value: i64, equity: i64) -> f64
 pub fn buy_cash_required(quantity: Shares, price: i64, costs: CostModel) -> i64
     ensures { result ≡ need costs quantity.0 price }
 {
-    if quantity.raw() <= 0 {
-        return 0;
-    }
-    if price <= 0 {
+    if quantity.raw() <= 0 || price <= 0 {
         return 0;
     }
     let notional = notional_of(quantity, price);
@@ -119,29 +110,28 @@ pub fn lowers_cash(quantity: Shares, price: i64, costs: CostModel) -> bool
 // What is left of cash after the ceiling, if there is one, where that is more than n.
 fn past_ceiling(n: i64, cash: i64, ceiling: i64) -> i64 {
     if ceiling == 0 {
-        return n;
+        n
+    } else {
+        n.max(cash.saturating_sub(ceiling))
     }
-    let capped = sums::saturating_sub(cash, ceiling);
-    if n < capped { capped } else { n }
 }
 
 // A guess at the largest notional that cash pays for with its commission: by the rate or by the floor, whichever leaves less, unless
 // the ceiling leaves more, and one more or less where the rounding was against it.
 fn guessed_notional(cash: i64, costs: CostModel) -> i64 {
-    let flat = sums::saturating_sub(cash, costs.min_commission);
+    let flat = cash.saturating_sub(costs.min_commission);
     let rated = doubles::to_i64(
         doubles::i64_to_f64(cash) / (1.0 + costs.commission_bps / 10_000.0),
     );
-    let least = if flat < rated { flat } else { rated };
-    let n = past_ceiling(least, cash, costs.max_commission);
-    let more = sums::saturating_add(n, 1);
-    if sums::saturating_add(more, costs.compute_cost(more)) <= cash {
-        return more;
+    let n = past_ceiling(flat.min(rated), cash, costs.max_commission);
+    let more = n.saturating_add(1);
+    if more.saturating_add(costs.compute_cost(more)) <= cash {
+        more
+    } else if cash < n.saturating_add(costs.compute_cost(n)) {
+        n.saturating_sub(1)
+    } else {
+        n
     }
-    if cash < sums::saturating_add(n, costs.compute_cost(n)) {
-        return sums::saturating_sub(n, 1);
-    }
-    n
 }
 
 // One more than a guess at the largest count of steps that fits. Values are truncated, so what is worth a unit less than the next
@@ -161,39 +151,38 @@ fn guessed_over(cash: i64, price: i64, step: u64, costs: CostModel) -> u64
     } else {
         sums::div_wide(sums::mul_wide(n, SCALE), above(price))
     };
-    std::num::wrapping_add_u64(shares.lo / step, 1)
+    (shares.lo / step).wrapping_add(1)
 }
 
 // The next count to test, above lo and at most hi: the hint if it lies there, else the middle.
-fn probe(lo: u64, hi: u64, hint: u64) -> u64
+fn probe(lo: u64, hi: u64, hint: Option<u64>) -> u64
     requires { (lo < hi) × (hi < 2 ^ 63) }
     ensures { (lo < result) × (result ≤ hi) }
 {
-    if lo < hint {
-        if hint <= hi {
-            return hint;
-        }
+    match hint {
+        Some(count) if lo < count && count <= hi => count,
+        _ => lo + (hi - lo + 1) / 2,
     }
-    lo + (hi - lo + 1) / 2
 }
 
 // The hint after mid was tested: after the first guess the count below it; after any other none, and the interval is halved.
-fn after(mid: u64, over: u64) -> u64 {
+fn after(mid: u64, over: u64) -> Option<u64> {
     if mid == over {
-        std::num::wrapping_sub_u64(mid, 1)
+        Some(mid.wrapping_sub(1))
     } else {
-        0
+        None
     }
 }
 
 // The largest count of steps up to most whose need fits cash. `min_commission` makes a naive cash / price overshoot, so it is
 // searched for. Any guess is sound: a tested count lies between the ends, and one of them moves each turn.
+// Kept: a `while`, as it halves an interval and counts no index.
 fn affordable_steps(most: u64, cash: i64, step: u64, price: i64, costs: CostModel) -> u64
     requires { (0 < step) × (most * step < 2 ^ 63) × (good_costs costs ≡ true) }
     ensures { result ≡ largest (fits costs step cash price) most }
 {
     let over = guessed_over(cash, price, step, costs);
-    let mut hint = over;
+    let mut hint = Some(over);
     let mut lo = 0u64;
     let mut hi = most;
     while lo < hi {
@@ -221,14 +210,8 @@ pub fn largest_affordable_buy_qty(
 ) -> Shares
     ensures { result.0 ≡ affordable costs step cash requested.0 price }
 {
-    if cash <= 0 || price <= 0 {
-        return Shares::ZERO;
-    }
-    if !costs.is_good() {
-        return Shares::ZERO;
-    }
     let unit = above(step);
-    if unit == 0 {
+    if cash <= 0 || price <= 0 || unit == 0 || !costs.is_good() {
         return Shares::ZERO;
     }
     let count = affordable_steps(above(requested.raw()) / unit, cash, unit, price, costs);

@@ -1,6 +1,5 @@
 -- Laws of the sums on words.
 pub mod Ints
-pub mod Room
 pub mod TwoWords
 pub mod Division
 pub mod Signs

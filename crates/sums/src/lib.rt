@@ -7,14 +7,15 @@ ghost use Rattle.std.specs.Bool.{xor};
 ghost use Rattle.sums.specs.Sums.{clamp64, sat_add, sat_sub, sat_neg, sat_abs, value, notional, price_at, signed, snap, SCALE};
 ghost use Rattle.sums.specs.Wide.{value_of, wide};
 
-pub const MAX: i64 = 9223372036854775807;
+pub const MAX: i64 = i64::MAX;
 
-pub const MIN: i64 = -9223372036854775808;
+pub const MIN: i64 = i64::MIN;
 
 // "SCALE is 1,000,000."
 pub const SCALE: u64 = 1000000;
 
 // Two 64-bit words, the upper one first.
+// Kept: no u128, as document 01 says "Products and quotients take two 64-bit words".
 #[derive(Clone, Copy)]
 pub struct Wide {
     pub hi: u64,
@@ -25,42 +26,30 @@ pub struct Wide {
 pub fn unsigned_abs(x: i64) -> u64
     ensures { result ≡ unsigned_abs x }
 {
-    if x < 0 { ((!x) as u64) + 1 } else { x as u64 }
+    x.unsigned_abs()
 }
 
-// "Share sums, negation and absolute value saturate": here and in the three after it. The room is measured first, so that
-// no sum wraps.
+// "Share sums, negation and absolute value saturate": here and in the three after it.
 pub fn saturating_add(a: i64, b: i64) -> i64
     ensures { result ≡ sat_add a b }
 {
-    if 0 <= b {
-        let top = MAX - b;
-        if top < a { MAX } else { a + b }
-    } else {
-        let low = MIN - b;
-        if a < low { MIN } else { a + b }
-    }
+    a.saturating_add(b)
 }
 
 pub fn saturating_sub(a: i64, b: i64) -> i64
     ensures { result ≡ sat_sub a b }
 {
-    if 0 <= b {
-        let low = MIN + b;
-        if a < low { MIN } else { a - b }
-    } else {
-        let top = MAX + b;
-        if top < a { MAX } else { a - b }
-    }
+    a.saturating_sub(b)
 }
 
 // The lowest number has no negative among the i64.
 pub fn saturating_neg(a: i64) -> i64
     ensures { result ≡ sat_neg a }
 {
-    if a == MIN { MAX } else { 0 - a }
+    0i64.saturating_sub(a)
 }
 
+// Kept: the library saturates no absolute value of an i64.
 pub fn saturating_abs(a: i64) -> i64
     ensures { result ≡ sat_abs a }
 {
@@ -69,13 +58,14 @@ pub fn saturating_abs(a: i64) -> i64
 
 // w and a middle product, which stands half a word higher. "The low words are added modulo 2^64 and the carry kept": their sum
 // passed the top exactly where it is below either of them.
+// Kept: no `overflowing_add`, as document 01 wants "Wrapping add on low words of partial products; carry found by comparison."
 fn plus_middle(w: Wide, middle: u64) -> Wide
     requires { w.hi + middle / 2 ^ 32 + 1 < 2 ^ 64 }
     ensures { (result ≡ wide (value_of w + middle * 2 ^ 32)) × (result.hi ≤ w.hi + middle / 2 ^ 32 + 1) }
 {
     let low = (middle % 0x1_0000_0000) * 0x1_0000_0000;
     let hi = w.hi + middle / 0x1_0000_0000;
-    let lo = std::num::wrapping_add_u64(w.lo, low);
+    let lo = w.lo.wrapping_add(low);
     if lo < low {
         Wide { hi: hi + 1, lo }
     } else {
@@ -88,10 +78,8 @@ fn plus_middle(w: Wide, middle: u64) -> Wide
 pub fn mul_wide(a: u64, b: u64) -> Wide
     ensures { result ≡ wide (a * b) }
 {
-    if b < 0x8000_0000 {
-        if (a / 0x1_0000_0000) * b < 0x8000_0000 {
-            return Wide { hi: 0, lo: a * b };
-        }
+    if b < 0x8000_0000 && (a / 0x1_0000_0000) * b < 0x8000_0000 {
+        return Wide { hi: 0, lo: a * b };
     }
     let a0 = a % 0x1_0000_0000;
     let a1 = a / 0x1_0000_0000;
@@ -118,8 +106,7 @@ fn div_word(r: u64, n: u64, d: u64) -> Quotient
 {
     let mut quotient = 0u64;
     let mut rest = r;
-    let mut k = 0u64;
-    while k < 64 {
+    for k in 0..64u64 {
         let next = rest + (n >> (63 - k)) % 2;
         let room = d - rest;
         if next >= room {
@@ -129,7 +116,6 @@ fn div_word(r: u64, n: u64, d: u64) -> Quotient
             rest = next + rest;
             quotient = quotient + quotient;
         }
-        k += 1;
     }
     Quotient { quotient, rest }
 }
@@ -196,11 +182,7 @@ pub fn snap_wide(n: Wide, step: u64) -> Wide
 fn low_or_top(n: Wide) -> u64
     ensures { result ≡ min (value_of n) 18446744073709551615 }
 {
-    if n.hi == 0 {
-        n.lo
-    } else {
-        0xffff_ffff_ffff_ffff
-    }
+    if n.hi == 0 { n.lo } else { u64::MAX }
 }
 
 // A magnitude with a sign, "clamped to i64".
@@ -210,9 +192,11 @@ pub fn clamped(negative: bool, n: Wide) -> i64
     let low = low_or_top(n);
     if low < 0x8000_0000_0000_0000 {
         let x = low as i64;
-        if negative { 0 - x } else { x }
+        if negative { -x } else { x }
+    } else if negative {
+        MIN
     } else {
-        if negative { MIN } else { MAX }
+        MAX
     }
 }
 
@@ -223,8 +207,8 @@ fn opposite(a: i64, b: i64) -> bool
     (a < 0) != (b < 0)
 }
 
-// A step of the quotient by SCALE, by 32-bit digits: what is carried from the digits above, and the digit below it. SCALE is a number here
-// and not an argument, so that a 64-bit processor is given a product and shifts.
+// A step of the quotient by SCALE, by 32-bit digits: what is carried from the digits above, and the digit below it. Kept: SCALE is a number
+// here and not an argument, so that a 64-bit processor is given a product and shifts.
 fn scale_digit(carried: u64, digit: u64) -> Quotient
     requires { (carried < 2 ^ 32) × (digit < 2 ^ 32) }
     ensures { (result.quotient ≡ (carried * 2 ^ 32 + digit) / SCALE) × (result.rest ≡ (carried * 2 ^ 32 + digit) % SCALE) }
@@ -262,10 +246,9 @@ fn scaled(q: u64, p: u64) -> Wide
 {
     let product = mul_wide(q, p);
     if product.hi == 0 {
-        let word = scale_word(product.lo);
         return Wide {
             hi: 0,
-            lo: word.quotient,
+            lo: scale_word(product.lo).quotient,
         };
     }
     scale_wide(product)
@@ -290,12 +273,11 @@ pub fn magnitude(quantity: i64, price: i64) -> i64
 pub fn whole(n: i64) -> i64
     ensures { result ≡ int_div n (pos SCALE) }
 {
-    let units = scale_word(unsigned_abs(n));
     clamped(
         n < 0,
         Wide {
             hi: 0,
-            lo: units.quotient,
+            lo: scale_word(unsigned_abs(n)).quotient,
         },
     )
 }

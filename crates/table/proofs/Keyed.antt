@@ -6,9 +6,10 @@ use mathlib.Core.Option.{Option, none, some}
 use mathlib.Core.Path.{◌≡◌, refl, sym, ap, ◌∙◌}
 use native.Mathlib.Omega.{arith}
 use lib.Dec.{eqb, leb, ltb}
-use lib.ListN.{length, get_or, drop}
-use lib.Seq.{drop-cons}
-use borrow.Author.Tests.{ltb-true, ltb-false, eqb-true, eqb-false, leb-true, leb-false, le-leb, lt-leb, lt-ltb, le-ltb, eq-eqb, ne_eqb}
+use lib.ListN.{length, get_or}
+use native.Mathlib.Numerals.{add-one}
+use Rattle.std.specs.List.{IsAllAdjacentAnswer}
+use borrow.Author.Tests.{ltb-true, ltb-false, eqb-true, eqb-false, leb-true, leb-false, le-leb, lt-leb, lt-ltb, eq-eqb, ne_eqb}
 pub use Rattle.answer.proofs.Choice.{by_test, both_false, both_true}
 use Rattle.table.specs.Keyed.{pick, all, there, new, seek, put, put64, over, ascending}
 use Rattle.table.specs.Inner.Keyed.{Over, Rising}
@@ -58,25 +59,31 @@ pub rising_ascends : (l : List ℕ) → Rising l → ascending l ≡ true
 rising_ascends [] r = refl
 rising_ascends (x ∷ l) r = simp (true_over x l r.0, rising_ascends l r.1)
 
--- a walk over neighbours
-module _ (l : List ℕ) (i : ℕ) where
-  two : i + 1 < length l → drop i l ≡ get_or l i 0 ∷ (get_or l (i + 1) 0 ∷ drop (suc (i + 1)) l)
-  two h =
-      let e : suc i ≡ i + 1 = omega arith in
-      drop-cons l i 0 (omega arith) ∙ ap (λ t. get_or l i 0 ∷ t) (ap (λ k. drop k l) e ∙ drop-cons l (i + 1) 0 h)
+-- a later key is no smaller
+pub rising_weak : (l : List ℕ) → Rising l → (i j : ℕ) → i ≤ j → j < length l → get_or l i 0 ≤ get_or l j 0
+rising_weak l r i j h g = go (ltb i j) refl
+  where
+    go : (b : Bool) → ltb i j ≡ b → get_or l i 0 ≤ get_or l j 0
+    go true e = omega (arith, rising_strict l i j r (ltb-true i j e) g)
+    go false e = let q : i ≡ j = omega (arith, ltb-false i j e) in rw q (omega arith)
 
-  pub ascending_on : i + 1 < length l → get_or l i 0 < get_or l (i + 1) 0 → ascending (drop i l) ≡ ascending (drop (i + 1) l)
-  ascending_on h g = ap ascending (two h) ∙ simp (lt-ltb _ _ g) (ap ascending (sym (drop-cons l (i + 1) 0 h)))
+-- keys rise where each is above the one before it
+rising_by_pairs : (l : List ℕ) → ((i : ℕ) → suc i < length l → get_or l i 0 < get_or l (suc i) 0) → Rising l
+rising_by_pairs [] h = omega arith
+rising_by_pairs (x ∷ []) h = (omega arith, omega arith)
+rising_by_pairs (x ∷ (y ∷ l)) h = (h 0 (omega arith), rising_by_pairs (y ∷ l) (λ i g. h (suc i) (omega arith)))
 
-  pub ascending_not : i + 1 < length l → get_or l (i + 1) 0 ≤ get_or l i 0 → ascending (drop i l) ≡ false
-  ascending_not h g = ap ascending (two h) ∙ simp (le-ltb _ _ g)
-
-pub ascending-end : (l : List ℕ) (i : ℕ) → length l ≤ i + 1 → ascending (drop i l) ≡ true
-ascending-end [] zero h = refl
-ascending-end [] (suc i) h = refl
-ascending-end (x ∷ []) zero h = refl
-ascending-end (x ∷ (y ∷ l)) zero h = absurd (omega arith)
-ascending-end (x ∷ l) (suc i) h = ascending-end l i (omega arith)
+-- what a test of every two neighbours tells
+pub ascending_told : (l : List ℕ) (r : Bool) → IsAllAdjacentAnswer (λ x y b. b ≡ ltb x y) l r → r ≡ ascending l
+ascending_told l true h = sym (rising_ascends l (rising_by_pairs l (λ i g. ltb-true _ _ (sym (rw add-one at (h i 0 (omega arith)))))))
+ascending_told l false h = go (ascending l) refl
+  where
+    go : (b : Bool) → ascending l ≡ b → false ≡ b
+    go true e =
+        let k = h.0 in
+        let t = rising_strict l k (k + 1) (ascending_rises l e) (omega arith) h.1 in
+        h.2 0 ∙ lt-ltb _ _ t
+    go false e = refl
 
 module _ {A : Type 0} (key : A → ℕ) where
   put_below : (p q : A) (qs : List A) → key p < key q → put key p (q ∷ qs) ≡ p ∷ (q ∷ qs)

@@ -1,20 +1,22 @@
 -- The test for ordered columns and the fact that it tells.
-use Prim.Native.Nat.{ℕ, zero, suc, ◌+◌, ◌-◌, ◌≤◌, ◌<◌}
+use Prim.Native.Nat.{ℕ, zero, suc, ◌+◌, ◌-◌, ◌<◌}
 use mathlib.Core.Path.{◌≡◌, refl, sym, ap, ◌∙◌}
 use mathlib.Core.List.{List, [], ◌∷◌}
-use mathlib.Core.Bool.{Bool, true, false, ◌&&◌}
+use mathlib.Core.Bool.{Bool, true}
 use native.Mathlib.Omega.{arith}
 use lib.Dec.{eqb, leb}
-use lib.IntN.{pos}
-use lib.ListN.{length, take, drop, get_or, replicate, length-drop, length-replicate, get_or-replicate, drop_of_length-le}
-use lib.Seq.{ext_get_or, get_or-drop, drop-cons}
-use native.Mathlib.Numerals.{add-one}
+use lib.IntN.{ℤ, pos, negsuc}
+use Rattle.std.specs.Ordering.{int_eq}
+use lib.ListN.{length, take, drop, get_or, replicate, length-drop, length-replicate, get_or-replicate}
+use lib.Seq.{ext_get_or, get_or-drop}
 use borrow.Author.Tests.{eqb-true, leb-true, le-leb}
+use Rattle.std.proofs.lemmas.Bool.Decides.{nat_tests}
 use Rattle.position.specs.Rows.{fresh, key_of}
 use Rattle.position.specs.declared.position.Position.{Position}
 use Rattle.position.proofs.Counts.{zero_is}
-use Rattle.table.specs.Keyed.{both, all}
-use Rattle.table.specs.Rows.{Cols, zipped, row_at, Full, is_zero, unused, ordered}
+use Rattle.table.specs.Keyed.{all}
+use Rattle.table.specs.Rows.{zipped, row_at, Full, is_zero, zeros_z, unused, ordered}
+use Rattle.table.specs.declared.table.Columns.{Columns}
 use Rattle.table.specs.Inner.Rows.{Ordered}
 use Rattle.table.proofs.Keyed.{both_true, ascending_rises, rising_ascends}
 use Rattle.table.proofs.Zipped.{zipped-length, zipped_at}
@@ -30,27 +32,29 @@ module _ {A : Type 0} (f : A → Bool) (z : A) where
   at_all [] e = refl
   at_all (x ∷ l) e = simp (e 0 (omega arith), at_all l (λ i h. e (suc i) (omega arith)))
 
--- one step of a walk that keeps the outcome so far
-pub all_on : {A : Type 0} (f : A → Bool) (z : A) (b : Bool) (l : List A) (i : ℕ) → i < length l → both (b && f (get_or l i z)) (all f (drop (i + 1) l)) ≡ both b (all f (drop i l))
-all_on f z b l i h = go b ∙ ap (λ t. both b (all f t)) (ap (λ k. get_or l i z ∷ drop k l) (add-one i) ∙ sym (drop-cons l i z h))
-  where
-    go : (b : Bool) → both (b && f (get_or l i z)) (all f (drop (i + 1) l)) ≡ both b (both (f (get_or l i z)) (all f (drop (i + 1) l)))
-    go true = refl
-    go false = refl
+-- tests that agree on every element
+all_same : {A : Type 0} (f g : A → Bool) → ((x : A) → f x ≡ g x) → (l : List A) → all f l ≡ all g l
+all_same f g e [] = refl
+all_same f g e (x ∷ l) = simp (e x, all_same f g e l)
 
-pub all_end : {A : Type 0} (f : A → Bool) (b : Bool) (l : List A) (i : ℕ) → length l ≤ i → b ≡ both b (all f (drop i l))
-all_end f b l i h = go b ∙ ap (λ t. both b (all f t)) (sym (drop_of_length-le l h))
-  where
-    go : (b : Bool) → b ≡ both b true
-    go true = refl
-    go false = refl
+-- the library's comparison with 0
+count_told : (n : ℕ) → int_eq (pos n) (pos 0) ≡ eqb n 0
+count_told n = grind (arith, nat_tests)
+
+is_zero_told : (x : ℤ) → int_eq x (pos 0) ≡ is_zero x
+unfolding is_zero
+is_zero_told (pos n) = count_told n
+is_zero_told (negsuc n) = refl
+
+pub zeros_told : {r : Bool} (l : List ℤ) → r ≡ all (λ x. int_eq x (pos 0)) l → r ≡ zeros_z l
+zeros_told l e = e ∙ all_same _ is_zero is_zero_told l
 
 -- ---- unused places
 module _ {A : Type 0} (t : A → Bool) (z : A) (n : ℕ) (l : List A) where
   zero-from : t z ≡ true → ((x : A) → t x ≡ true → x ≡ z) → all t (drop n l) ≡ true → (i : ℕ) → get_or l (n + i) z ≡ z
   zero-from h e a i = sym (get_or-drop n l i z) ∙ e _ (all_at t z h (drop n l) a i)
 
-module _ (n : ℕ) (c : Cols) (f : Full c) where
+module _ (n : ℕ) (c : Columns) (f : Full c) where
   pub unused-rest : unused n c ≡ true → drop n (zipped c) ≡ replicate (64 - n) (fresh 0)
   unfolding unused is_zero
   unused-rest e =
@@ -87,13 +91,13 @@ module _ (n : ℕ) (c : Cols) (f : Full c) where
     )
 
 -- ---- ordered columns
-pub test_orders : (n : ℕ) (c : Cols) → Full c → ordered n c ≡ true → Ordered n c
+pub test_orders : (n : ℕ) (c : Columns) → Full c → ordered n c ≡ true → Ordered n c
 unfolding ordered
 test_orders n c f e =
     let p1 = both_true (leb n 64) _ e in
     let p2 = both_true _ _ p1.1 in
     record { small = leb-true n 64 p1.0; full = f; rising = ascending_rises (take n c.symbol) p2.0; rest = unused-rest n c f p2.1 }
 
-pub ordered_tests : (n : ℕ) (c : Cols) → Ordered n c → ordered n c ≡ true
+pub ordered_tests : (n : ℕ) (c : Columns) → Ordered n c → ordered n c ≡ true
 unfolding ordered
 ordered_tests n c o = simp (le-leb _ _ o.small, rising_ascends (take n c.symbol) o.rising, rest-unused n c o.full o.rest)

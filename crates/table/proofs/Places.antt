@@ -15,7 +15,7 @@ use Rattle.table.specs.Inner.Keyed.{Rising}
 use Rattle.table.specs.Inner.Places.{shorter, found_from, found, Finds}
 use Rattle.table.specs.declared.found.Found.TheVariants.{At, Absent}
 use Rattle.table.proofs.Keyed.{rising_strict}
-use Rattle.table.proofs.Columns.{insert_at}
+use Rattle.table.proofs.Opening.{insert_at}
 
 -- ---- the count of places in use
 pub shorter-min : (n m : ℕ) → shorter n m ≡ min n m
@@ -52,6 +52,17 @@ module _ {r : ℕ} (n : ℕ) (l : List ℕ) (e : r ≡ shorter n (length l)) whe
   pub used_same : take r l ≡ take n l
   used_same = ap (λ k. take k l) e ∙ take-shorter n l
 
+-- and leaves nothing after it
+pub drop-shorter : {A : Type 0} (n : ℕ) (l : List A) → drop (shorter n (length l)) l ≡ drop n l
+drop-shorter n l = go (ltb n (length l)) refl
+  where
+    go : (b : Bool) → ltb n (length l) ≡ b → drop (pick b n (length l)) l ≡ drop n l
+    go true e = refl
+    go false e =
+        let h = ltb-false n (length l) e in
+        let s : length l ≤ length l = omega arith in
+        drop_of_length-le l s ∙ sym (drop_of_length-le l h)
+
 -- ---- what a search finds
 skips : (l : List ℕ) (k i s : ℕ) → ((j : ℕ) → j < i → get_or l j 0 < s) → i ≤ length l → found_from k s l ≡ found_from (k + i) s (drop i l)
 skips l k zero s b h = let q : k ≡ k + 0 = omega arith in ap (λ m. found_from m s l) q
@@ -82,40 +93,30 @@ module _ (l : List ℕ) (s i : ℕ) (b : (j : ℕ) → j < i → get_or l j 0 < 
       let e : length l ≤ i = omega arith in
       skips l 0 i s b (omega arith) ∙ ap (λ m. found_from m s (drop i l)) q ∙ rw drop_of_length-le
 
--- ---- the same of the first n of a column, in which the search reads
-module _ (keys : List ℕ) (n : ℕ) (room : n ≤ length keys) where
-  pub in_use : length (take n keys) ≡ n
-  in_use = length-take-le n keys room
+-- ---- what a search of keys may answer
+module _ (keys : List ℕ) (key i : ℕ) where
+  pub finds_at : i < length keys → (Rising keys → get_or keys i 0 ≡ key) → Finds key keys (At i)
+  finds_at h e = record {
+    within = h;
+    settled = λ r. sym (found_at keys key i (λ j g. omega (arith, rising_strict keys j i r g h, e r)) h (e r));
+  }
 
-  pub earlier_smaller : Rising (take n keys) → (i j : ℕ) → i < j → j < n → get_or keys i 0 < get_or keys j 0
-  earlier_smaller r i j h g =
-      let t = rising_strict (take n keys) i j r h (omega (arith, in_use)) in
-      let l : i < n = omega arith in
-      omega (arith, t, get_or-take n keys i 0 l, get_or-take n keys j 0 g)
+  between : i ≤ length keys → (b : (j : ℕ) → j < i → get_or keys j 0 < key) → ((j : ℕ) → i ≤ j → j < length keys → key < get_or keys j 0) → found key keys ≡ Absent i
+  between h b a = go (ltb i (length keys)) refl
+    where
+      go : (x : Bool) → ltb i (length keys) ≡ x → found key keys ≡ Absent i
+      go true e =
+          let l = ltb-true i (length keys) e in
+          let g = a i (omega arith) l in
+          found_not keys key i b l (omega arith) (λ q. omega arith)
+      go false e = found-end keys key i b (omega (arith, ltb-false i (length keys) e))
 
-  module _ (key i : ℕ) (b : Rising (take n keys) → (j : ℕ) → j < i → get_or keys j 0 < key) where
-    before : i ≤ n → Rising (take n keys) → (j : ℕ) → j < i → get_or (take n keys) j 0 < key
-    before h r j l = let g : j < n = omega arith in rw (get_or-take n keys j 0 g) (b r j l)
+  pub finds_between : i ≤ length keys → (Rising keys → ((j : ℕ) → j < i → get_or keys j 0 < key) × ((j : ℕ) → i ≤ j → j < length keys → key < get_or keys j 0)) → Finds key keys (Absent i)
+  finds_between h b = record { within = h; settled = λ r. let s = b r in sym (between h s.0 s.1) }
 
-    pub finds_at : i < n → get_or keys i 0 ≡ key → Finds key (take n keys) (At i)
-    finds_at h e =
-        let l : i < length (take n keys) = omega (arith, in_use) in
-        record { within = l; settled = λ r. sym (found_at (take n keys) key i (before (omega arith) r) l (get_or-take n keys i 0 h ∙ e)) }
-
-    pub finds_gap : i < n → (Rising (take n keys) → key ≤ get_or keys i 0) → (get_or keys i 0 ≡ key → ⊥) → Finds key (take n keys) (Absent i)
-    finds_gap h g q =
-        let l : i < length (take n keys) = omega (arith, in_use) in
-        let e = get_or-take n keys i 0 h in
-        record { within = omega arith; settled = λ r. sym (found_not (take n keys) key i (before (omega arith) r) l (rw e (g r)) (rw e q)) }
-
-    pub finds_end : i ≡ n → Finds key (take n keys) (Absent i)
-    finds_end h =
-        let l : i ≡ length (take n keys) = omega (arith, in_use) in
-        record { within = omega arith; settled = λ r. sym (found-end (take n keys) key i (before (omega arith) r) l) }
-
-  -- a key that rises stands at one place only
-  pub finds_there : (key i : ℕ) → i < n → get_or keys i 0 ≡ key → Finds key (take n keys) (At i)
-  finds_there key i h e = finds_at key i (λ r j g. omega (arith, earlier_smaller r j i g h, e)) h e
+-- a key that rises stands at one place only
+pub finds_there : (keys : List ℕ) (n : ℕ) → n ≤ length keys → (key i : ℕ) → i < n → get_or keys i 0 ≡ key → Finds key (take n keys) (At i)
+finds_there keys n room key i h e = finds_at (take n keys) key i (omega (arith, length-take-le n keys room)) (λ r. get_or-take n keys i 0 h ∙ e)
 
 -- ---- the place that is found is where an element is put: it stands there, or is missing there
 pub record Stands {A : Type 0} (d : A) (k i : ℕ) (p : A) (l out : List A) (o : Option A) : Type 0 where

@@ -15,31 +15,32 @@ use Rattle.position.specs.declared.position.Position.{Position}
 use Rattle.table.specs.Keyed.{pick, both, seek, put, put64}
 use Rattle.table.specs.Inner.Keyed.{Rising}
 use Rattle.table.specs.Inner.Places.{found}
-use Rattle.table.specs.Rows.{Cols, zipped, rows, Full, holding, row_at}
+use Rattle.table.specs.Rows.{zipped, rows, Full, holding, row_at}
+use Rattle.table.specs.declared.table.Columns.{Columns}
 use Rattle.table.specs.Inner.Rows.{Ordered, Puts, CountedCols, counted_cols, opened, set_all, open_all, held_at, posted}
 use Rattle.table.specs.declared.found.Found.{Found}
 use Rattle.table.specs.declared.found.Found.TheVariants.{At, Absent}
 use Rattle.table.proofs.Keyed.{put64_rises}
 use Rattle.table.proofs.Places.{Stands, Lacks, stands, lacks}
-use Rattle.table.proofs.Columns.{insert_at, length-opened, take-opened, drop-opened}
+use Rattle.table.proofs.Opening.{insert_at, length-opened, take-opened, drop-opened}
 use Rattle.table.proofs.Zipped.{zipped-set, zipped_open, zipped-length, zipped_at, keys_of}
 
-full-set : (i : ℕ) (p : Position) (c : Cols) → Full c → Full (set_all i p c)
+full-set : (i : ℕ) (p : Position) (c : Columns) → Full c → Full (set_all i p c)
 full-set i p c f = record { symbol = simp length-set f.symbol; quantity = simp length-set f.quantity; average = simp length-set f.average; realized = simp length-set f.realized; total = simp length-set f.total }
 
-full_open : (i m : ℕ) (p : Position) (c : Cols) → Full c → Full (open_all i m p c)
+full_open : (i m : ℕ) (p : Position) (c : Columns) → Full c → Full (open_all i m p c)
 full_open i m p c f = record { symbol = simp length-opened f.symbol; quantity = simp length-opened f.quantity; average = simp length-opened f.average; realized = simp length-opened f.realized; total = simp length-opened f.total }
 
 rest_on : (n : ℕ) (l : List Position) (m : ℕ) → n < length l → drop n l ≡ replicate (suc m) (fresh 0) → drop (suc n) l ≡ replicate m (fresh 0)
 rest_on n l m h e = let k = drop-cons l n (fresh 0) h in cc
 
-rising_of : (p : Position) (n : ℕ) (c : Cols) (r : ℕ) (d : Cols) → Full c → Rising (take n c.symbol) → Full d → rows r d ≡ put64 key_of p (rows n c) → Rising (take r d.symbol)
+rising_of : (p : Position) (n : ℕ) (c : Columns) (r : ℕ) (d : Columns) → Full c → Rising (take n c.symbol) → Full d → rows r d ≡ put64 key_of p (rows n c) → Rising (take r d.symbol)
 rising_of p n c r d f h g e =
     let u : Rising (map key_of (rows n c)) = subst (λ l. Rising l) (sym (keys_of n c f)) h in
     subst (λ l. Rising l) (sym (ap (map key_of) e) ∙ keys_of r d g) (put64_rises key_of p (rows n c) u)
 
 -- ---- the place that was found
-module _ (n i : ℕ) (p : Position) (c : Cols) (s : Ordered n c) where
+module _ (n i : ℕ) (p : Position) (c : Columns) (s : Ordered n c) where
   used : length (rows n c) ≡ n
   used = length-take-le _ _ (omega (arith, zipped-length c s.full, s.small))
 
@@ -112,18 +113,18 @@ module _ (n i : ℕ) (p : Position) (c : Cols) (s : Ordered n c) where
 
 -- ---- what callers cite
 -- the position read at the place that was found is the one of the list
-pub held_is_holding : (n s : ℕ) (c : Cols) (f : Found) → Ordered n c → f ≡ found s (take n c.symbol) → held_at f s c ≡ holding s (rows n c)
+pub held_is_holding : (n s : ℕ) (c : Columns) (f : Found) → Ordered n c → f ≡ found s (take n c.symbol) → held_at f s c ≡ holding s (rows n c)
 held_is_holding n s c (At i) o e =
     let b = place_below n i (fresh s) c o (sym e) in
     let l : i < 64 = omega (arith, o.small) in
     simp (lt-ltb _ _ l, seek_at n i (fresh s) c o (sym e))
 held_is_holding n s c (Absent i) o e = simp (at_gap n i (fresh s) c o (sym e)).got
 
-abbrev PutsTo : Position → ℕ → Cols → CountedCols → Type 0
+abbrev PutsTo : Position → ℕ → Columns → CountedCols → Type 0
 PutsTo p n c t = Puts p n c t.count t.columns
 
 -- posting at the place that was found puts the position into the list
-pub posted_puts : (n : ℕ) (c : Cols) (f : Found) (p : Position) → Ordered n c → f ≡ found (key_of p) (take n c.symbol) → PutsTo p n c (posted f p (counted_cols n c))
+pub posted_puts : (n : ℕ) (c : Columns) (f : Found) (p : Position) → Ordered n c → f ≡ found (key_of p) (take n c.symbol) → PutsTo p n c (posted f p (counted_cols n c))
 posted_puts n c (At i) p o e =
     let b = place_below n i p c o (sym e) in
     let l : i < 64 = omega (arith, o.small) in

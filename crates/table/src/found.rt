@@ -14,32 +14,18 @@ pub enum Found {
 pub fn used(n: usize, most: usize) -> usize
     ensures { result ≡ shorter n most }
 {
-    if n < most { n } else { most }
+    n.min(most)
 }
 
-// Halves the places that are left until one is.
+// The place by the library's halving search.
 fn search(keys: &[u64], n: usize, key: u64) -> Found
     requires { n ≤ length keys.now }
     ensures { Finds key (take n keys.now) result }
 {
-    let mut lo = 0usize;
-    let mut hi = n;
-    while lo < hi {
-        let mid = lo + (hi - lo) / 2;
-        let k = keys[mid];
-        if k < key {
-            lo = mid + 1;
-        } else {
-            hi = mid;
-        }
+    match keys[..n].binary_search(&key) {
+        Ok(i) => Found::At(i),
+        Err(i) => Found::Absent(i),
     }
-    if lo < n {
-        let k = keys[lo];
-        if k == key {
-            return Found::At(lo);
-        }
-    }
-    Found::Absent(lo)
 }
 
 // Where the key stands among the first n, or where it would be inserted.
@@ -50,11 +36,9 @@ pub fn find(keys: &[u64], n: usize, key: u64, hint: usize) -> Found
     ensures { Finds key (take n keys.now) result }
 {
     let m = used(n, keys.len());
-    if hint < m {
-        let k = keys[hint];
-        if k == key {
-            return Found::At(hint);
-        }
+    if hint < m && keys[hint] == key {
+        Found::At(hint)
+    } else {
+        search(keys, m, key)
     }
-    search(keys, m, key)
 }

@@ -6,7 +6,7 @@ mod found;
 mod ordered;
 mod table;
 
-pub use column::{open_double, open_number, open_symbol};
+pub use column::open;
 pub use found::{Found, find, used};
-pub use ordered::{ascends, is_ordered, is_unused_zero};
-pub use table::{Table, held, post};
+pub use ordered::ascends;
+pub use table::{Columns, Table};

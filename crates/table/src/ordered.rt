@@ -1,95 +1,46 @@
 // Whether columns hold a table: symbols strictly ascending, unused places zero.
 ghost use Rattle.std.specs.Prelude.{◌≡◌, take, drop};
-ghost use Rattle.table.specs.Keyed.{ascending};
-ghost use Rattle.table.specs.Rows.{cols, zeros, zeros_z, unused, ordered};
+ghost use Rattle.table.specs.Keyed.{all, ascending};
+ghost use Rattle.table.specs.Rows.{zeros, zeros_z, unused, ordered};
 
 use crate::found::used;
+use crate::table::Columns;
 
 // Whether each of the first n keys is above the one before it.
 pub fn ascends(keys: &[u64], n: usize) -> bool
     ensures { result ≡ ascending (take n keys.now) }
 {
-    let m = used(n, keys.len());
-    let mut i = 0usize;
-    while i + 1 < m {
-        let j = i + 1;
-        let k = keys[i];
-        let next = keys[j];
-        if next <= k {
-            return false;
-        }
-        i = j;
-    }
-    true
+    keys[..used(n, keys.len())].is_sorted_by(|key, next| *key < *next)
 }
 
-// Whether no symbol stands at place n or after. Every place is looked at, with no way out of the loop,
+// Whether every place from n on holds zero. Every place is looked at, with no way out of the loop,
 // so that it compiles to steps over several places at once.
-fn no_symbol_from(symbols: &[u64], n: usize) -> bool
-    ensures { result ≡ zeros (drop n symbols.now) }
+fn is_zero_from<T: Copy + PartialEq>(column: &[T], n: usize, zero: T) -> bool
+    ensures { result ≡ all (λ x. T.eq x zero) (drop n column.now) }
 {
     let mut none = true;
-    let mut i = n;
-    while i < symbols.len() {
-        let s = symbols[i];
-        none = none & (s == 0);
-        i += 1;
+    for x in &column[used(n, column.len())..] {
+        none &= *x == zero;
     }
     none
 }
 
-// The same of a column of signed numbers.
-fn zero_from(numbers: &[i64], n: usize) -> bool
-    ensures { result ≡ zeros_z (drop n numbers.now) }
-{
-    let mut none = true;
-    let mut i = n;
-    while i < numbers.len() {
-        let x = numbers[i];
-        none = none & (x == 0);
-        i += 1;
+impl Columns {
+    // Whether the places after the first n are zero.
+    pub fn is_unused_zero(&self, n: usize) -> bool
+        ensures { result ≡ unused n self.now }
+    {
+        is_zero_from(&self.symbol, n, 0)
+            & is_zero_from(&self.quantity, n, 0)
+            & is_zero_from(&self.average, n, 0)
+            & is_zero_from(&self.realized, n, 0)
+            & is_zero_from(&self.total, n, 0)
     }
-    none
-}
 
-// Whether the places after the first n are zero.
-pub fn is_unused_zero<'a>(
-    symbol: &'a [u64; 64],
-    quantity: &'a [i64; 64],
-    average: &'a [i64; 64],
-    realized: &'a [i64; 64],
-    total: &'a [i64; 64],
-    n: usize,
-) -> bool
-    ensures { let c = cols symbol.now quantity.now average.now realized.now total.now in
-        result ≡ unused n c }
-{
-    let s = no_symbol_from(&symbol[..], n);
-    let q = zero_from(&quantity[..], n);
-    let a = zero_from(&average[..], n);
-    let g = zero_from(&realized[..], n);
-    let t = zero_from(&total[..], n);
-    s & (q & (a & (g & t)))
-}
-
-// Whether n positions stand in ascending order of their symbols and every other place is zero.
-pub fn is_ordered<'a>(
-    symbol: &'a [u64; 64],
-    quantity: &'a [i64; 64],
-    average: &'a [i64; 64],
-    realized: &'a [i64; 64],
-    total: &'a [i64; 64],
-    n: usize,
-) -> bool
-    ensures { let c = cols symbol.now quantity.now average.now realized.now total.now in
-        result ≡ ordered n c }
-{
-    if 64 < n {
-        return false;
-    }
-    if ascends(&symbol[..], n) {
-        is_unused_zero(symbol, quantity, average, realized, total, n)
-    } else {
-        false
+    // Whether n positions stand in ascending order of their symbols and every other place is zero.
+    pub fn is_ordered(&self, n: usize) -> bool
+        ensures { result ≡ ordered n self.now }
+    {
+        n <= 64 && ascends(&self.symbol, n) && self.is_unused_zero(n)
     }
 }

@@ -1,16 +1,14 @@
 -- What is planned: its symbol, price, drift and quantity, and the list of it one order more at a time.
-use Prim.Native.Nat.{ℕ, zero, suc, ◌+◌, ◌<◌}
+use Prim.Native.Nat.{ℕ, suc}
 use mathlib.Core.Path.{◌≡◌, refl, ap}
 use mathlib.Core.Bool.{Bool, true, false}
-use mathlib.Core.List.{List, [], ◌∷◌, ◌++◌}
+use mathlib.Core.List.{List, [], ◌∷◌}
 use native.Mathlib.Omega.{arith}
-use native.Mathlib.Numerals.{add-one}
 use lib.Dec.{T}
 use lib.IntN.{ℤ, pos}
 use lib.Signed.{lt_z, le_z}
 use lib.Ieee.{Float}
-use lib.ListN.{length, take, get_or}
-use lib.Seq.{take-suc}
+use lib.ListN.{length}
 use mir.Syntax.{w64}
 use mir.Val.{SFits}
 use Rattle.sums.specs.Sums.{sat_neg, value, notional}
@@ -18,10 +16,9 @@ use Rattle.sums.proofs.Ints.{sat_neg-fits, sat_sub-fits}
 use Rattle.sums.proofs.Laws.{value-fits}
 use Rattle.doubles.proofs.Order.{clear}
 use Rattle.position.specs.declared.position.Position.{Position}
-use Rattle.position.specs.Rows.{fresh, key_of}
+use Rattle.position.specs.Rows.{key_of}
 use Rattle.table.specs.Keyed.{pick, both}
-use Rattle.table.specs.Rows.{Cols, rows, row_at, zipped, Full, holding, is_zero}
-use Rattle.table.proofs.Zipped.{zipped-length, zipped_at}
+use Rattle.table.specs.Rows.{holding, is_zero}
 use Rattle.call_lists.specs.Lists.{among}
 use Rattle.sizing.specs.Sizing.{sized, cut_to, drift}
 use Rattle.sizing.proofs.Sizes.{sized-fits, cut_to-fits}
@@ -36,6 +33,10 @@ pub record OrderFor (k : ℕ) (p : ℤ) (o : PlannedOrder) : Type 0 where
   pub priced : is_zero o.quantity.0 ≡ false → (o.price ≡ p) × (le_z (pos 1) p ≡ true)
   pub quantity-fits : SFits w64 o.quantity.0
   pub price-fits : SFits w64 p → SFits w64 o.price
+
+-- an order of another price and drift
+abbrev pub priced : ℤ → Float → PlannedOrder → PlannedOrder
+priced p d o = record o { price = p; drift_bps = d }
 
 over-order : (k : ℕ) (p : ℤ) → OrderFor k p (passed_over k)
 unfolding is_zero
@@ -78,10 +79,6 @@ module _ (s : Settings) (q p : ℤ) (f : SFits w64 q) where
       go : (b : Bool) → SFits w64 (pick b (pos 0) (limited s q p))
       go true = zero-fits
       go false = limited-fits
-
-  allowed-drift : (k : ℕ) (d : Float) → (allowed_order s k q p d).drift_bps ≡ d
-  unfolding allowed_order
-  allowed-drift k d = refl
 
 -- ---- closes and targets
 module _ (s : Settings) (equity : ℤ) (k : ℕ) (q p : ℤ) where
@@ -131,24 +128,9 @@ module _ (s : Settings) (equity : ℤ) (k : ℕ) (q p : ℤ) where
 
 -- ---- at the positions of an account
 module _ (s : Settings) (equity : ℤ) (price : ℕ → ℤ) (targets : List ℕ) where
-  pub closing_is : (p : Position) → closing s equity price targets p ≡ planned_close s equity (key_of p) p.quantity.0 (price (key_of p)) (among (key_of p) targets)
-  unfolding closing
-  closing_is p = refl
-
   pub closing-order : (p : Position) → OrderFor (key_of p) (price (key_of p)) (closing s equity price targets p)
   unfolding closing
   closing-order p = close-order s equity (key_of p) p.quantity.0 (price (key_of p)) (among (key_of p) targets)
-
-  -- one position more
-  snoc_close : (ps : List Position) (p : Position) → closings s equity price targets (ps ++ (p ∷ [])) ≡ closings s equity price targets ps ++ (closing s equity price targets p ∷ [])
-  unfolding closings
-  snoc_close [] p = refl
-  snoc_close (q ∷ ps) p = ap (λ l. closing s equity price targets q ∷ l) (snoc_close ps p)
-
-  pub closings_on : (c : Cols) → Full c → (i : ℕ) → i < 64 → closings s equity price targets (rows (i + 1) c) ≡ closings s equity price targets (rows i c) ++ (closing s equity price targets (row_at i c) ∷ [])
-  closings_on c f i h =
-      let l : i < length (zipped c) = omega (arith, zipped-length c f) in
-      rw (add-one, take-suc (zipped c) i (fresh 0) l, zipped_at c i f) (snoc_close (take i (zipped c)) (row_at i c))
 
   pub closings-length : (ps : List Position) → length (closings s equity price targets ps) ≡ length ps
   unfolding closings
@@ -156,26 +138,9 @@ module _ (s : Settings) (equity : ℤ) (price : ℕ → ℤ) (targets : List ℕ
   closings-length (p ∷ ps) = ap suc (closings-length ps)
 
 module _ (s : Settings) (equity : ℤ) (price : ℕ → ℤ) (held : List Position) where
-  pub targeting_is : (k : ℕ) (w : Float) → targeting s equity price held k w ≡ planned_target s equity k (holding k held).quantity.0 (price k) w
-  unfolding targeting
-  targeting_is k w = refl
-
   pub targeting-order : (k : ℕ) (w : Float) → OrderFor k (price k) (targeting s equity price held k w)
   unfolding targeting
   targeting-order k w = target_order s equity k (holding k held).quantity.0 (price k) w
-
-  -- one target more
-  more_target : (ks : List ℕ) (ws : List Float) (x : Float) (i : ℕ) → i < length ks → i < length ws
-      → targetings s equity price held (take (suc i) ks) (take (suc i) ws) ≡ targetings s equity price held (take i ks) (take i ws) ++ (targeting s equity price held (get_or ks i 0) (get_or ws i x) ∷ [])
-  unfolding targetings
-  more_target [] ws x i h g = absurd (omega arith)
-  more_target (k ∷ ks) [] x i h g = absurd (omega arith)
-  more_target (k ∷ ks) (w ∷ ws) x zero h g = refl
-  more_target (k ∷ ks) (w ∷ ws) x (suc i) h g = ap (λ l. targeting s equity price held k w ∷ l) (more_target ks ws x i (omega arith) (omega arith))
-
-  pub targetings_on : (ks : List ℕ) (ws : List Float) (x : Float) (i : ℕ) → i < length ks → i < length ws
-      → targetings s equity price held (take (i + 1) ks) (take (i + 1) ws) ≡ targetings s equity price held (take i ks) (take i ws) ++ (targeting s equity price held (get_or ks i 0) (get_or ws i x) ∷ [])
-  targetings_on ks ws x i h g = rw add-one (more_target ks ws x i h g)
 
   pub targetings-length : (ks : List ℕ) (ws : List Float) → length ks ≡ length ws → length (targetings s equity price held ks ws) ≡ length ks
   unfolding targetings

@@ -15,7 +15,8 @@ use Rattle.position.specs.declared.position.Position.{Position}
 use Rattle.position.specs.Rows.{fresh}
 use Rattle.table.specs.Inner.Keyed.{Rising}
 use Rattle.table.proofs.Places.{shorter-same}
-use Rattle.table.specs.Rows.{Cols, rows, zipped, Full}
+use Rattle.table.specs.Rows.{rows, zipped, Full}
+use Rattle.table.specs.declared.table.Columns.{Columns}
 use Rattle.table.proofs.Zipped.{zipped-length, zipped_at}
 use Rattle.call_lists.specs.Lists.{price_of}
 use Rattle.wanted.specs.Equity.{worth, worth_from, equity_of}
@@ -36,7 +37,7 @@ unfolding worth_from
 worth_snoc price sum [] p = refl
 worth_snoc price sum (q ∷ ps) p = worth_snoc price (sat_add sum (worth price q)) ps p
 
-pub worth_of_rows : (price : ℕ → ℤ) (c : Cols) → Full c → (n : ℕ) → n ≤ 64 → worth_places price n c.symbol c.quantity ≡ worth_from price (pos 0) (rows n c)
+pub worth_of_rows : (price : ℕ → ℤ) (c : Columns) → Full c → (n : ℕ) → n ≤ 64 → worth_places price n c.symbol c.quantity ≡ worth_from price (pos 0) (rows n c)
 unfolding worth_places worth_from
 worth_of_rows price c f zero h = refl
 worth_of_rows price c f (suc n) h =
@@ -44,7 +45,7 @@ worth_of_rows price c f (suc n) h =
     sym (ap (worth_from price (pos 0)) (take-suc (zipped c) n (fresh 0) l) ∙ worth_snoc price (pos 0) (take n (zipped c)) _ ∙ rw (zipped_at c n f, sym (worth_of_rows price c f n (omega arith))))
 
 -- what the function that sums them answers
-pub worth-settled : (c : Cols) (n : ℕ) (symbols : List ℕ) (prices : List ℤ) (r : ℤ) → Full c → n ≤ 64 → Rising symbols → Worth c.symbol c.quantity n symbols prices r → r ≡ worth_from (price_of symbols prices) (pos 0) (rows n c)
+pub worth-settled : (c : Columns) (n : ℕ) (symbols : List ℕ) (prices : List ℤ) (r : ℤ) → Full c → n ≤ 64 → Rising symbols → Worth c.symbol c.quantity n symbols prices r → r ≡ worth_from (price_of symbols prices) (pos 0) (rows n c)
 worth-settled c n symbols prices r f h rises w =
     w.settled rises ∙ ap (λ k. worth_places (price_of symbols prices) k c.symbol c.quantity) (shorter-same n 64 h) ∙ worth_of_rows (price_of symbols prices) c f n h
 

@@ -17,14 +17,12 @@ pub fn total_worth<'a>(
     ensures { Worth symbol.now quantity.now n symbols.now prices.now result }
 {
     let m = used(n, 64);
-    let mut sum = 0i64;
-    let mut hint = 0usize;
-    let mut i = 0usize;
-    while i < m {
-        let q = quote(symbols, prices, symbol[i], hint);
+    let mut sum = 0;
+    let mut hint = 0;
+    for (key, held) in symbol[..m].iter().zip(&quantity[..m]) {
+        let q = quote(symbols, prices, *key, hint);
         hint = q.next;
-        sum = sums::saturating_add(sum, sums::value(quantity[i], q.price));
-        i += 1;
+        sum = sums::saturating_add(sum, sums::value(*held, q.price));
     }
     sum
 }

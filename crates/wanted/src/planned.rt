@@ -8,6 +8,7 @@ use position::{Shares, Symbol};
 use sizing::{drift_bps_of, size_qty};
 
 // A candidate order, before the caps are applied. One of quantity 0 is no order.
+// Kept: no order is no None, since `closings` and `targetings` list orders of quantity 0 too, and `added` passes over them.
 #[derive(Clone, Copy)]
 pub struct PlannedOrder {
     pub symbol: Symbol,
@@ -39,18 +40,18 @@ fn allowed_order(
     ensures { result ≡ allowed_order s symbol.0 quantity.0 price drift_bps }
 {
     if within_band(s, drift_bps) {
-        return PlannedOrder {
-            symbol,
-            quantity: Shares::ZERO,
+        PlannedOrder {
             price,
             drift_bps,
-        };
-    }
-    PlannedOrder {
-        symbol,
-        quantity: limited(s, quantity, price),
-        price,
-        drift_bps,
+            ..passed_over(symbol)
+        }
+    } else {
+        PlannedOrder {
+            symbol,
+            quantity: limited(s, quantity, price),
+            price,
+            drift_bps,
+        }
     }
 }
 
@@ -65,10 +66,7 @@ pub fn planned_close(
 ) -> PlannedOrder
     ensures { result ≡ planned_close s equity symbol.0 quantity.0 price wanted }
 {
-    if wanted {
-        return passed_over(symbol);
-    }
-    if price < 1 {
+    if wanted || price < 1 {
         return passed_over(symbol);
     }
     let drift = drift_bps_of(sums::value(quantity.raw(), price), equity);
@@ -102,10 +100,9 @@ pub fn planned_target(
     let drift = drift_bps_of(gap, equity);
     if within_band(s, drift) {
         return PlannedOrder {
-            symbol,
-            quantity: Shares::ZERO,
             price,
             drift_bps: drift,
+            ..passed_over(symbol)
         };
     }
     let quantity = size_qty(gap, price, s.quantity_step);

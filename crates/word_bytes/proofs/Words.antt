@@ -1,15 +1,18 @@
 -- Reading what was written gives it, other words are untouched, and bytes and words are each the other's inverse.
 use mathlib.Core.Path.{◌≡◌, refl, sym, ◌∙◌, ap}
-use Prim.Native.Nat.{ℕ, zero, suc, ◌+◌, ◌*◌, ◌/◌, ◌%◌, ◌<◌, ◌≤◌, ◌^◌}
+use Prim.Native.Nat.{ℕ, zero, suc, ◌+◌, ◌-◌, ◌*◌, ◌/◌, ◌%◌, ◌<◌, ◌≤◌, ◌^◌}
 use native.Mathlib.Omega.{arith}
 use mathlib.Core.Bool.{Bool, true, false, cond}
-use mathlib.Core.List.{List, [], ◌∷◌, ◌++◌, reverse}
+use mathlib.Core.List.{List, [], ◌∷◌, ◌++◌, map, reverse, append_assoc}
 use lib.Dec.{ltb}
-use lib.ListN.{length, get_or, take, drop, set, length-drop, take-append-drop, get_or-eq_default}
-use lib.Seq.{sets, length-sets, sets-eq, take-set-le, drop-set-add, drop-cons, get_or-set_same, get_or-set_other, set_out, take_all, drop-drop, length-take-le}
+use lib.ListN.{length, get_or, take, drop, set, length-drop, take-append-drop, get_or-eq_default, get_or-map}
+use lib.Seq.{sets, length-sets, sets-eq, take-set-le, drop-set-add, get_or-set_same, get_or-set_other, set_out, take_all, drop-drop, length-take-le}
+use borrow.Rule.Slice.PartMut.{put_mid}
 use borrow.Author.Tests.{lt-ltb, le-ltb, ltb-true, ltb-false}
 use Rattle.word_bytes.specs.Words.{little, big, digits, words_in, words_of, bytes_of, word_at, put_word, turned, symbol_at, put_symbol}
-use Rattle.word_bytes.specs.Inner.Words.{eight_at}
+use Rattle.std.specs.Int.{w64, from_le_bytes, to_le_bytes, from_be_bytes, swap_bytes}
+use Rattle.std.specs.Simd.{first_chunks}
+use Rattle.std.proofs.lemmas.Nat.{from_le_bytes-to_le_bytes_8}
 
 -- how many numbers n bytes hold
 abbrev pub whole : ℕ → ℕ
@@ -64,6 +67,34 @@ pub little_lt : (l : List ℕ) → Octets l → little l < whole (length l)
 little_lt [] o = omega arith
 little_lt (b ∷ l) o = let h = little_lt l o.1 in omega (arith, o.0)
 
+-- ---- the library's words for these
+eight : (l : List ℕ) → length l ≡ 8 → l ≡ get_or l 0 0 ∷ get_or l 1 0 ∷ get_or l 2 0 ∷ get_or l 3 0 ∷ get_or l 4 0 ∷ get_or l 5 0 ∷ get_or l 6 0 ∷ get_or l 7 0 ∷ []
+eight [] z = absurd (omega arith)
+eight (a ∷ []) z = absurd (omega arith)
+eight (a ∷ b ∷ []) z = absurd (omega arith)
+eight (a ∷ b ∷ c ∷ []) z = absurd (omega arith)
+eight (a ∷ b ∷ c ∷ d ∷ []) z = absurd (omega arith)
+eight (a ∷ b ∷ c ∷ d ∷ e ∷ []) z = absurd (omega arith)
+eight (a ∷ b ∷ c ∷ d ∷ e ∷ f ∷ []) z = absurd (omega arith)
+eight (a ∷ b ∷ c ∷ d ∷ e ∷ f ∷ g ∷ []) z = absurd (omega arith)
+eight (a ∷ b ∷ c ∷ d ∷ e ∷ f ∷ g ∷ h ∷ []) z = refl
+eight (a ∷ b ∷ c ∷ d ∷ e ∷ f ∷ g ∷ h ∷ x ∷ l) z = absurd (omega arith)
+
+pub little_le : (l : List ℕ) → length l ≡ 8 → from_le_bytes w64 l ≡ little l
+little_le l e =
+    let z : from_le_bytes w64 l ≡ little (get_or l 0 0 ∷ get_or l 1 0 ∷ get_or l 2 0 ∷ get_or l 3 0 ∷ get_or l 4 0 ∷ get_or l 5 0 ∷ get_or l 6 0 ∷ get_or l 7 0 ∷ []) = omega arith in
+    z ∙ ap little (sym (eight l e))
+
+pub big_be : (l : List ℕ) → length l ≡ 8 → from_be_bytes w64 l ≡ big l
+big_be l e =
+    let z : from_be_bytes w64 l ≡ big (get_or l 0 0 ∷ get_or l 1 0 ∷ get_or l 2 0 ∷ get_or l 3 0 ∷ get_or l 4 0 ∷ get_or l 5 0 ∷ get_or l 6 0 ∷ get_or l 7 0 ∷ []) = omega arith in
+    z ∙ ap big (sym (eight l e))
+
+pub digits_le : (w : ℕ) → w < 2 ^ 64 → to_le_bytes w64 w ≡ digits 8 w
+digits_le w h =
+    let o : Octets (to_le_bytes w64 w) = (omega arith, (omega arith, (omega arith, (omega arith, (omega arith, (omega arith, (omega arith, (omega arith, omega arith)))))))) in
+    sym (digits-little (to_le_bytes w64 w) o) ∙ ap (digits 8) (sym (little_le (to_le_bytes w64 w) refl) ∙ from_le_bytes-to_le_bytes_8 w h)
+
 -- ---- the words of a run of bytes
 pub length-words : (n : ℕ) (l : List ℕ) → length (words_in n l) ≡ n
 unfolding words_in
@@ -79,23 +110,23 @@ word_in (suc n) l (suc i) at h e =
     let z : at ≡ 8 + 8 * i = omega arith in
     word_in n (drop 8 l) i (8 * i) (omega arith) refl ∙ ap (λ (k : List ℕ). little (take 8 k)) (drop-drop (8 * i) 8 l ∙ ap (λ (k : ℕ). drop k l) (sym z))
 
-next : (n : ℕ) (l : List ℕ) (at m : ℕ) → at < length l → m ≡ at + 1 → take (suc n) (drop at l) ≡ get_or l at 0 ∷ take n (drop m l)
-next n l at m h e = let z : m ≡ suc at = omega arith in simp (drop-cons l at 0 h, z)
+-- the eight bytes of each word, as code cuts them off
+words_chunks : (n : ℕ) (l : List ℕ) → words_in n l ≡ map little (first_chunks 8 n l)
+unfolding words_in
+words_chunks zero l = refl
+words_chunks (suc n) l = ap (λ (k : List ℕ). little (take 8 l) ∷ k) (words_chunks n (drop 8 l))
 
--- the eight bytes that the code reads are those of the word
-pub eight_at_lem : (l : List ℕ) (at : ℕ) → at + 8 ≤ length l → take 8 (drop at l) ≡ eight_at l at
-eight_at_lem l at h =
-    next 7 l at (at + 1) (omega arith) (omega arith)
-    ∙ ap (λ (k : List ℕ). get_or l at 0 ∷ k) (next 6 l (at + 1) (at + 2) (omega arith) (omega arith)
-    ∙ ap (λ (k : List ℕ). get_or l (at + 1) 0 ∷ k) (next 5 l (at + 2) (at + 3) (omega arith) (omega arith)
-    ∙ ap (λ (k : List ℕ). get_or l (at + 2) 0 ∷ k) (next 4 l (at + 3) (at + 4) (omega arith) (omega arith)
-    ∙ ap (λ (k : List ℕ). get_or l (at + 3) 0 ∷ k) (next 3 l (at + 4) (at + 5) (omega arith) (omega arith)
-    ∙ ap (λ (k : List ℕ). get_or l (at + 4) 0 ∷ k) (next 2 l (at + 5) (at + 6) (omega arith) (omega arith)
-    ∙ ap (λ (k : List ℕ). get_or l (at + 5) 0 ∷ k) (next 1 l (at + 6) (at + 7) (omega arith) (omega arith)
-    ∙ ap (λ (k : List ℕ). get_or l (at + 6) 0 ∷ k) (next 0 l (at + 7) (at + 8) (omega arith) (omega arith))))))))
+chunk-long : (n : ℕ) (l : List ℕ) (i : ℕ) → i < n → 8 * n ≤ length l → length (get_or (first_chunks 8 n l) i []) ≡ 8
+chunk-long zero l i h g = absurd (omega arith)
+chunk-long (suc n) l zero h g = length-take-le 8 l (omega arith)
+chunk-long (suc n) l (suc i) h g = chunk-long n (drop 8 l) i (omega arith) (simp length-drop (omega arith))
 
-pub word_at_lem : (l : List ℕ) (i : ℕ) → i < length l / 8 → word_at l i ≡ little (eight_at l (8 * i))
-word_at_lem l i h = word_in (length l / 8) l i (8 * i) h refl ∙ ap little (eight_at_lem l (8 * i) (omega arith))
+pub word_at_lem : (l : List ℕ) (i : ℕ) {w : ℕ} {cs : List (List ℕ)} {e : List ℕ} → i < length l / 8 → cs ≡ first_chunks 8 (length l / 8) l → e ≡ get_or cs i [] → w ≡ from_le_bytes w64 e → w ≡ word_at l i
+word_at_lem l i h f g k =
+    let c = first_chunks 8 (length l / 8) l in
+    let q = g ∙ ap (λ (x : List (List ℕ)). get_or x i []) f in
+    let n = ap length q ∙ chunk-long (length l / 8) l i h (omega arith) in
+    k ∙ little_le _ n ∙ ap little q ∙ sym (ap (λ (x : List ℕ). get_or x i 0) (words_chunks (length l / 8) l) ∙ get_or-map little c i [])
 
 pub word_past : (l : List ℕ) (i : ℕ) → length l / 8 ≤ i → word_at l i ≡ 0
 word_past l i h = get_or-eq_default (words_of l) 0 (simp length-words (omega arith))
@@ -128,6 +159,16 @@ put_in (suc n) l (suc i) at w h e f k =
 pub put-fits : (l : List ℕ) (i w : ℕ) → i < length l / 8 → put_word l i w ≡ sets l (8 * i) (digits 8 w)
 unfolding put_word
 put-fits l i w h = simp (lt-ltb i (length l / 8) h)
+
+-- as code puts it
+pub put_range : (l : List ℕ) (i w : ℕ) {m : List ℕ} → i < length l / 8 → m ≡ digits 8 w → put_mid (8 * i) (8 * i + 8 - 8 * i) l m ≡ put_word l i w
+put_range l i w {m} h e =
+    let z : 8 * i + 8 - 8 * i ≡ 8 = omega arith in
+    let b : 8 * i + 8 ≤ length l = omega arith in
+    ap (λ (n : ℕ). put_mid (8 * i) n l m) z
+    ∙ ap (put_mid (8 * i) 8 l) e
+    ∙ ap (λ (k : List ℕ). take (8 * i) l ++ (digits 8 w ++ k)) (drop-drop 8 (8 * i) l)
+    ∙ sym (put-fits l i w h ∙ sets-eq (digits 8 w) l (8 * i) b ∙ append_assoc (take (8 * i) l) (digits 8 w) (drop (8 * i + 8) l))
 
 pub put_past : (l : List ℕ) (i w : ℕ) → length l / 8 ≤ i → put_word l i w ≡ l
 unfolding put_word
@@ -205,18 +246,14 @@ pub turned_lt : (w : ℕ) → turned w < 2 ^ 64
 unfolding turned
 turned_lt w = little_lt (reverse (digits 8 w)) (reversed_octets w)
 
+-- the library's word for it
+pub turned_swap : (w : ℕ) → w < 2 ^ 64 → swap_bytes w64 w ≡ turned w
+unfolding turned
+turned_swap w h = ap (from_be_bytes w64) (digits_le w h) ∙ big_be (digits 8 w) refl
+
 pub turned-turned : (w : ℕ) → w < 2 ^ 64 → turned (turned w) ≡ w
 unfolding turned
 turned-turned w h = ap big (digits-turned w) ∙ little-digits 8 w h
-
--- the number that the code reads, first byte highest
-pub symbol_at_lem : (l : List ℕ) (i : ℕ) → Octets l → i < length l / 8 → symbol_at l i ≡ big (eight_at l (8 * i))
-unfolding turned
-symbol_at_lem l i o h =
-    let at : ℕ = 8 * i in
-    let e : take 8 (drop at l) ≡ eight_at l at = eight_at_lem l at (omega arith) in
-    let f : Octets (eight_at l at) = rw e at (octets_take 8 (drop at l) (octets_drop at l o)) in
-    ap turned (word_at_lem l i h) ∙ ap big (digits-little (eight_at l at) f)
 
 pub symbol-put : (l : List ℕ) (i s : ℕ) → i < length l / 8 → s < 2 ^ 64 → symbol_at (put_symbol l i s) i ≡ s
 symbol-put l i s f h = ap turned (word_put l i (turned s) f (turned_lt s)) ∙ turned-turned s h

@@ -4,7 +4,7 @@ use mathlib.Core.Path.{◌≡◌, refl, sym, ap, ◌∙◌}
 use mathlib.Core.Bool.{Bool}
 use lib.IntN.{ℤ}
 use lib.Ieee.{Float, nan, inf, fin}
-use Rattle.table.specs.Rows.{Cols}
+use Rattle.table.specs.declared.table.Columns.{Columns}
 use Rattle.account.specs.declared.settings.Settings.{Settings}
 use Rattle.account.specs.declared.settings.TradeCap.{TradeCap}
 use Rattle.account.specs.declared.account.Account.{Account}
@@ -30,7 +30,7 @@ pub read_back_alike : (a : Account) → Alike (plain_account a) a
 read_back_alike a = simp plain_twice
 
 -- a call on a ledger and lent columns is one on the account of both
-pub plain_with : (h : Ledger) (c : Cols) → account_with (plain_ledger h) c ≡ plain_account (account_with h c)
+pub plain_with : (h : Ledger) (c : Columns) → account_with (plain_ledger h) c ≡ plain_account (account_with h c)
 plain_with h c = refl
 
 -- ---- setters

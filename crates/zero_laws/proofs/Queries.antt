@@ -8,7 +8,7 @@ use lib.Ieee.{Float}
 use Rattle.cost_model.specs.declared.CostModel.{CostModel}
 use Rattle.account.specs.declared.account.Account.{Account}
 use Rattle.account.specs.Account.{sound_account}
-use Rattle.account.specs.Calls.{told_cents, told_step, told_count, told_rate, told_flag, told_cap, told_costs, position_of, position_at_of}
+use Rattle.account.specs.Calls.{told, told_cents, told_step, told_count, told_rate, told_flag, told_cap, told_costs, position_of, position_at_of}
 use Rattle.portfolio.specs.Queries.{told_equity}
 use Rattle.queries.specs.Answers.{snapshot_of, told_snapshot, weights_now, told_weights, told_unpriced}
 use Rattle.zero_laws.specs.Zeros.{plain_zero, plain_costs, plain_account, Alike}
@@ -45,12 +45,12 @@ module _ (a : Account) where
 
 -- the two that tell a rate
 plain_rate_told : (sound : Bool) (x : Float) → told_rate sound (plain_zero x) ≡ plain_rate (told_rate sound x)
-unfolding told_rate plain_zero
+unfolding told plain_zero
 plain_rate_told true x = refl
 plain_rate_told false x = refl
 
 plain-costs-told : (sound : Bool) (m : CostModel) → told_costs sound (plain_costs m) ≡ plain_told (told_costs sound m)
-unfolding told_costs plain_zero
+unfolding told plain_zero
 plain-costs-told true m = refl
 plain-costs-told false m = refl
 
@@ -63,31 +63,31 @@ module _ (a b : Account) (e : Alike a b) where
   same-sound = through sound_account plain-sound
 
   -- a figure of the account that is read back
-  told : {A B : Type 0} (f : Bool → A → B) (figure : Account → A) → f (sound_account a) (figure (plain_account a)) ≡ f (sound_account b) (figure (plain_account b))
-  told f figure = λ i. f (same-sound i) (figure (e i))
+  same_figure : {A B : Type 0} (f : Bool → A → B) (figure : Account → A) → f (sound_account a) (figure (plain_account a)) ≡ f (sound_account b) (figure (plain_account b))
+  same_figure f figure = λ i. f (same-sound i) (figure (e i))
 
   pub same-told : SameTold a b
   same-told = record {
     sound = same-sound;
-    cash = told told_cents (λ c. c.cash);
-    step = told told_step (λ c. c.settings.quantity_step);
-    min-order = told told_cents (λ c. c.settings.min_order_value);
-    max-order = told told_cents (λ c. c.settings.max_order_value);
-    trade_cap_lem = told told_cap (λ c. c.settings.max_trades_per_rebalance);
-    max-notional = told told_cents (λ c. c.settings.max_rebalance_notional);
-    recording = told told_flag (λ c. c.settings.recording);
-    cash-first = told told_flag (λ c. c.settings.cash_first);
-    band = sym (plain_rate_told (sound_account a) _) ∙ told told_rate (λ c. c.settings.no_trade_band_bps) ∙ plain_rate_told (sound_account b) _;
-    costs = sym (plain-costs-told (sound_account a) _) ∙ told told_costs (λ c. c.settings.rules.cost_model) ∙ plain-costs-told (sound_account b) _;
-    order-count = told told_count (λ c. c.counters.last_rebalance_order_count);
-    last-notional = told told_cents (λ c. c.counters.last_rebalance_notional);
-    trimmed = told told_count (λ c. c.counters.trimmed_fill_count);
-    shortfall = told told_cents (λ c. c.counters.trimmed_shortfall_cents);
-    record_count_lem = told told_count (λ c. c.counters.record_count);
-    equity-count = told told_count (λ c. c.series.equity_count);
-    return-count = told told_count (λ c. c.series.return_count);
-    previous_equity = told told_cents (λ c. c.series.prev_equity);
-    position-count = told told_count (λ c. c.positions.count);
+    cash = same_figure told_cents (λ c. c.cash);
+    step = same_figure told_step (λ c. c.settings.quantity_step);
+    min-order = same_figure told_cents (λ c. c.settings.min_order_value);
+    max-order = same_figure told_cents (λ c. c.settings.max_order_value);
+    trade_cap_lem = same_figure told_cap (λ c. c.settings.max_trades_per_rebalance);
+    max-notional = same_figure told_cents (λ c. c.settings.max_rebalance_notional);
+    recording = same_figure told_flag (λ c. c.settings.recording);
+    cash-first = same_figure told_flag (λ c. c.settings.cash_first);
+    band = sym (plain_rate_told (sound_account a) _) ∙ same_figure told_rate (λ c. c.settings.no_trade_band_bps) ∙ plain_rate_told (sound_account b) _;
+    costs = sym (plain-costs-told (sound_account a) _) ∙ same_figure told_costs (λ c. c.settings.rules.cost_model) ∙ plain-costs-told (sound_account b) _;
+    order-count = same_figure told_count (λ c. c.counters.last_rebalance_order_count);
+    last-notional = same_figure told_cents (λ c. c.counters.last_rebalance_notional);
+    trimmed = same_figure told_count (λ c. c.counters.trimmed_fill_count);
+    shortfall = same_figure told_cents (λ c. c.counters.trimmed_shortfall_cents);
+    record_count_lem = same_figure told_count (λ c. c.counters.record_count);
+    equity-count = same_figure told_count (λ c. c.series.equity_count);
+    return-count = same_figure told_count (λ c. c.series.return_count);
+    previous_equity = same_figure told_cents (λ c. c.series.prev_equity);
+    position-count = same_figure told_count (λ c. c.positions.count);
     position = λ s. through (position_of s) (λ x. plain-position x s);
     position_at = λ i. through (position_at_of i) (λ x. plain-position_at x i);
     equity = λ ps vs. through (λ x. told_equity x ps vs) (λ x. plain-equity x ps vs);

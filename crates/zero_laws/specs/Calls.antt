@@ -1,6 +1,7 @@
 -- What a call answers, with the account in it as it is read back: every other part is as it was. Definitions only.
-use Rattle.account.specs.declared.query.Rate.{Rate}
-use Rattle.account.specs.declared.query.Costs.{Costs}
+use Rattle.std.specs.Prelude.{Float}
+use Rattle.cost_model.specs.declared.CostModel.{CostModel}
+use Rattle.account.specs.declared.query.Told.{Told}
 use Rattle.account.specs.declared.change.Changed.{Changed}
 use Rattle.fills.specs.declared.terms.Terms.{Terms}
 use Rattle.portfolio.specs.Rebalance.{Outcome}
@@ -46,8 +47,8 @@ on_plain c = record {
 }
 
 -- of the two queries that tell a floating setting
-abbrev pub plain_rate : Rate → Rate
-plain_rate r = record { answer = r.answer; bps = plain_zero r.bps }
+abbrev pub plain_rate : Told Float → Told Float
+plain_rate r = record { answer = r.answer; value = plain_zero r.value }
 
-abbrev pub plain_told : Costs → Costs
-plain_told r = record { answer = r.answer; cost_model = plain_costs r.cost_model }
+abbrev pub plain_told : Told CostModel → Told CostModel
+plain_told r = record { answer = r.answer; value = plain_costs r.value }

@@ -1,69 +1,48 @@
--- By the lengths of the places, then by the answer: after 0 the fill is put into the places, else nothing is.
-use Prim.Native.Nat.{ℕ}
-use mathlib.Core.Path.{◌≡◌, sym, ap, ◌∙◌}
-use mir.Syntax.{w64}
-use mir.Val.{SFits}
-use mir.Facts.{to_z-of_z}
-use borrow.Author.Rules.{rules}
-use lib.ListN.{length}
-use Rattle.answer.specs.declared.Answer.{Answer}
+-- By whether the fill is refused: its numbers go into the places, or nothing does.
+use mathlib.Core.Path.{sym, ap, ◌∙◌}
+use Rattle.std.proofs.Common.{ℕ, length}
 use Rattle.answer.specs.Places.{word_of}
-use Rattle.position.specs.declared.position.Position.{Position}
-use Rattle.fills.specs.declared.terms.Book.{Book}
 use Rattle.fills.specs.Inner.Runs.{records_of}
-use Rattle.c_fill.specs.declared.Ask.{Ask}
-use Rattle.c_fill.specs.declared.Seen.{Seen}
-use Rattle.c_fill.specs.Single.{Slots, slots, position_in, refusal_of, fill_told, counting}
-use Rattle.c_fill.specs.Inner.Single.{book_of, seen_by, seen_after, Sight}
-use Rattle.c_fill.proofs.Alone.{short-money, short-tallies, refused_as_found, done_as_filled, done_has_room, told_of, same-slots}
+use Rattle.c_fill.specs.Single.{Slots, slots, position_in, answer_to, fill_told, counting}
+use Rattle.c_fill.specs.Inner.Single.{book_of, seen_after, Sight, seen_by}
+use Rattle.c_fill.proofs.Alone.{seen_done, seen_refused, done_lends, done_as_filled, refused_as_found, told_of, same-slots}
 use Rattle.c_fill.proofs.fill_asked.Goals as goal
 
--- what is read, and the answer to it
-module _ (a : Ask) (l : Slots) {b : Book} {p : Position} (hb : b ≡ book_of l.money l.tallies) (hp : p ≡ position_in a.symbol l.money) where
-  number_is : {w : Answer} {n : ℕ} → w ≡ refusal_of a b.cash p (length l.words) (length l.ints) → n ≡ word_of w
-      → n ≡ word_of (refusal_of a (book_of l.money l.tallies).cash (position_in a.symbol l.money) (length l.words) (length l.ints))
-  number_is e f = f ∙ ap word_of (simp (hb, hp) at e)
-
-  seen-is : (r : Seen) → seen_by r ≡ seen_after a b p → seen_by r ≡ seen_after a (book_of l.money l.tallies) (position_in a.symbol l.money)
-  seen-is r e = simp (hb, hp) at e
-
-pub returns-then-money-ne6 : goal.returns-then-money-ne6
-returns-then-money-ne6 c =
-    let x = c.args in
-    short-money x.a (slots x.money.now x.tallies.now x.words.now x.ints.now) c.if-money-ne6.true
-
-pub returns-then-tallies-ne2 : goal.returns-then-tallies-ne2
-returns-then-tallies-ne2 c =
-    let x = c.args in
-    short-tallies x.a (slots x.money.now x.tallies.now x.words.now x.ints.now) c.if-money-ne6.false c.if-tallies-ne2.true
-
-pub returns-then-number-ne0 : goal.returns-then-number-ne0
-returns-then-number-ne0 c =
+pub copy_from_slice-requires : goal.copy_from_slice-requires
+copy_from_slice-requires c =
     let x = c.args in
     let l : Slots = slots x.money.now x.tallies.now x.words.now x.ints.now in
-    let cash : SFits w64 c.book_of-b.result.cash = search rules in
-    let e = simp (to_z-of_z cash) at c.refusal-answer.ensures in
-    let n = number_is x.a l c.book_of-b.ensures c.position_in-p.ensures e c.word-number.ensures in
-    refused_as_found x.a l c.if-money-ne6.false c.if-tallies-ne2.false c.word-number.result n c.if-number-ne0.true
+    let k = seen_done (answer_to x.a l) (seen_after x.a (book_of l.money l.tallies) (position_in x.a.symbol l.money)) (seen_by c.in-Ok.seen) c.in-Ok.ensures in
+    (done_lends x.a l k.0).money ∙ sym (ap length c.money_of.ensures)
+
+pub copy_from_slice-requires-in-Ok : goal.copy_from_slice-requires-in-Ok
+copy_from_slice-requires-in-Ok c =
+    let x = c.args in
+    let l : Slots = slots x.money.now x.tallies.now x.words.now x.ints.now in
+    let k = seen_done (answer_to x.a l) (seen_after x.a (book_of l.money l.tallies) (position_in x.a.symbol l.money)) (seen_by c.in-Ok.seen) c.in-Ok.ensures in
+    (done_lends x.a l k.0).tallies
 
 pub keep-requires : goal.keep-requires
 keep-requires c =
     let x = c.args in
     let l : Slots = slots x.money.now x.tallies.now x.words.now x.ints.now in
-    let cash : SFits w64 c.book_of-b.result.cash = search rules in
-    let e = simp (to_z-of_z cash) at c.refusal-answer.ensures in
-    let n = number_is x.a l c.book_of-b.ensures c.position_in-p.ensures e c.word-number.ensures in
-    done_has_room x.a _ _ _ _ (sym n ∙ c.if-number-ne0.false)
+    let k = seen_done (answer_to x.a l) (seen_after x.a (book_of l.money l.tallies) (position_in x.a.symbol l.money)) (seen_by c.in-Ok.seen) c.in-Ok.ensures in
+    let h = done_lends x.a l k.0 in
+    (h.words, h.ints)
 
-pub returns : goal.returns
-returns c =
+pub returns-in-Ok : goal.returns-in-Ok
+returns-in-Ok c =
     let x = c.args in
     let l : Slots = slots x.money.now x.tallies.now x.words.now x.ints.now in
-    let cash : SFits w64 c.book_of-b.result.cash = search rules in
-    let e = simp (to_z-of_z cash) at c.refusal-answer.ensures in
-    let n = number_is x.a l c.book_of-b.ensures c.position_in-p.ensures e c.word-number.ensures in
-    let v = seen-is x.a l c.book_of-b.ensures c.position_in-p.ensures c.fill_alone-seen.result c.fill_alone-seen.ensures in
-    ap (λ (n : ℕ). fill_told n (slots c.put_money.new.money c.put_tallies.new.tallies c.keep.new.words c.keep.new.ints)) c.counting.ensures
-    ∙ ap (fill_told (counting (records_of c.fill_alone-seen.result.filled))) (same-slots c.put_money.ensures c.put_tallies.ensures c.keep.ensures.0 c.keep.ensures.1)
-    ∙ ap (λ (v : Sight). told_of v l) v
-    ∙ done_as_filled x.a l c.if-money-ne6.false c.if-tallies-ne2.false c.word-number.result n c.if-number-ne0.false
+    let k = seen_done (answer_to x.a l) (seen_after x.a (book_of l.money l.tallies) (position_in x.a.symbol l.money)) (seen_by c.in-Ok.seen) c.in-Ok.ensures in
+    ap (λ (n : ℕ). fill_told n (slots c.copy_from_slice.new.self c.copy_from_slice-in-Ok.new.self c.keep.new.words c.keep.new.ints)) c.counting.ensures
+    ∙ ap (fill_told (counting (records_of c.in-Ok.seen.filled))) (same-slots (c.copy_from_slice.ensures.after ∙ c.money_of.ensures) c.copy_from_slice-in-Ok.ensures.after c.keep.ensures.0 c.keep.ensures.1)
+    ∙ ap (λ (v : Sight). told_of v l) k.1
+    ∙ done_as_filled x.a l k.0
+
+pub returns-in-Err : goal.returns-in-Err
+returns-in-Err c =
+    let x = c.args in
+    let l : Slots = slots x.money.now x.tallies.now x.words.now x.ints.now in
+    let k = seen_refused (answer_to x.a l) (seen_after x.a (book_of l.money l.tallies) (position_in x.a.symbol l.money)) c.in-Err.answer c.in-Err.ensures in
+    ap (λ (n : ℕ). fill_told n l) (c.word.ensures ∙ ap word_of k.1) ∙ refused_as_found x.a l k.0

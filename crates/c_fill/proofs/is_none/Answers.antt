@@ -6,7 +6,7 @@ use borrow.Author.Rules.{rules}
 use Rattle.position.proofs.Counts.{zero_bits}
 use Rattle.c_fill.proofs.is_none.Goals as goal
 
-pub returns : goal.returns
-returns c =
+pub returns-then-is_zero : goal.returns-then-is_zero
+returns-then-is_zero c =
     let f : SFits w64 c.args.p.realized_pnl = search rules in
-    rw (sym c.is_zero.ensures ∙ c.if-not-is_zero.false) (zero_bits c.args.p.realized_pnl f)
+    rw (sym c.is_zero.ensures ∙ c.if-is_zero.true) (zero_bits c.args.p.realized_pnl f)

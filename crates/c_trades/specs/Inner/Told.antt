@@ -1,5 +1,6 @@
 -- What a call over bytes leaves, of records in number slices.
-use Rattle.std.specs.Prelude.{ℕ, ◌*◌, List, ℤ}
+use Rattle.std.specs.Prelude.{ℕ, ◌*◌, List, ℤ, Result, Ok, Err}
+use Rattle.answer.specs.declared.Answer.{Answer}
 use Rattle.answer.specs.Places.{word_of}
 use Rattle.table.specs.Keyed.{pick}
 use Rattle.account_bytes.specs.Account.{written_account}
@@ -13,3 +14,8 @@ finished t ws is b rs =
     pick (is_done t.answer)
     (tell_trade (256 * t.records) (written_account t.account b) (written_records ws is t.records rs))
     (tell_trade (word_of t.answer) b rs)
+
+-- the word that C is told: of a call that was done, or of its refusal
+abbrev pub word_by : Result ℕ Answer → ℕ
+word_by (Ok word) = word
+word_by (Err answer) = word_of answer

@@ -1,40 +1,31 @@
--- What the loops leave is the paper's report, or its refusal.
-use Rattle.std.proofs.Common.{◌≡◌, sym, ◌∙◌, w64, to_z, of_z, rules}
-use borrow.Author.Tests.{not-true, not-false}
+-- The sums that are there give the report or its refusal.
+use Rattle.std.proofs.Common.{◌≡◌, sym, ◌∙◌, w64, Err, rules}
+use Rattle.std.proofs.lemmas.Option.{MatchOption-at_none, MatchOption-at_some}
 use mir.ValLaws.{to_z-of_z}
-use Rattle.house.proofs.Reporting.{all_fit, out_of_range, positive_is, no_first-sum, reported}
+use Rattle.answer.specs.declared.Answer.TheVariants.{OutOfRange, NoFirstSum}
+use Rattle.house.specs.Places.{group_in}
+use Rattle.house.specs.Inner.Given.{reported}
+use Rattle.house.proofs.Reporting.{out_of_range, no_first-sum, report_is}
 use Rattle.house.proofs.report_of.Goals as goal
 
-pub returns-then-not-fits : goal.returns-then-not-fits
-returns-then-not-fits c =
-    let s = c.sum_parts-sums in
-    let t = c.sum_accounts-totals in
-    let g = c.sum_group-group in
-    let inside = all_fit c.args.n c.args.m _ _ c.requires.0 c.requires.1 s.result s.ensures t.result t.ensures g.result g.ensures in
-    c.refused.ensures ∙ out_of_range c.args.n c.args.m _ _ c.requires.0 c.requires.1 s.result s.ensures t.result t.ensures g.result g.ensures (sym inside ∙ c.if-not-fits.true)
+pub returns-in_err-change : goal.returns-in_err-change
+returns-in_err-change c =
+    let s = MatchOption-at_some _ _ _ c.in_ok-firsts.ensures.ok_part c.sum_parts.ensures in
+    let e : Err OutOfRange ≡ reported c.args.n c.args.m (group_in c.args.n c.args.marks.now c.args.equities.now) =
+    out_of_range _ _ _ c.requires.1 c.in_ok-firsts.field-0 s (sym c.in_err-change.ensures.ok_part ∙ c.sum_group.ensures) in
+    search (rules, e)
 
-pub returns-then-not-grown : goal.returns-then-not-grown
-returns-then-not-grown c =
-    let s = c.sum_parts-sums in
-    let t = c.sum_accounts-totals in
-    let g = c.sum_group-group in
-    let w = c.grow-grown in
-    let inside = all_fit c.args.n c.args.m _ _ c.requires.0 c.requires.1 s.result s.ensures t.result t.ensures g.result g.ensures in
-    let e = sym inside ∙ c.if-not-fits.false in
-    let positive = positive_is c.args.n c.args.m _ _ c.requires.0 c.requires.1 s.result s.ensures t.result t.ensures g.result g.ensures e w.result w.ensures in
-    c.refused-then-not-grown.ensures
-    ∙ no_first-sum c.args.n c.args.m _ _ c.requires.0 c.requires.1 s.result s.ensures t.result t.ensures g.result g.ensures e w.result w.ensures
-    (sym positive ∙ not-true w.result.positive c.if-not-grown.true)
+pub returns-in_err-figure : goal.returns-in_err-figure
+returns-in_err-figure c =
+    let s = MatchOption-at_some _ _ _ c.in_ok-firsts.ensures.ok_part c.sum_parts.ensures in
+    let w = MatchOption-at_none _ _ c.in_err-figure.ensures.ok_part c.grow.ensures in
+    let e : Err NoFirstSum ≡ reported c.args.n c.args.m (group_in c.args.n c.args.marks.now c.args.equities.now) =
+    no_first-sum _ _ _ c.requires.1 c.in_ok-firsts.field-0 s _ (sym c.in_ok-change.ensures.ok_part ∙ c.sum_group.ensures) w in
+    search (rules, e)
 
 pub returns : goal.returns
 returns c =
-    let s = c.sum_parts-sums in
-    let t = c.sum_accounts-totals in
-    let g = c.sum_group-group in
-    let w = c.grow-grown in
-    let z : to_z w64 (of_z w64 g.result.value) ≡ g.result.value = to_z-of_z w64 _ (search rules) in
-    let inside = all_fit c.args.n c.args.m _ _ c.requires.0 c.requires.1 s.result s.ensures t.result t.ensures g.result g.ensures in
-    let e = sym inside ∙ c.if-not-fits.false in
-    let positive = positive_is c.args.n c.args.m _ _ c.requires.0 c.requires.1 s.result s.ensures t.result t.ensures g.result g.ensures e w.result w.ensures in
-    rw z (reported c.args.n c.args.m _ _ c.requires.0 c.requires.1 s.result s.ensures t.result t.ensures g.result g.ensures e w.result w.ensures
-    (sym positive ∙ not-false w.result.positive c.if-not-grown.false))
+    let s = MatchOption-at_some _ _ _ c.in_ok-firsts.ensures.ok_part c.sum_parts.ensures in
+    let w = MatchOption-at_some _ _ _ c.in_ok-figure.ensures.ok_part c.grow.ensures in
+    let z = to_z-of_z w64 c.in_ok-change.change (search rules) in
+    rw z (report_is _ _ _ c.requires.1 c.in_ok-firsts.field-0 s _ (sym c.in_ok-change.ensures.ok_part ∙ c.sum_group.ensures) c.in_ok-figure.field-0 w)

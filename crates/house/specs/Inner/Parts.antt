@@ -1,70 +1,61 @@
--- What the loops leave: sums of words in columns, and what they stand for where all that is finished is in i64.
-use Rattle.std.specs.Prelude.{◌≡◌, ℕ, ◌+◌, ◌^◌, ◌<◌, Bool, cond, ◌&&◌, List, length, ℤ, pos, FitsSigned, int_lt, nat_lt, slice_index_or}
+-- What the loops over parts and accounts leave, in the paper's terms. Definitions only.
+use Rattle.std.specs.Prelude.{◌≡◌, ℕ, ◌+◌, ◌/◌, ◌%◌, ◌^◌, ◌<◌, Bool, true, cond, ◌&&◌, Option, Some, None, List, length, ℤ, pos, ◌==◌, int_lt, nat_lt, slice_index_or}
 use Rattle.std.specs.Float.{binary64}
 use Rattle.std.specs.Float.Ieee.{sub}
-use Rattle.std.specs.Int.{w64}
-use Rattle.sums.specs.Wide.{wide}
+use Rattle.sums.specs.declared.Wide.{Wide}
+use Rattle.sums.specs.Wide.{value_of}
 use Rattle.metrics.specs.Double.{zero, one}
-use Rattle.house.specs.Group.{Ends, Group, first_of, change_of, in_i64, every, growth_of, product_to}
-use Rattle.house.specs.Places.{group_in, column}
-use Rattle.house.specs.Inner.Raised.{raised, last_of, moved, summed, ended, total_at}
-use Rattle.house.specs.declared.sum.Finished.{Finished}
+use Rattle.house.specs.Group.{Ends, Group, first_of, change_of, in_i64, every, growth_of, product_to, first_sum, summed_change, account_change, part_in_i64}
+use Rattle.house.specs.Places.{column}
+use Rattle.house.specs.Inner.Raised.{raised, lowered}
 use Rattle.house.specs.declared.entry.Entry.{Entry}
 use Rattle.house.specs.declared.part.Part.{Part}
 use Rattle.house.specs.declared.part.Parts.{Parts}
-use Rattle.house.specs.declared.total.Totals.{Totals}
 use Rattle.house.specs.declared.growth.Growths.{Growths}
 
--- both ends are numbers of an i64
-pub record Known (e : Ends) : Type 0 where
-  pub first : FitsSigned w64 (first_of e)
-  pub last : FitsSigned w64 (last_of e)
+-- one account in one part, where its change is in i64
+abbrev pub entered : Ends → Option Entry
+entered e = cond (in_i64 (change_of e)) (Some (record { first = first_of e; change = change_of e })) None
 
--- one account in one part
-pub record Entered (e : Ends) (r : Entry) : Type 0 where
-  pub first : r.first ≡ raised (first_of e)
-  pub change : r.change ≡ moved e
-  pub fits : r.fits ≡ in_i64 (change_of e)
-  pub known : Known e
+-- what a total in a column has come to
+abbrev pub total_at : List Wide → ℕ → ℕ
+total_at totals i = value_of (slice_index_or totals i (record { hi = 0; lo = 0 }))
 
--- two columns of words, with room for more in each sum
-pub record SumsWithRoom (hi lo : List ℕ) : Type 0 where
-  pub long_hi : length hi ≡ 32
-  pub long_lo : length lo ≡ 32
-  pub low : (i : ℕ) → i < 32 → total_at hi lo i < 2 ^ 96
+-- a column of totals, with room for more in each sum
+pub record SumsWithRoom (totals : List Wide) : Type 0 where
+  pub long : length totals ≡ 32
+  pub low : (i : ℕ) → i < 32 → total_at totals i < 2 ^ 96
 
--- a part of n accounts with these ends, and each account's total before and after it
-pub record Added (n : ℕ) (ends : ℕ → Ends) (r : Part) (hi₀ lo₀ hi lo : List ℕ) : Type 0 where
-  pub fits : r.fits ≡ every n (λ a. in_i64 (change_of (ends a)))
-  pub first : r.first ≡ wide (summed n (λ a. raised (first_of (ends a))))
-  pub gain : r.gain ≡ wide (summed n (λ a. moved (ends a)))
-  pub known : (a : ℕ) → a < n → Known (ends a)
-  pub long_hi : length hi ≡ 32
-  pub long_lo : length lo ≡ 32
-  pub totals : (i : ℕ) → i < 32 → total_at hi lo i ≡ total_at hi₀ lo₀ i + cond (nat_lt i n) (moved (ends i)) 0
+-- the part p of a group of n accounts, and each account's total before and after it
+pub record Added (n p : ℕ) (g : Group) (r : Part) (before after : List Wide) : Type 0 where
+  pub fits : part_in_i64 n g p ≡ true
+  pub first : r.first ≡ first_sum n g p
+  pub gain : r.gain ≡ summed_change n g p
+  pub long : length after ≡ 32
+  pub totals : (i : ℕ) → i < 32 → total_at after i ≡ total_at before i + cond (nat_lt i n) (raised (change_of (g p i))) 0
 
--- the sums of a part as they end
-abbrev pub first_ended : ℕ → Group → ℕ → Finished
-first_ended n g p = ended n (summed n (λ a. raised (first_of (g p a))))
+-- what is asked of parts and accounts
+abbrev pub in_range : ℕ → ℕ → Group → Bool
+in_range n m g = every m (part_in_i64 n g) && every n (λ a. in_i64 (account_change m g a))
 
-abbrev pub gain_ended : ℕ → Group → ℕ → Finished
-gain_ended n g p = ended n (summed n (λ a. moved (g p a)))
+pub record Summed (n m : ℕ) (g : Group) (r : Parts) : Type 0 where
+  pub fits : in_range n m g ≡ true
+  pub firsts : r.firsts ≡ column 64 (pos 0) m (first_sum n g)
+  pub gains : r.gains ≡ column 64 (pos 0) m (summed_change n g)
+  pub changes : r.changes ≡ column 32 (pos 0) n (account_change m g)
 
-abbrev pub part_fits_of : ℕ → Group → ℕ → Bool
-part_fits_of n g p = every n (λ a. in_i64 (change_of (g p a))) && ((first_ended n g p).fits && (gain_ended n g p).fits)
+-- the total of an account over m parts as it ends
+abbrev pub total_fits : ℕ → List Wide → ℕ → Bool
+total_fits m totals a = total_at totals a / 2 ^ 64 == m
 
-pub record Summed (n m : ℕ) (marks : List ℕ) (equities : List ℤ) (r : Parts) : Type 0 where
-  pub fits : r.fits ≡ every m (part_fits_of n (group_in n marks equities))
-  pub firsts : r.firsts ≡ column 64 (pos 0) m (λ p. (first_ended n (group_in n marks equities) p).value)
-  pub gains : r.gains ≡ column 64 (pos 0) m (λ p. (gain_ended n (group_in n marks equities) p).value)
-  pub known : (p a : ℕ) → p < m → a < n → Known (group_in n marks equities p a)
-  pub totals : (a : ℕ) → a < n → total_at r.hi r.lo a ≡ summed m (λ p. moved (group_in n marks equities p a))
+pub record Totalled (n m : ℕ) (totals : List Wide) (r : List ℤ) : Type 0 where
+  pub fits : every n (total_fits m totals) ≡ true
+  pub changes : r ≡ column 32 (pos 0) n (λ a. lowered (total_at totals a % 2 ^ 64))
 
-pub record Totalled (n m : ℕ) (hi lo : List ℕ) (r : Totals) : Type 0 where
-  pub fits : r.fits ≡ every n (λ a. (ended m (total_at hi lo a)).fits)
-  pub changes : r.changes ≡ column 32 (pos 0) n (λ a. (ended m (total_at hi lo a)).value)
+abbrev pub is_positive : List ℤ → ℕ → Bool
+is_positive firsts p = int_lt (pos 0) (slice_index_or firsts p (pos 0))
 
 pub record Grown (m : ℕ) (firsts gains : List ℤ) (r : Growths) : Type 0 where
-  pub positive : r.positive ≡ every m (λ p. int_lt (pos 0) (slice_index_or firsts p (pos 0)))
+  pub positive : every m (is_positive firsts) ≡ true
   pub figure : r.figure ≡ sub binary64 (product_to m (λ p. growth_of (slice_index_or gains p (pos 0)) (slice_index_or firsts p (pos 0)))) one
   pub growths : r.growths ≡ column 64 zero m (λ p. growth_of (slice_index_or gains p (pos 0)) (slice_index_or firsts p (pos 0)))

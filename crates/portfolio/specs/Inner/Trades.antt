@@ -1,7 +1,8 @@
 -- A run of orders on an account, and on a ledger with lent columns.
 use Rattle.std.specs.Prelude.{ℕ, ◌≡◌, true, List, length, ℤ}
 use Rattle.answer.specs.declared.Answer.TheVariants.{Done}
-use Rattle.table.specs.Rows.{Cols, columns_of, Full}
+use Rattle.table.specs.Rows.{columns_of, Full}
+use Rattle.table.specs.declared.table.Columns.{Columns}
 use Rattle.fills.specs.declared.terms.Book.{Book}
 use Rattle.fills.specs.declared.terms.Order.{Order}
 use Rattle.fills.specs.declared.record.ExecutionKind.{ExecutionKind}
@@ -30,7 +31,7 @@ after_orders a os period kind orders traded = record {
 
 -- ---- the same on lent columns
 -- what a call on a ledger answers, with the columns as it leaves them
-abbrev pub traded_on : Ran → Cols → Traded
+abbrev pub traded_on : Ran → Columns → Traded
 traded_on r c = record { answer = r.answer; records = r.records; account = account_with r.ledger c }
 
 abbrev pub book_of_ledger : Ledger → Book

@@ -1,11 +1,13 @@
 -- What the walks over an account's places answer, place by place.
 use Rattle.std.specs.Prelude.{ℕ, ◌+◌, ◌<◌, ◌≡◌, List, length, get_or, set, ℤ, pos, Float}
+use Rattle.std.specs.Prelude.{Option, Some, None}
+use Rattle.std.proofs.Math.Option as M
 use Rattle.std.specs.Float.{binary64}
 use Rattle.std.specs.Float.Ieee.{div}
-use Rattle.answer.specs.declared.Answer.TheVariants.{Done}
 use Rattle.sums.specs.Sums.{value}
 use Rattle.doubles.specs.Doubles.{of_i64}
 use Rattle.position.specs.declared.position.Position.{Position}
+use Rattle.position.specs.declared.symbol.Symbol.{Symbol}
 use Rattle.position.specs.Rows.{key_of, fresh}
 use Rattle.table.specs.Keyed.{pick}
 use Rattle.table.specs.Inner.Keyed.{Rising}
@@ -14,9 +16,8 @@ use Rattle.call_lists.specs.Lists.{price_of}
 use Rattle.wanted.specs.Equity.{worth_from}
 use Rattle.queries.specs.declared.answered.Weighed.{Weighed}
 use Rattle.queries.specs.declared.sum.Sums.{Sums}
-use Rattle.queries.specs.declared.answered.Unpriced.{Unpriced}
 use Rattle.queries.specs.Queries.{open_ones, weigh, weights_of, first_unpriced, profit_from}
-use Rattle.queries.specs.Answers.{weighed, answered_unpriced}
+use Rattle.queries.specs.Answers.{weighed}
 
 -- ---- a column of prices
 -- the prices of the symbols at the first n places
@@ -32,8 +33,13 @@ abbrev pub PositionPrices : (ℕ → ℤ) → List Position → List ℤ → Typ
 PositionPrices price ps ls = (i : ℕ) → i < length ps → get_or ls i (pos 0) ≡ price (key_of (get_or ps i (fresh 0)))
 
 -- ---- walks over positions and a column of their prices
-pub record First (ps : List Position) (ls : List ℤ) (r : Unpriced) : Type 0 where
-  pub settled : (price : ℕ → ℤ) → PositionPrices price ps ls → r ≡ answered_unpriced Done (first_unpriced price ps)
+-- the number of a symbol that is told, if one is
+abbrev pub told_symbol : Option Symbol → M.Option ℕ
+told_symbol None = M.none
+told_symbol (Some s) = M.some s.0
+
+pub record First (ps : List Position) (ls : List ℤ) (r : Option Symbol) : Type 0 where
+  pub settled : (price : ℕ → ℤ) → PositionPrices price ps ls → told_symbol r ≡ first_unpriced price ps
 
 pub record AddsUp (ps : List Position) (ls : List ℤ) (r : Sums) : Type 0 where
   pub worth : (price : ℕ → ℤ) → PositionPrices price ps ls → r.worth ≡ worth_from price (pos 0) ps

@@ -10,7 +10,7 @@ returns c =
     rw (
       c.u64_to_f64.ensures,
       c.i64_to_f64.ensures,
-      c.unsigned_abs.ensures,
+      c.unsigned_abs.ensures.value,
       read_back c.args.value c.ranges.value.sfits,
       read_back c.args.equity c.ranges.equity.sfits,
     )

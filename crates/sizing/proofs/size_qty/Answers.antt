@@ -14,7 +14,7 @@ returns c =
       k.ensures,
       c.shares_for-snapped.ensures,
       value_of-wide,
-      c.unsigned_abs.ensures,
+      c.unsigned_abs.ensures.value,
       c.above.ensures,
       c.above-2.ensures,
       read_back c.args.diff_value c.ranges.diff_value.sfits,

@@ -28,14 +28,14 @@ twice-one q d = add-mul (q + q) 1 d ∙ ap (λ (x : ℕ). (q + q) * d + x) (one-
 -- what holds after k bits holds after k + 1 of the next quotient and rest
 module _ (r n d q rest k : ℕ) (hk : k < 64) (hq : q < 2 ^ k) (e : q * d + rest ≡ r * 2 ^ k + n / 2 ^ (64 - k)) where
   one_more : (q' rest' : ℕ) → rest' < d → q' ≤ q + q + 1 → q' * d + rest' ≡ q * d + q * d + rest + rest + n / 2 ^ (63 - k) % 2
-      → (k + 1 ≤ 64) × (rest' < d) × (q' < 2 ^ (k + 1)) × (q' * d + rest' ≡ r * 2 ^ (k + 1) + n / 2 ^ (64 - (k + 1)))
-  one_more q' rest' hr hq' e' = (omega arith, hr, omega (arith, power k), omega (arith, shifted r k, next_bit n k hk))
+      → (rest' < d) × (q' < 2 ^ (k + 1)) × (q' * d + rest' ≡ r * 2 ^ (k + 1) + n / 2 ^ (64 - (k + 1)))
+  one_more q' rest' hr hq' e' = (hr, omega (arith, power k), omega (arith, shifted r k, next_bit n k hk))
 
 pub loop-k-preserved : goal.loop-k-preserved
 loop-k-preserved c =
     let l = c.loop-k in
     let a = c.args in
-    let next = one_more a.r a.n a.d l.quotient l.rest l.k c.loop-k-test.true l.invariant.2 l.invariant.3 c.if-next-room.quotient c.if-next-room.rest in
+    let next = one_more a.r a.n a.d l.quotient l.rest l.k c.loop-k-test.true l.invariant.1 l.invariant.2 c.if-next-room.quotient c.if-next-room.rest in
     elim c.if-next-room.branch [
       | then-next-room w ↦ next (omega arith) (omega arith) (omega (arith, ap (λ (x : ℕ). x * a.d) w.quotient-is ∙ twice-one l.quotient a.d))
       | else-next-room w ↦ next (omega arith) (omega arith) (omega (arith, ap (λ (x : ℕ). x * a.d) w.quotient-is ∙ twice l.quotient a.d))

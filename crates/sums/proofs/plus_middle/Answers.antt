@@ -1,5 +1,5 @@
 -- The low sum is below what was added exactly where it passed 2 ^ 64.
-use Rattle.std.proofs.Common.{◌≡◌, ℕ, ◌+◌, ◌*◌, ◌/◌, ◌%◌, ◌^◌, ◌<◌, ◌≤◌, arith}
+use Rattle.std.proofs.Common.{◌≡◌, ℕ, ◌+◌, ◌*◌, ◌/◌, ◌%◌, ◌^◌, ◌<◌, ◌≤◌, refl, arith}
 use Rattle.sums.specs.Wide.{value_of}
 use Rattle.sums.proofs.TwoWords.{words_of}
 use Rattle.sums.proofs.plus_middle.Goals as goal
@@ -17,15 +17,13 @@ module _ (hi lo middle sum : ℕ) (l : lo < 2 ^ 64) (e : sum ≡ (lo + middle % 
 pub returns-then-lo-low : goal.returns-then-lo-low
 unfolding value_of
 returns-then-lo-low c =
-    let l : c.args.w.lo < 2 ^ 64 = omega (arith, c.well_formed) in
-    let s = c.wrapping_add_u64-lo.result in
-    let e : s ≡ (c.args.w.lo + c.args.middle % 2 ^ 32 * 2 ^ 32) % 2 ^ 64 = c.wrapping_add_u64-lo.ensures.value in
-    (words_of _ _ _ (sum_lt c.args.w.hi c.args.w.lo c.args.middle s l e) (carried c.args.w.hi c.args.w.lo c.args.middle s l e c.if-lo-low.true), omega arith)
+    let w = c.args.w in
+    let l : w.lo < 2 ^ 64 = omega (arith, c.well_formed) in
+    (words_of _ _ _ (sum_lt w.hi w.lo c.args.middle _ l refl) (carried w.hi w.lo c.args.middle _ l refl c.if-lo-low.true), omega arith)
 
 pub returns-else-lo-low : goal.returns-else-lo-low
 unfolding value_of
 returns-else-lo-low c =
-    let l : c.args.w.lo < 2 ^ 64 = omega (arith, c.well_formed) in
-    let s = c.wrapping_add_u64-lo.result in
-    let e : s ≡ (c.args.w.lo + c.args.middle % 2 ^ 32 * 2 ^ 32) % 2 ^ 64 = c.wrapping_add_u64-lo.ensures.value in
-    (words_of _ _ _ (sum_lt c.args.w.hi c.args.w.lo c.args.middle s l e) (not_carried c.args.w.hi c.args.w.lo c.args.middle s l e c.if-lo-low.false), omega arith)
+    let w = c.args.w in
+    let l : w.lo < 2 ^ 64 = omega (arith, c.well_formed) in
+    (words_of _ _ _ (sum_lt w.hi w.lo c.args.middle _ l refl) (not_carried w.hi w.lo c.args.middle _ l refl c.if-lo-low.false), omega arith)

@@ -9,7 +9,7 @@ pub returns-then-product-eq0 : goal.returns-then-product-eq0
 returns-then-product-eq0 c =
     let a = c.args in
     let w = one_word c.mul_wide-product.result (a.q * a.p) c.mul_wide-product.ensures c.if-product-eq0.true in
-    let e : c.scale_word-word.result.quotient ≡ a.q * a.p / SCALE = c.scale_word-word.ensures.0 ∙ ap (λ (x : ℕ). x / SCALE) w.0 in
+    let e : c.scale_word.result.quotient ≡ a.q * a.p / SCALE = c.scale_word.ensures.0 ∙ ap (λ (x : ℕ). x / SCALE) w.0 in
     words_of 0 _ _ (omega (arith, w.0, w.1, e, div-le_self (a.q * a.p) SCALE)) (zero-add _ ∙ e)
 
 pub returns : goal.returns

@@ -6,26 +6,27 @@ use Rattle.table.specs.Keyed.{pick, both, put64}
 use Rattle.table.specs.Inner.Keyed.{Rising}
 use Rattle.table.specs.declared.found.Found.{Found}
 use Rattle.table.specs.declared.found.Found.TheVariants.{At, Absent}
-use Rattle.table.specs.Rows.{Cols, cols, zipped, rows, Full, row_at}
+use Rattle.table.specs.Rows.{cols, zipped, rows, Full, row_at}
+use Rattle.table.specs.declared.table.Columns.{Columns}
 
 -- "positions .. strictly ascending, unused places zero", as a fact
-pub record Ordered (n : ℕ) (c : Cols) : Type 0 where
+pub record Ordered (n : ℕ) (c : Columns) : Type 0 where
   pub small : n ≤ 64
   pub full : Full c
   pub rising : Rising (take n c.symbol)
   pub rest : drop n (zipped c) ≡ replicate (64 - n) (fresh 0)
 
 -- (n, c) to (r, d): p is put into the list, and the columns stay ordered
-pub record Puts (p : Position) (n : ℕ) (c : Cols) (r : ℕ) (d : Cols) : Type 0 where
+pub record Puts (p : Position) (n : ℕ) (c : Columns) (r : ℕ) (d : Columns) : Type 0 where
   pub ordered : Ordered r d
   pub same : rows r d ≡ put64 key_of p (rows n c)
 
 -- ---- what the functions on columns do, whatever the columns hold
 pub record CountedCols : Type 0 where
   pub count : ℕ
-  pub columns : Cols
+  pub columns : Columns
 
-abbrev pub counted_cols : ℕ → Cols → CountedCols
+abbrev pub counted_cols : ℕ → Columns → CountedCols
 counted_cols n c = record { count = n; columns = c }
 
 -- v goes to i, m elements move up by one, and the next one is lost
@@ -43,13 +44,13 @@ opened (suc i) m v (x ∷ l) = x ∷ opened i m v l
 unfoldable pub opened_at : {A : Type 0} → ℕ → ℕ → A → List A → List A
 opened_at i n v l = pick (both (ltb n 64) (leb i n)) (opened i (n - i) v l) l
 
-abbrev pub set_all : ℕ → Position → Cols → Cols
+abbrev pub set_all : ℕ → Position → Columns → Columns
 set_all i p c = cols (set c.symbol i p.symbol.0) (set c.quantity i p.quantity.0) (set c.average i p.avg_entry_price) (set c.realized i p.realized_pnl) (set c.total i p.total_cost)
 
-abbrev pub open_all : ℕ → ℕ → Position → Cols → Cols
+abbrev pub open_all : ℕ → ℕ → Position → Columns → Columns
 open_all i m p c = cols (opened i m p.symbol.0 c.symbol) (opened i m p.quantity.0 c.quantity) (opened i m p.avg_entry_price c.average) (opened i m p.realized_pnl c.realized) (opened i m p.total_cost c.total)
 
-abbrev pub held_at : Found → ℕ → Cols → Position
+abbrev pub held_at : Found → ℕ → Columns → Position
 held_at (At i) s c = pick (ltb i 64) (row_at i c) (fresh s)
 held_at (Absent i) s c = fresh s
 

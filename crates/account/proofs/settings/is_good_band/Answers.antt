@@ -4,14 +4,10 @@ use lib.Ieee.{of_bits}
 use Rattle.cost_model.specs.Costs.{good_rate}
 use Rattle.account.proofs.settings.is_good_band.Goals as goal
 
-pub returns-then-not-is_finite : goal.returns-then-not-is_finite
-unfolding good_rate
-returns-then-not-is_finite c =
-    let t = sym c.is_finite.ensures ∙ c.if-not-is_finite.true in
-    simp t
-
-pub returns : goal.returns
+pub returns-then-is_finite : goal.returns-then-is_finite
 unfolding good_rate of_bits
-returns c =
-    let t = sym c.is_finite.ensures ∙ c.if-not-is_finite.false in
-    simp t
+returns-then-is_finite c = let t = sym c.is_finite.ensures ∙ c.if-is_finite.true in simp t
+
+pub returns-else-is_finite : goal.returns-else-is_finite
+unfolding good_rate
+returns-else-is_finite c = let t = sym c.is_finite.ensures ∙ c.if-is_finite.false in simp t c.if-is_finite.false

@@ -3,7 +3,8 @@ use mathlib.Core.Path.{◌≡◌, refl, sym, ap, ◌∙◌}
 use mathlib.Core.Bool.{true, false}
 use native.Mathlib.Omega.{arith}
 use Rattle.position.specs.Fills.{sound}
-use Rattle.table.specs.Rows.{Cols, cols}
+use Rattle.table.specs.Rows.{cols}
+use Rattle.table.specs.declared.table.Columns.{Columns}
 use Rattle.table.specs.Inner.Rows.{held_at}
 use Rattle.table.specs.declared.found.Found.TheVariants.{At}
 use Rattle.account.specs.Account.{sound_places}
@@ -12,19 +13,19 @@ use Rattle.account.proofs.soundness.sound_positions.Goals as goal
 
 pub loop-i-init : goal.loop-i-init
 unfolding sound_places
-loop-i-init c = (omega arith, refl)
+loop-i-init c = refl
 
 pub returns-then-not-is_sound : goal.returns-then-not-is_sound
 returns-then-not-is_sound c =
     let h = c.loop-i-test.true in
-    let d : Cols = cols c.args.symbol.now c.args.quantity.now c.args.average.now c.args.realized.now c.args.total.now in
+    let d : Columns = c.args.columns.now in
     let e : sound (held_at (At c.loop-i.i) 0 d) ≡ false =
     sym (ap sound c.held-p.ensures) ∙ sym c.is_sound.ensures ∙ c.if-not-is_sound.true in
     sym (sound_not c.loop-i.i d (omega arith) e c.args.n h)
 
 pub loop-i-preserved : goal.loop-i-preserved
 loop-i-preserved c =
-    let d : Cols = cols c.args.symbol.now c.args.quantity.now c.args.average.now c.args.realized.now c.args.total.now in
+    let d : Columns = c.args.columns.now in
     let e : sound (held_at (At c.loop-i.i) 0 d) ≡ true =
     sym (ap sound c.held-p.ensures) ∙ sym c.is_sound.ensures ∙ c.if-not-is_sound.false in
-    (omega arith, sound_on c.loop-i.i d (omega arith) c.loop-i.invariant.1 e)
+    sound_on c.loop-i.i d (omega arith) c.loop-i.invariant e

@@ -7,9 +7,9 @@ pub returns : goal.returns
 unfolding table_from account_of
 returns c =
     simp (
-      kept (record { sfits = c.number_at-cash.type_inv }) c.number_at-cash.ensures,
-      c.settings_at-settings.ensures,
-      c.counters_of-counters.ensures,
-      c.series_of-series.ensures,
-      c.word_at-count.ensures,
+      kept (record { sfits = c.value_at.type_inv }) c.value_at.ensures,
+      c.settings_at.ensures,
+      c.counters_of.ensures,
+      c.series_of.ensures,
+      c.word_at.ensures,
     )

@@ -27,7 +27,7 @@ pub returns : goal.returns
 unfolding written_account
 returns c =
     let g = c.args in
-    let a = account_with g.h (cols g.symbol.now g.quantity.now g.average.now g.realized.now g.total.now) in
+    let a = account_with g.h g.columns.now in
     let l = c.args.bytes.now in
     let n : length l ≡ account_length = c.if-bytes-ne-ACCOUNT_BYTES.false in
     let f : SFits w64 a.cash = search rules in
@@ -35,9 +35,9 @@ returns c =
     let m : length (words_of l) ≡ account_size = length-words (length l / 8) l ∙ omega arith in
     let e1 : words_of c.put_word.new.bytes ≡ set (words_of l) 0 (unsigned_of a.cash) =
     ap words_of c.put_word.ensures ∙ words-put l 0 c.unsigned.result c.unsigned.type_inv ∙ ap (set (words_of l) 0) (stored f c.unsigned.ensures) in
-    let e2 = c.put_words.ensures ∙ ap (sets (words_of c.put_word.new.bytes) settings_from) c.settings_words-settings.ensures in
-    let e3 = c.put_words-2.ensures ∙ ap (sets (words_of c.put_words.new.bytes) counters_from) c.counter_words-counters.ensures in
-    let e4 = c.put_words-3.ensures ∙ ap (sets (words_of c.put_words-2.new.bytes) series_from) c.series_words-series.ensures in
+    let e2 = c.put_words.ensures ∙ ap (sets (words_of c.put_word.new.bytes) settings_from) c.settings_words.ensures in
+    let e3 = c.put_words-2.ensures ∙ ap (sets (words_of c.put_words.new.bytes) counters_from) c.counter_words.ensures in
+    let e4 = c.put_words-3.ensures ∙ ap (sets (words_of c.put_words-2.new.bytes) series_from) c.series_words.ensures in
     let e5 : words_of c.put_word-2.new.bytes ≡ set (words_of c.put_words-3.new.bytes) count_at_of g.h.count =
     ap words_of c.put_word-2.ensures ∙ words-put c.put_words-3.new.bytes count_at_of g.h.count k in
     let counts = counts_put g.h.counters g.h.series g.h.count (words_of c.put_words.new.bytes) (words_of c.put_words-2.new.bytes) (words_of c.put_words-3.new.bytes)

@@ -19,6 +19,6 @@ returns c =
     let t = c.args.s in
     let l = c.args.bytes.now in
     let m = c.put_words.new.bytes in
-    let w = c.put_words.ensures ∙ ap (sets (words_of l) series_from) c.series_words-words.ensures in
+    let w = c.put_words.ensures ∙ ap (sets (words_of l) series_from) c.series_words.ensures in
     series-written t l m (octets l (search rules)) (octets m (search rules))
     (sym c.is_account.ensures ∙ c.if-not-is_account.false) (omega (arith, c.put_words.auto.bytes)) w

@@ -12,9 +12,9 @@ unfolding read_columns account_of table_from
 returns c =
     simp (
       eq-eqb _ _ c.if-bytes-ne-ACCOUNT_BYTES.false,
-      c.read_symbols.ensures,
-      c.read_numbers.ensures,
-      c.read_numbers-2.ensures,
-      c.read_numbers-3.ensures,
-      c.read_numbers-4.ensures,
+      c.read_column.ensures,
+      c.read_column-2.ensures,
+      c.read_column-3.ensures,
+      c.read_column-4.ensures,
+      c.read_column-5.ensures,
     )

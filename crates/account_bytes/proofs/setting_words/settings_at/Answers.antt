@@ -7,15 +7,15 @@ pub returns : goal.returns
 unfolding settings_at
 returns c =
     simp (
-      c.costs_at-cost_model.ensures,
+      c.costs_at.ensures,
+      kept (record { sfits = c.value_at.type_inv }) c.value_at.ensures,
+      kept (record { sfits = c.value_at-2.type_inv }) c.value_at-2.ensures,
+      kept (record { sfits = c.value_at-3.type_inv }) c.value_at-3.ensures,
+      c.value_at-4.ensures,
+      c.cap_of.ensures,
       c.word_at-mark.ensures,
       c.word_at-count.ensures,
-      kept (record { sfits = c.number_at.type_inv }) c.number_at.ensures,
-      kept (record { sfits = c.number_at-2.type_inv }) c.number_at-2.ensures,
-      kept (record { sfits = c.number_at-3.type_inv }) c.number_at-3.ensures,
-      c.rate_at.ensures,
-      c.cap_of.ensures,
-      kept (record { sfits = c.number_at-4.type_inv }) c.number_at-4.ensures,
+      kept (record { sfits = c.value_at-5.type_inv }) c.value_at-5.ensures,
       c.word_at.ensures,
       c.word_at-2.ensures,
     )

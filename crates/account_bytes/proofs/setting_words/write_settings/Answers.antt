@@ -24,7 +24,7 @@ returns c =
     let s = c.args in
     let l = s.bytes.now in
     let n : length l ≡ settings_length = c.if-bytes-ne-SETTINGS_BYTES.false in
-    let r : c.settings_words-words.result ≡ settings_words s.s = c.settings_words-words.ensures in
+    let r : c.settings_words.result ≡ settings_words s.s = c.settings_words.ensures in
     let m : length (words_of l) ≡ length (settings_words s.s) = length-words (length l / 8) l ∙ omega (arith, length-settings s.s) in
     let w : words_of c.put_words.new.bytes ≡ settings_words s.s = c.put_words.ensures ∙ ap (sets (words_of l) 0) r ∙ sets_all (words_of l) (settings_words s.s) m in
     simp (eq-eqb _ _ n) (bytes_are settings_size c.put_words.new.bytes (settings_words s.s)

@@ -33,7 +33,7 @@ loop-i-init c =
     let most : SFits w64 a.s.max_rebalance_notional = search rules in (
       omega arith,
       omega (arith, u.ensures, shorter-within a.n 64),
-      c.whole_numbers.ensures,
+      c.told-quantity,
       refl,
       λ k d. simp (to_z-of_z most) (admit_start a.s a.n u.result (plan_cols k a.quantity.now a.price.now d) u.ensures),
     )
@@ -46,7 +46,7 @@ returns-in-Part c =
     let x : SFits w64 (get_or l.quantity i (pos 0)) = search rules in
     let y : SFits w64 (get_or a.price.now i (pos 0)) = search rules in
     let left = to_z w64 l.left-bits in
-    let told = offer-is a.s i left l.quantity a.quantity.now a.price.now c.from_raw.result c.offer-o.result x y l.invariant.3 c.from_raw.ensures c.offer-o.ensures in
+    let told = offer-is a.s i left l.quantity a.quantity.now a.price.now c.from_raw.result c.offer.result x y l.invariant.3 c.from_raw.ensures c.offer.ensures in
     let w : SFits w64 c.raw.result = search rules in
     λ k e.
     ap (λ q. counted_plan (i + 1) (plan_cols k (set q i (to_z w64 (of_z w64 c.raw.result))) a.price.now e)) l.invariant.3
@@ -63,7 +63,7 @@ returns-in-Ends c =
     let x : SFits w64 (get_or l.quantity i (pos 0)) = search rules in
     let y : SFits w64 (get_or a.price.now i (pos 0)) = search rules in
     let left = to_z w64 l.left-bits in
-    let told = offer-is a.s i left l.quantity a.quantity.now a.price.now c.from_raw.result c.offer-o.result x y l.invariant.3 c.from_raw.ensures c.offer-o.ensures in
+    let told = offer-is a.s i left l.quantity a.quantity.now a.price.now c.from_raw.result c.offer.result x y l.invariant.3 c.from_raw.ensures c.offer.ensures in
     λ k e.
     ap (λ q. counted_plan i (plan_cols k q a.price.now e)) l.invariant.3
     ∙ cut_whole a.s a.n k a.quantity.now a.price.now e i l.invariant.2 (omega arith)
@@ -77,7 +77,7 @@ loop-i-preserved c =
     let x : SFits w64 (get_or l.quantity i (pos 0)) = search rules in
     let y : SFits w64 (get_or a.price.now i (pos 0)) = search rules in
     let left = to_z w64 l.left-bits in
-    let told = offer-is a.s i left l.quantity a.quantity.now a.price.now c.from_raw.result c.offer-o.result x y l.invariant.3 c.from_raw.ensures c.offer-o.ensures in
+    let told = offer-is a.s i left l.quantity a.quantity.now a.price.now c.from_raw.result c.offer.result x y l.invariant.3 c.from_raw.ensures c.offer.ensures in
     let rest : SFits w64 c.in-Whole.rest = search rules in (
       omega arith,
       l.invariant.1,

@@ -14,6 +14,3 @@ invariant-loop-i l =
     × ((k : List ℕ) (d : List Float)
     → from (order_at (plan_cols k l.initial.quantity l.price d)) 0 l.i ++ admitted_from l.s l.i l.left (from (order_at (plan_cols k l.initial.quantity l.price d)) l.i (l.m - l.i))
     ≡ admitted l.s (plans l.n (plan_cols k l.initial.quantity l.price d)))
-
-abbrev pub decreases-loop-i : goal.decreases-loop-i
-decreases-loop-i l = l.m - l.i

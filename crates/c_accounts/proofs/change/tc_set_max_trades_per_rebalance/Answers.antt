@@ -1,14 +1,15 @@
--- The setter of the account, filed where a mark and its cap are given.
-use mathlib.Core.Path.{ap, ◌∙◌}
+-- The setter of the account, filed where what is given is a mark or a flag.
+use mathlib.Core.Path.{◌≡◌}
+use borrow.Author.Rules.{rules}
 use Rattle.account.specs.Calls.{changed}
 use Rattle.account.specs.Settings.{with_trade_cap}
-use Rattle.account.specs.declared.settings.TradeCap.{TradeCap}
 use Rattle.account_bytes.specs.Settings.{cap_of}
+use Rattle.c_accounts.specs.Entries.{account_in, settings_in}
 use Rattle.c_accounts.proofs.Filing.{set-done}
 use Rattle.c_accounts.proofs.change.tc_set_max_trades_per_rebalance.Goals as goal
 
 pub returns : goal.returns
 returns c =
-    let s = c.args in
-    let e = c.set_max_trades_per_rebalance-c.ensures ∙ ap (λ (x : TradeCap). changed (with_trade_cap x c.account_in-a.result.settings) c.account_in-a.result) c.cap_of.ensures in
-    set-done (with_trade_cap (cap_of s.mark s.cap)) s.account.now c.account_in-a.ensures e c.is_cap.ensures c.file.ensures
+    let b = c.args.account.now in
+    let e : c.change.ensures.0 ≡ changed (with_trade_cap (cap_of c.args.mark c.args.cap) (settings_in b)) (account_in b) = search rules in
+    set-done (with_trade_cap (cap_of c.args.mark c.args.cap) (settings_in b)) b e c.is_cap.ensures c.change.ensures.2

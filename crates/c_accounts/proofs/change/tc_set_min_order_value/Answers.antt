@@ -1,8 +1,14 @@
 -- The setter of the account, filed.
+use mathlib.Core.Path.{◌≡◌, refl}
+use borrow.Author.Rules.{rules}
+use Rattle.account.specs.Calls.{changed}
 use Rattle.account.specs.Settings.{with_min_order}
-use Rattle.c_accounts.proofs.Filing.{set-number-done}
+use Rattle.c_accounts.specs.Entries.{account_in, settings_in}
+use Rattle.c_accounts.proofs.Filing.{set-done}
 use Rattle.c_accounts.proofs.change.tc_set_min_order_value.Goals as goal
 
 pub returns : goal.returns
 returns c =
-    set-number-done with_min_order _ c.ranges.cents c.account_in-a.ensures c.set_min_order_value-c.ensures c.file.ensures
+    let b = c.args.account.now in
+    let e : c.change.ensures.0 ≡ changed (with_min_order c.args.cents (settings_in b)) (account_in b) = search rules in
+    set-done (with_min_order c.args.cents (settings_in b)) b e refl c.change.ensures.2

@@ -1,9 +1,14 @@
 -- The setter of the account, filed.
-use mathlib.Core.Path.{refl}
+use mathlib.Core.Path.{◌≡◌, refl}
+use borrow.Author.Rules.{rules}
+use Rattle.account.specs.Calls.{changed}
 use Rattle.account.specs.Settings.{with_band}
+use Rattle.c_accounts.specs.Entries.{account_in, settings_in}
 use Rattle.c_accounts.proofs.Filing.{set-done}
 use Rattle.c_accounts.proofs.change.tc_set_no_trade_band_bps.Goals as goal
 
 pub returns : goal.returns
 returns c =
-    set-done (with_band c.args.bps) c.args.account.now c.account_in-a.ensures c.set_no_trade_band_bps-c.ensures refl c.file.ensures
+    let b = c.args.account.now in
+    let e : c.change.ensures.0 ≡ changed (with_band c.args.bps (settings_in b)) (account_in b) = search rules in
+    set-done (with_band c.args.bps (settings_in b)) b e refl c.change.ensures.2

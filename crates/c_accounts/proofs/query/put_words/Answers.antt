@@ -13,15 +13,12 @@ pub loop-i-preserved : goal.loop-i-preserved
 loop-i-preserved c =
     let s = c.args in
     let w = get_or s.words.now c.loop-i.i 0 in
-    let z : c.loop-i.i ≡ 0 + c.loop-i.i = omega arith in (
-      omega arith,
-      omega (arith, c.put_word.auto.bytes),
-      write_on c.loop-i.out c.put_word.new.bytes s.words.now 0 c.loop-i.i w (omega arith)
-          (c.put_word.ensures ∙ ap (λ (k : ℕ). put_word c.loop-i.out k w) z) refl (omega (arith, c.type_inv.words c.loop-i.i)) ∙ c.loop-i.invariant.2,
-    )
+    let z : c.loop-i.i ≡ 0 + c.loop-i.i = omega arith in
+    write_on c.loop-i.out c.put_word.new.bytes s.words.now 0 c.loop-i.i w (omega arith)
+    (c.put_word.ensures ∙ ap (λ (k : ℕ). put_word c.loop-i.out k w) z) refl (omega (arith, c.type_inv.words c.loop-i.i)) ∙ c.loop-i.invariant
 
 pub returns : goal.returns
 returns c =
     let s = c.args in
     let o = s.out.now in
-    write-ends c.loop-i.out s.words.now _ _ c.loop-i.i (omega arith) c.loop-i.invariant.2 ∙ sets_all (words_of o) s.words.now (length-words (length o / 8) o ∙ omega arith)
+    write-ends c.loop-i.out s.words.now _ _ c.loop-i.i (omega arith) c.loop-i.invariant ∙ sets_all (words_of o) s.words.now (length-words (length o / 8) o ∙ omega arith)

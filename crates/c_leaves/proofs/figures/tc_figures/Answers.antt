@@ -9,19 +9,20 @@ use Rattle.metrics.specs.Answers.{metrics_of}
 use borrow.Author.Tests.{eq-eqb, ne_eqb}
 use Rattle.c_leaves.specs.Lent.{rates_of, counts_of, answer_to_figures, rates_after, counts_after}
 use Rattle.c_leaves.proofs.figures.tc_figures.Goals as goal
+use Rattle.c_leaves.proofs.figures.tc_figures.Goals.{then-rates-ne6-via-then-rates-ne6, then-rates-ne6-via-else-rates-ne6+then-counts-ne3}
 
 pub returns-then-rates-ne6 : goal.returns-then-rates-ne6
 unfolding answer_to_figures rates_after counts_after
 returns-then-rates-ne6 c =
-    let no = ne_eqb (length c.args.rates.now) 6 c.if-rates-ne6.true in
-    record { value = simp no; rates_after = simp no; counts_after = simp no }
-
-pub returns-then-counts-ne3 : goal.returns-then-counts-ne3
-unfolding answer_to_figures rates_after counts_after
-returns-then-counts-ne3 c =
-    let yes = eq-eqb (length c.args.rates.now) 6 c.if-rates-ne6.false in
-    let no = ne_eqb (length c.args.counts.now) 3 c.if-counts-ne3.true in
-    record { value = simp (yes, no); rates_after = simp (yes, no); counts_after = simp (yes, no) }
+    elim c.then-rates-ne6.branch [
+      | then-rates-ne6-via-then-rates-ne6 w ↦
+          let no = ne_eqb (length c.args.rates.now) 6 w.if-rates-ne6.true in
+          record { value = c.number.ensures ∙ simp no; rates_after = simp no; counts_after = simp no }
+      | then-rates-ne6-via-else-rates-ne6+then-counts-ne3 w ↦
+          let yes = eq-eqb (length c.args.rates.now) 6 w.if-rates-ne6.false in
+          let no = ne_eqb (length c.args.counts.now) 3 w.if-counts-ne3.true in
+          record { value = c.number.ensures ∙ simp (yes, no); rates_after = simp (yes, no); counts_after = simp (yes, no) }
+    ]
 
 pub returns-then-number-ne0 : goal.returns-then-number-ne0
 unfolding answer_to_figures rates_after counts_after

@@ -1,36 +1,28 @@
 -- What is refused before the query, and the query.
+use mathlib.Core.Path.{◌∙◌}
 use lib.Dec.{eqb}
 use lib.ListN.{length}
 use borrow.Author.Tests.{eqb-true}
-use mathlib.Core.Bool.{not}
-use mathlib.Core.Path.{ap, ◌∙◌}
 use Rattle.c_queries.specs.Reports.{unpriced_in}
-use Rattle.c_queries.proofs.Asking.{read, few-prices, has_room, refused_query, made_query}
+use Rattle.c_queries.proofs.Given.{prices-small}
+use Rattle.c_queries.proofs.Asking.{made, refused_query, made_query}
 use Rattle.c_queries.proofs.Telling.{unpriced_query}
 use Rattle.c_queries.proofs.unpriced.tc_unpriced_holding.Goals as goal
 
-pub returns-then-not-is_done : goal.returns-then-not-is_done
+pub returns-in-Err : goal.returns-in-Err
 unfolding unpriced_in
-returns-then-not-is_done c =
-    let s = c.args in
-    let r = read s.account.now s.prices.now (eqb (length s.out.now) 16) c.account_in-a.ensures c.read_prices-p.ensures c.early-answer.ensures in
-    refused_query (unpriced_query s.out.now) r c.is_done.ensures (ap not c.if-not-is_done.true) c.word.ensures
+returns-in-Err c =
+    let x = c.args in
+    refused_query (unpriced_query x.out.now) x.account.now x.prices.now (eqb (length x.out.now) 16) c.account_in-a.ensures c.in-Err.answer c.in-Err.ensures c.word.ensures
 
-pub unpriced_at_prices-u-requires : goal.unpriced_at_prices-u-requires
-unpriced_at_prices-u-requires c =
-    let s = c.args in
-    let r = read s.account.now s.prices.now (eqb (length s.out.now) 16) c.account_in-a.ensures c.read_prices-p.ensures c.early-answer.ensures in
-    few-prices r
+pub shared_ref_as_front-unpriced_holding : goal.shared_ref_as_front-unpriced_holding
+shared_ref_as_front-unpriced_holding c = prices-small c.args.prices.now (made c.account_in-a.result c.args.prices.now (eqb (length c.args.out.now) 16) c.in-Ok.p c.in-Ok.ensures).1
 
 pub put_unpriced-requires : goal.put_unpriced-requires
-put_unpriced-requires c =
-    let s = c.args in
-    let r = read s.account.now s.prices.now (eqb (length s.out.now) 16) c.account_in-a.ensures c.read_prices-p.ensures c.early-answer.ensures in
-    eqb-true _ _ (has_room r c.is_done.ensures (ap not c.if-not-is_done.false))
+put_unpriced-requires c = eqb-true _ _ (made c.account_in-a.result c.args.prices.now (eqb (length c.args.out.now) 16) c.in-Ok.p c.in-Ok.ensures).0
 
-pub returns : goal.returns
+pub returns-in-Ok : goal.returns-in-Ok
 unfolding unpriced_in
-returns c =
-    let s = c.args in
-    let r = read s.account.now s.prices.now (eqb (length s.out.now) 16) c.account_in-a.ensures c.read_prices-p.ensures c.early-answer.ensures in
-    c.put_unpriced.ensures ∙ made_query (unpriced_query s.out.now) r c.is_done.ensures (ap not c.if-not-is_done.false) c.unpriced_at_prices-u.ensures
+returns-in-Ok c =
+    let x = c.args in
+    c.put_unpriced.ensures ∙ made_query (unpriced_query x.out.now) x.account.now x.prices.now (eqb (length x.out.now) 16) c.account_in-a.ensures c.in-Ok.p c.in-Ok.ensures c.unpriced_holding-u.ensures

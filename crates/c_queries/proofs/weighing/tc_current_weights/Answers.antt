@@ -1,35 +1,31 @@
 -- What is refused before the query, and the query.
+use mathlib.Core.Path.{◌∙◌}
 use lib.Dec.{eqb}
 use lib.ListN.{length}
-use mathlib.Core.Bool.{not}
-use mathlib.Core.Path.{◌≡◌, ap, ◌∙◌}
+use mathlib.Core.Path.{◌≡◌}
 use borrow.Author.Rules.{rules}
 use Rattle.c_queries.specs.Reports.{current_weights_in}
-use Rattle.c_queries.proofs.Asking.{read, few-prices, refused_query, made_query}
-use Rattle.c_queries.proofs.Telling.{few-weights, weights_query}
+use Rattle.c_queries.proofs.Given.{prices-small}
+use Rattle.c_queries.proofs.Asking.{made, refused_query, made_query}
+use Rattle.c_queries.proofs.Telling.{weights_query, few-weights}
 use Rattle.c_queries.proofs.weighing.tc_current_weights.Goals as goal
 
-pub returns-then-not-is_done : goal.returns-then-not-is_done
+pub returns-in-Err : goal.returns-in-Err
 unfolding current_weights_in
-returns-then-not-is_done c =
-    let s = c.args in
-    let r = read s.account.now s.prices.now (eqb (length s.out.now) 1024) c.account_in-a.ensures c.read_prices-p.ensures c.early-answer.ensures in
-    refused_query (weights_query s.out.now) r c.is_done.ensures (ap not c.if-not-is_done.true) c.word.ensures
+returns-in-Err c =
+    let x = c.args in
+    refused_query (weights_query x.out.now) x.account.now x.prices.now (eqb (length x.out.now) 1024) c.account_in-a.ensures c.in-Err.answer c.in-Err.ensures c.word.ensures
 
-pub weights_at_prices-w-requires : goal.weights_at_prices-w-requires
-weights_at_prices-w-requires c =
-    let s = c.args in
-    let r = read s.account.now s.prices.now (eqb (length s.out.now) 1024) c.account_in-a.ensures c.read_prices-p.ensures c.early-answer.ensures in
-    few-prices r
+pub shared_ref_as_front-current_weights : goal.shared_ref_as_front-current_weights
+shared_ref_as_front-current_weights c = prices-small c.args.prices.now (made c.account_in-a.result c.args.prices.now (eqb (length c.args.out.now) 1024) c.in-Ok.p c.in-Ok.ensures).1
 
 pub put_weights-requires : goal.put_weights-requires
 put_weights-requires c =
-    let n : length c.weights_at_prices-w.result.symbol ≡ 64 = search rules in
-    few-weights _ _ _ c.weights_at_prices-w.ensures n
+    let n : length c.current_weights-w.result.weights.symbol ≡ 64 = search rules in
+    few-weights _ _ _ c.current_weights-w.ensures n
 
-pub returns : goal.returns
+pub returns-in-Ok : goal.returns-in-Ok
 unfolding current_weights_in
-returns c =
-    let s = c.args in
-    let r = read s.account.now s.prices.now (eqb (length s.out.now) 1024) c.account_in-a.ensures c.read_prices-p.ensures c.early-answer.ensures in
-    c.put_weights.ensures ∙ made_query (weights_query s.out.now) r c.is_done.ensures (ap not c.if-not-is_done.false) c.weights_at_prices-w.ensures
+returns-in-Ok c =
+    let x = c.args in
+    c.put_weights.ensures ∙ made_query (weights_query x.out.now) x.account.now x.prices.now (eqb (length x.out.now) 1024) c.account_in-a.ensures c.in-Ok.p c.in-Ok.ensures c.current_weights-w.ensures

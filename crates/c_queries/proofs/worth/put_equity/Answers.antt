@@ -20,7 +20,7 @@ pub returns : goal.returns
 unfolding equity_told
 returns c =
     let d = sym c.is_done.ensures ∙ c.if-not-is_done.false in
-    let f : SFits w64 c.args.c.cents = search rules in
-    let w : c.put_word.new.bytes ≡ bytes_of (unsigned_of c.args.c.cents ∷ []) =
+    let f : SFits w64 c.args.c.value = search rules in
+    let w : c.put_word.new.bytes ≡ bytes_of (unsigned_of c.args.c.value ∷ []) =
     c.put_word.ensures ∙ one-put c.args.out.now c.unsigned.result c.requires ∙ ap (λ (x : ℕ). bytes_of (x ∷ [])) (stored f c.unsigned.ensures) in
     simp (d, w)

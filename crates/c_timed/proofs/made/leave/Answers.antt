@@ -11,4 +11,4 @@ pub returns : goal.returns
 unfolding left
 returns c =
     let d = sym c.is_done.ensures ∙ c.if-not-is_done.false in
-    simp (d, c.write_account.ensures)
+    simp (d, c.write_account.ensures, c.word-2.ensures)

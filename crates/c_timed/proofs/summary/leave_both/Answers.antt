@@ -19,4 +19,4 @@ returns c =
     let cash : SFits w64 s.cash = search rules in
     let equity : SFits w64 s.equity = search rules in
     let realized : SFits w64 s.total_realized_pnl = search rules in
-    simp (d, c.write_figures.ensures, to_z-of_z cash, to_z-of_z equity, to_z-of_z realized, c.write_weights.ensures)
+    simp (d, c.write_figures.ensures, to_z-of_z cash, to_z-of_z equity, to_z-of_z realized, c.write_weights.ensures, c.word-2.ensures)

@@ -1,9 +1,7 @@
 -- Each is the snapshot, so the last one is.
-use Prim.Native.Nat.{◌≤◌}
+use mathlib.Core.Path.{◌≡◌}
+use Rattle.queries.specs.Answers.{told_snapshot}
 use Rattle.c_timed.proofs.summary.snapshots.Given as goal
 
-abbrev pub invariant-loop-more : goal.invariant-loop-more
-invariant-loop-more l = l.more ≤ l.times
-
-abbrev pub decreases-loop-more : goal.decreases-loop-more
-decreases-loop-more l = l.more
+abbrev pub invariant-loop : goal.invariant-loop
+invariant-loop l = l.last ≡ told_snapshot l.a l.symbols l.prices

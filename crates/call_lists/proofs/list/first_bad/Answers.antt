@@ -1,16 +1,16 @@
--- The symbols passed are good, so the first bad one is among those that are left.
-use mathlib.Core.Path.{sym, ◌∙◌}
+-- The library's search for the first that passes a test, here that of a bad symbol.
+use mathlib.Core.Path.{refl, ap, ◌∙◌}
+use mathlib.Core.Bool.{not}
+use Rattle.std.proofs.Common.{rules, tests}
+use Rattle.std.proofs.lemmas.Iterator.{YieldsList-from_slice}
+use Rattle.std.proofs.lemmas.Iterator.Search.{position_from_yields_List}
 use Rattle.position.specs.Symbols.{good_symbol}
-use Rattle.call_lists.proofs.Lists.{fails_at, passes_at, all_pass}
+use Rattle.call_lists.specs.Lists.{place_in}
+use Rattle.call_lists.proofs.Lists.{first_failing_told}
 use Rattle.call_lists.proofs.list.first_bad.Goals as goal
 
-pub returns-then-not-is_good : goal.returns-then-not-is_good
-returns-then-not-is_good c =
-    fails_at good_symbol _ _ c.loop-i.invariant 0 c.loop-i-test.true (sym c.is_good.ensures ∙ c.if-not-is_good.true)
-
-pub loop-i-preserved : goal.loop-i-preserved
-loop-i-preserved c =
-    passes_at good_symbol _ _ c.loop-i.invariant 0 c.loop-i-test.true (sym c.is_good.ensures ∙ c.if-not-is_good.false)
-
 pub returns : goal.returns
-returns c = all_pass good_symbol _ _ c.loop-i.invariant c.loop-i-test.false
+returns c =
+    let l = c.args.symbols.now in
+    position_from_yields_List (λ s. not (good_symbol s)) _ _ c.position.result c.position.ensures.ran (YieldsList-from_slice l c.iter.ensures.rest) (λ x b q k. search (rules, tests))
+    ∙ ap (place_in l) (first_failing_told good_symbol (λ s. not (good_symbol s)) 0 l (λ i h. refl))

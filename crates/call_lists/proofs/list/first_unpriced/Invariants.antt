@@ -1,6 +1,4 @@
 -- The prices passed are at least 1, so the first below it is among those that are left.
-use Prim.Native.Nat.{◌-◌}
-use lib.ListN.{length}
 use lib.IntN.{pos}
 use lib.Signed.{le_z}
 use Rattle.call_lists.proofs.Lists.{Passed}
@@ -8,6 +6,3 @@ use Rattle.call_lists.proofs.list.first_unpriced.Given as goal
 
 abbrev pub invariant-loop-i : goal.invariant-loop-i
 invariant-loop-i l = Passed (le_z (pos 1)) l.prices l.i
-
-abbrev pub decreases-loop-i : goal.decreases-loop-i
-decreases-loop-i l = length l.prices - l.i

@@ -9,10 +9,10 @@ use Rattle.call_lists.proofs.lookup.quote.Goals as goal
 pub returns-in-At : goal.returns-in-At
 returns-in-At c =
     let a = c.args in
-    let f : SFits w64 c.price_at-price.result = search rules in
-    record { settled = λ r. simp (to_z-of_z f) (simp c.price_at-price.ensures (quote_at a.symbols.now a.prices.now a.symbol _ c.find-f.ensures c.in-At.i c.in-At.is r)) }
+    let f : SFits w64 c.price_at.result = search rules in
+    record { settled = λ r. simp (to_z-of_z f) (simp c.price_at.ensures (quote_at a.symbols.now a.prices.now a.symbol _ c.find.ensures c.in-At.i c.in-At.is r)) }
 
 pub returns-in-Absent : goal.returns-in-Absent
 returns-in-Absent c =
     let a = c.args in
-    record { settled = quote_absent a.symbols.now a.prices.now a.symbol _ c.find-f.ensures c.in-Absent.i c.in-Absent.is }
+    record { settled = quote_absent a.symbols.now a.prices.now a.symbol _ c.find.ensures c.in-Absent.i c.in-Absent.is }

@@ -1,6 +1,6 @@
 -- Each test passed on the way gives the same test of the definition; where one fails, the definition stops at the same refusal.
 use Prim.Native.Nat.{ℕ, ◌≤◌, ◌<◌}
-use mathlib.Core.Path.{◌≡◌, sym, ap, ◌∙◌}
+use mathlib.Core.Path.{◌≡◌, sym, ◌∙◌}
 use mathlib.Core.Bool.{true, false}
 use mathlib.Core.List.{List}
 use mathlib.Core.Logic.{⊎_elim}
@@ -9,11 +9,10 @@ use lib.Ieee.{Float}
 use lib.IntN.{ℤ}
 use lib.ListN.{length}
 use Rattle.doubles.specs.Doubles.{all_finite}
-use Rattle.answer.specs.declared.Entry.TheVariants.{Target, Price}
-use Rattle.answer.specs.declared.Answer.TheVariants.{BadSymbol, Twice, BadPrice}
 use Rattle.call_lists.specs.Lists.{all_good, distinct, all_priced}
 use Rattle.call_lists.specs.Checks.{short_enough, lists_answer}
-use Rattle.call_lists.proofs.Firsts.{found_within, found_past, good_tells, repeat_tells, priced_tells}
+use Rattle.call_lists.proofs.Lists.{place_told, no_place_told}
+use Rattle.call_lists.proofs.Firsts.{good_tells, repeat_tells, priced_tells}
 use Rattle.call_lists.proofs.refusal.check_lists.Goals as goal
 
 -- the four tests of lengths
@@ -59,83 +58,71 @@ returns-then-symbols-gt128 c =
     (λ w. simp (symbols-unpaired a.targets.now a.weights.now a.symbols.now a.prices.now h e w.0 w.1))
     c.then-symbols-gt128.either)
 
-pub returns-then-bad_target-targets : goal.returns-then-bad_target-targets
+pub returns-in-Some : goal.returns-in-Some
 unfolding lists_answer
-returns-then-bad_target-targets c =
-    let s = short c.args.targets.now c.args.weights.now c.args.symbols.now c.args.prices.now
-    c.if-targets-gt64.false c.if-targets-weights.false c.if-symbols-gt128.false c.if-symbols-prices.false in
-    let f = c.first_bad-bad_target.ensures in
-    let w : all_good c.args.targets.now ≡ false = found_within f (good_tells c.args.targets.now) c.if-bad_target-targets.true in
-    ap (λ n. BadSymbol (Target n)) f ∙ sym (simp (s, w))
+returns-in-Some c =
+    let s = short c.args.targets.now c.args.weights.now c.args.symbols.now c.args.prices.now c.if-targets-gt64.false c.if-targets-weights.false c.if-symbols-gt128.false c.if-symbols-prices.false in
+    let w = place_told _ _ (good_tells c.args.targets.now) c.in-Some.ensures in
+    simp (s, w.0, w.1)
 
-pub returns-then-bad_symbol-symbols : goal.returns-then-bad_symbol-symbols
+pub returns-in-Some-first_bad : goal.returns-in-Some-first_bad
 unfolding lists_answer
-returns-then-bad_symbol-symbols c =
-    let s = short c.args.targets.now c.args.weights.now c.args.symbols.now c.args.prices.now
-    c.if-targets-gt64.false c.if-targets-weights.false c.if-symbols-gt128.false c.if-symbols-prices.false in
-    let bt : all_good c.args.targets.now ≡ true = found_past c.first_bad-bad_target.ensures (good_tells c.args.targets.now) c.if-bad_target-targets.false in
-    let f = c.first_bad-bad_symbol.ensures in
-    let w : all_good c.args.symbols.now ≡ false = found_within f (good_tells c.args.symbols.now) c.if-bad_symbol-symbols.true in
-    ap (λ n. BadSymbol (Price n)) f ∙ sym (simp (s, bt, w))
+returns-in-Some-first_bad c =
+    let s = short c.args.targets.now c.args.weights.now c.args.symbols.now c.args.prices.now c.if-targets-gt64.false c.if-targets-weights.false c.if-symbols-gt128.false c.if-symbols-prices.false in
+    let bt : all_good c.args.targets.now ≡ true = no_place_told _ _ (good_tells c.args.targets.now) c.in_default.ensures in
+    let w = place_told _ _ (good_tells c.args.symbols.now) c.in-Some-first_bad.ensures in
+    simp (s, bt, w.0, w.1)
 
-pub returns-then-target_again-targets : goal.returns-then-target_again-targets
+pub returns-in-Some-first_repeat : goal.returns-in-Some-first_repeat
 unfolding lists_answer
-returns-then-target_again-targets c =
-    let s = short c.args.targets.now c.args.weights.now c.args.symbols.now c.args.prices.now
-    c.if-targets-gt64.false c.if-targets-weights.false c.if-symbols-gt128.false c.if-symbols-prices.false in
-    let bt : all_good c.args.targets.now ≡ true = found_past c.first_bad-bad_target.ensures (good_tells c.args.targets.now) c.if-bad_target-targets.false in
-    let bs : all_good c.args.symbols.now ≡ true = found_past c.first_bad-bad_symbol.ensures (good_tells c.args.symbols.now) c.if-bad_symbol-symbols.false in
-    let f = c.first_repeat-target_again.ensures in
-    let w : distinct c.args.targets.now ≡ false = found_within f (repeat_tells c.args.targets.now) c.if-target_again-targets.true in
-    ap (λ n. Twice (Target n)) f ∙ sym (simp (s, bt, bs, w))
+returns-in-Some-first_repeat c =
+    let s = short c.args.targets.now c.args.weights.now c.args.symbols.now c.args.prices.now c.if-targets-gt64.false c.if-targets-weights.false c.if-symbols-gt128.false c.if-symbols-prices.false in
+    let bt : all_good c.args.targets.now ≡ true = no_place_told _ _ (good_tells c.args.targets.now) c.in_default.ensures in
+    let bs : all_good c.args.symbols.now ≡ true = no_place_told _ _ (good_tells c.args.symbols.now) c.in_default-first_bad.ensures in
+    let w = place_told _ _ (repeat_tells c.args.targets.now) c.in-Some-first_repeat.ensures in
+    simp (s, bt, bs, w.0, w.1)
 
-pub returns-then-symbol_again-symbols : goal.returns-then-symbol_again-symbols
+pub returns-in-Some-first_repeat-2 : goal.returns-in-Some-first_repeat-2
 unfolding lists_answer
-returns-then-symbol_again-symbols c =
-    let s = short c.args.targets.now c.args.weights.now c.args.symbols.now c.args.prices.now
-    c.if-targets-gt64.false c.if-targets-weights.false c.if-symbols-gt128.false c.if-symbols-prices.false in
-    let bt : all_good c.args.targets.now ≡ true = found_past c.first_bad-bad_target.ensures (good_tells c.args.targets.now) c.if-bad_target-targets.false in
-    let bs : all_good c.args.symbols.now ≡ true = found_past c.first_bad-bad_symbol.ensures (good_tells c.args.symbols.now) c.if-bad_symbol-symbols.false in
-    let dt : distinct c.args.targets.now ≡ true = found_past c.first_repeat-target_again.ensures (repeat_tells c.args.targets.now) c.if-target_again-targets.false in
-    let f = c.first_repeat-symbol_again.ensures in
-    let w : distinct c.args.symbols.now ≡ false = found_within f (repeat_tells c.args.symbols.now) c.if-symbol_again-symbols.true in
-    ap (λ n. Twice (Price n)) f ∙ sym (simp (s, bt, bs, dt, w))
+returns-in-Some-first_repeat-2 c =
+    let s = short c.args.targets.now c.args.weights.now c.args.symbols.now c.args.prices.now c.if-targets-gt64.false c.if-targets-weights.false c.if-symbols-gt128.false c.if-symbols-prices.false in
+    let bt : all_good c.args.targets.now ≡ true = no_place_told _ _ (good_tells c.args.targets.now) c.in_default.ensures in
+    let bs : all_good c.args.symbols.now ≡ true = no_place_told _ _ (good_tells c.args.symbols.now) c.in_default-first_bad.ensures in
+    let dt : distinct c.args.targets.now ≡ true = no_place_told _ _ (repeat_tells c.args.targets.now) c.in_default-first_repeat.ensures in
+    let w = place_told _ _ (repeat_tells c.args.symbols.now) c.in-Some-first_repeat-2.ensures in
+    simp (s, bt, bs, dt, w.0, w.1)
 
 pub returns-then-not-all_finite : goal.returns-then-not-all_finite
 unfolding lists_answer
 returns-then-not-all_finite c =
-    let s = short c.args.targets.now c.args.weights.now c.args.symbols.now c.args.prices.now
-    c.if-targets-gt64.false c.if-targets-weights.false c.if-symbols-gt128.false c.if-symbols-prices.false in
-    let bt : all_good c.args.targets.now ≡ true = found_past c.first_bad-bad_target.ensures (good_tells c.args.targets.now) c.if-bad_target-targets.false in
-    let bs : all_good c.args.symbols.now ≡ true = found_past c.first_bad-bad_symbol.ensures (good_tells c.args.symbols.now) c.if-bad_symbol-symbols.false in
-    let dt : distinct c.args.targets.now ≡ true = found_past c.first_repeat-target_again.ensures (repeat_tells c.args.targets.now) c.if-target_again-targets.false in
-    let ds : distinct c.args.symbols.now ≡ true = found_past c.first_repeat-symbol_again.ensures (repeat_tells c.args.symbols.now) c.if-symbol_again-symbols.false in
+    let s = short c.args.targets.now c.args.weights.now c.args.symbols.now c.args.prices.now c.if-targets-gt64.false c.if-targets-weights.false c.if-symbols-gt128.false c.if-symbols-prices.false in
+    let bt : all_good c.args.targets.now ≡ true = no_place_told _ _ (good_tells c.args.targets.now) c.in_default.ensures in
+    let bs : all_good c.args.symbols.now ≡ true = no_place_told _ _ (good_tells c.args.symbols.now) c.in_default-first_bad.ensures in
+    let dt : distinct c.args.targets.now ≡ true = no_place_told _ _ (repeat_tells c.args.targets.now) c.in_default-first_repeat.ensures in
+    let ds : distinct c.args.symbols.now ≡ true = no_place_told _ _ (repeat_tells c.args.symbols.now) c.in_default-first_repeat-2.ensures in
     let w : all_finite c.args.weights.now ≡ false = sym c.all_finite.ensures ∙ c.if-not-all_finite.true in
-    sym (simp (s, bt, bs, dt, ds, w))
+    simp (s, bt, bs, dt, ds, w)
 
-pub returns-then-unpriced-prices : goal.returns-then-unpriced-prices
+pub returns-in-Some-first_unpriced : goal.returns-in-Some-first_unpriced
 unfolding lists_answer
-returns-then-unpriced-prices c =
-    let s = short c.args.targets.now c.args.weights.now c.args.symbols.now c.args.prices.now
-    c.if-targets-gt64.false c.if-targets-weights.false c.if-symbols-gt128.false c.if-symbols-prices.false in
-    let bt : all_good c.args.targets.now ≡ true = found_past c.first_bad-bad_target.ensures (good_tells c.args.targets.now) c.if-bad_target-targets.false in
-    let bs : all_good c.args.symbols.now ≡ true = found_past c.first_bad-bad_symbol.ensures (good_tells c.args.symbols.now) c.if-bad_symbol-symbols.false in
-    let dt : distinct c.args.targets.now ≡ true = found_past c.first_repeat-target_again.ensures (repeat_tells c.args.targets.now) c.if-target_again-targets.false in
-    let ds : distinct c.args.symbols.now ≡ true = found_past c.first_repeat-symbol_again.ensures (repeat_tells c.args.symbols.now) c.if-symbol_again-symbols.false in
+returns-in-Some-first_unpriced c =
+    let s = short c.args.targets.now c.args.weights.now c.args.symbols.now c.args.prices.now c.if-targets-gt64.false c.if-targets-weights.false c.if-symbols-gt128.false c.if-symbols-prices.false in
+    let bt : all_good c.args.targets.now ≡ true = no_place_told _ _ (good_tells c.args.targets.now) c.in_default.ensures in
+    let bs : all_good c.args.symbols.now ≡ true = no_place_told _ _ (good_tells c.args.symbols.now) c.in_default-first_bad.ensures in
+    let dt : distinct c.args.targets.now ≡ true = no_place_told _ _ (repeat_tells c.args.targets.now) c.in_default-first_repeat.ensures in
+    let ds : distinct c.args.symbols.now ≡ true = no_place_told _ _ (repeat_tells c.args.symbols.now) c.in_default-first_repeat-2.ensures in
     let fw : all_finite c.args.weights.now ≡ true = sym c.all_finite.ensures ∙ c.if-not-all_finite.false in
-    let f = c.first_unpriced-unpriced.ensures in
-    let w : all_priced c.args.prices.now ≡ false = found_within f (priced_tells c.args.prices.now) c.if-unpriced-prices.true in
-    ap (λ n. BadPrice (Price n)) f ∙ sym (simp (s, bt, bs, dt, ds, fw, w))
+    let w = place_told _ _ (priced_tells c.args.prices.now) c.in-Some-first_unpriced.ensures in
+    simp (s, bt, bs, dt, ds, fw, w.0, w.1)
 
 pub returns : goal.returns
 unfolding lists_answer
 returns c =
-    let s = short c.args.targets.now c.args.weights.now c.args.symbols.now c.args.prices.now
-    c.if-targets-gt64.false c.if-targets-weights.false c.if-symbols-gt128.false c.if-symbols-prices.false in
-    let bt : all_good c.args.targets.now ≡ true = found_past c.first_bad-bad_target.ensures (good_tells c.args.targets.now) c.if-bad_target-targets.false in
-    let bs : all_good c.args.symbols.now ≡ true = found_past c.first_bad-bad_symbol.ensures (good_tells c.args.symbols.now) c.if-bad_symbol-symbols.false in
-    let dt : distinct c.args.targets.now ≡ true = found_past c.first_repeat-target_again.ensures (repeat_tells c.args.targets.now) c.if-target_again-targets.false in
-    let ds : distinct c.args.symbols.now ≡ true = found_past c.first_repeat-symbol_again.ensures (repeat_tells c.args.symbols.now) c.if-symbol_again-symbols.false in
+    let s = short c.args.targets.now c.args.weights.now c.args.symbols.now c.args.prices.now c.if-targets-gt64.false c.if-targets-weights.false c.if-symbols-gt128.false c.if-symbols-prices.false in
+    let bt : all_good c.args.targets.now ≡ true = no_place_told _ _ (good_tells c.args.targets.now) c.in_default.ensures in
+    let bs : all_good c.args.symbols.now ≡ true = no_place_told _ _ (good_tells c.args.symbols.now) c.in_default-first_bad.ensures in
+    let dt : distinct c.args.targets.now ≡ true = no_place_told _ _ (repeat_tells c.args.targets.now) c.in_default-first_repeat.ensures in
+    let ds : distinct c.args.symbols.now ≡ true = no_place_told _ _ (repeat_tells c.args.symbols.now) c.in_default-first_repeat-2.ensures in
     let fw : all_finite c.args.weights.now ≡ true = sym c.all_finite.ensures ∙ c.if-not-all_finite.false in
-    let pv : all_priced c.args.prices.now ≡ true = found_past c.first_unpriced-unpriced.ensures (priced_tells c.args.prices.now) c.if-unpriced-prices.false in
-    sym (simp (s, bt, bs, dt, ds, fw, pv))
+    let pv : all_priced c.args.prices.now ≡ true = no_place_told _ _ (priced_tells c.args.prices.now) c.in_default-first_unpriced.ensures in
+    simp (s, bt, bs, dt, ds, fw, pv)

@@ -3,7 +3,7 @@ use mathlib.Core.Path.{sym, ◌∙◌}
 use mir.Syntax.{w64}
 use mir.Val.{SFits}
 use mir.Facts.{to_z-of_z}
-use Rattle.fills.proofs.Deals.{sold_skips, sold-fills}
+use Rattle.fills.proofs.Deals.{sold_skips, sold_fills}
 use borrow.Author.Rules.{rules}
 use Rattle.fills.proofs.deal.sold.Goals as goal
 
@@ -21,4 +21,4 @@ returns c =
     let after : SFits w64 c.dealt-d.result.cash_after = search rules in
     let ed = simp (to_z-of_z c.ranges.price, to_z-of_z c.ranges.cash) at c.dealt-d.ensures in
     let h = simp (to_z-of_z after) at c.if-d-lt0.false in
-    sym (sold-fills a.t a.quantity.0 a.price a.cash c.dealt-d.result ed h)
+    sym (sold_fills a.t a.quantity.0 a.price a.cash c.dealt-d.result ed h)

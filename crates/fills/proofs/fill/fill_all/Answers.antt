@@ -2,7 +2,6 @@
 use Prim.Native.Nat.{◌≤◌, ◌<◌, min}
 use native.Mathlib.Omega.{arith}
 use Rattle.table.specs.Rows.{cols}
-use Rattle.table.proofs.Places.{shorter-min}
 use Rattle.fills.specs.Records.{buffers}
 use Rattle.fills.proofs.Running.{going_first, going_on, going_last}
 use Rattle.fills.proofs.fill.fill_all.Goals as goal
@@ -14,16 +13,16 @@ pub loop-k-preserved : goal.loop-k-preserved
 loop-k-preserved c =
     let a = c.args in
     let l = c.loop-k in
-    let u : l.k < min a.m 64 = omega (arith, c.loop-k-test.true, c.used-n.ensures, shorter-min a.m 64) in
+    let u : l.k < min a.m 64 = omega arith in
     let hf = simp c.order_at-o.ensures at c.fill_one-f.ensures in
-    going_on a.t a.m a.os.now a.oq.now a.op.now a.b0 (cols a.symbol.now a.quantity.now a.average.now a.realized.now a.total.now)
-    (buffers a.words.now a.ints.now a.b0.written) l.b (cols l.symbol l.quantity l.average l.realized l.total) l.words l.ints l.k l.invariant
+    going_on a.t a.m a.os.now a.oq.now a.op.now a.b0 a.columns.now
+    (buffers a.words.now a.ints.now a.b0.written) l.b l.columns l.words l.ints l.k l.invariant
     c.fill_one-f.result _ _ _ _ u hf c.keep-b.ensures.0 c.keep-b.ensures.1
 
 pub returns : goal.returns
 returns c v =
     let a = c.args in
     let l = c.loop-k in
-    let u : min a.m 64 ≤ l.k = omega (arith, c.loop-k-test.false, c.used-n.ensures, shorter-min a.m 64) in
-    going_last a.t a.m a.os.now a.oq.now a.op.now a.b0 (cols a.symbol.now a.quantity.now a.average.now a.realized.now a.total.now)
-    (buffers a.words.now a.ints.now a.b0.written) l.b (cols l.symbol l.quantity l.average l.realized l.total) l.words l.ints l.k l.invariant u v
+    let u : min a.m 64 ≤ l.k = omega arith in
+    going_last a.t a.m a.os.now a.oq.now a.op.now a.b0 a.columns.now
+    (buffers a.words.now a.ints.now a.b0.written) l.b l.columns l.words l.ints l.k l.invariant u v

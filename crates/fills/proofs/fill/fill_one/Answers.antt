@@ -4,6 +4,7 @@ use mir.Syntax.{w64}
 use mir.Val.{SFits}
 use mir.Facts.{to_z-of_z}
 use borrow.Author.Rules.{rules}
+use Rattle.std.specs.Bool.{then_some}
 use Rattle.table.specs.Rows.{cols}
 use Rattle.fills.specs.Inner.Runs.{settled_in}
 use Rattle.fills.proofs.Filling.{none_filled, one_filled}
@@ -14,8 +15,7 @@ returns-then-is_zero c s =
     let a = c.args in
     let cash : SFits w64 a.b.cash = search rules in
     let deal = simp (to_z-of_z cash) at c.deal_of-d.ensures in
-    let kept = simp (to_z-of_z cash) at c.record_of-record.ensures in
-    none_filled a.t a.o a.b (cols a.symbol.now a.quantity.now a.average.now a.realized.now a.total.now) c.deal_of-d.result deal s _ kept
+    none_filled a.t a.o a.b a.columns.now c.deal_of-d.result deal s _
     (sym c.is_zero.ensures ∙ c.if-is_zero.true) c.counted-c.ensures refl
 
 pub returns : goal.returns
@@ -28,8 +28,9 @@ returns c s =
     let deal = simp (to_z-of_z cash) at c.deal_of-d.ensures in
     let kept = simp (to_z-of_z cash) at c.record_of-record.ensures in
     let ew = simp (to_z-of_z price) at c.fill-z.ensures in
-    let eb = simp (to_z-of_z after) at c.settled_in-book.ensures in
-    one_filled a.t a.o a.b (cols a.symbol.now a.quantity.now a.average.now a.realized.now a.total.now) d deal s _ kept
+    let eb = simp (to_z-of_z after) at c.settled_in.ensures in
+    one_filled a.t a.o a.b a.columns.now d deal s _
     (sym c.is_zero.ensures ∙ c.if-is_zero.false)
     c.find-f.result c.held-p.result c.fill-z.result c.post-count.result c.place_after.result _ c.find-f.ensures c.held-p.ensures ew c.post-count.ensures
-    (eb ∙ ap (settled_in d.cash_after c.post-count.result a.t.recording c.place_after.result) c.counted-c.ensures) refl
+    (eb ∙ ap (settled_in d.cash_after c.post-count.result a.t.recording c.place_after.result) c.counted-c.ensures)
+    (c.then_some.ensures ∙ ap (then_some a.t.recording) kept)

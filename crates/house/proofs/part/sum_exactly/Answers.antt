@@ -1,27 +1,37 @@
--- A part goes into the accounts' totals, and its sums, once finished, into their places.
-use Rattle.std.proofs.Common.{◌≡◌, w64, to_z, of_z, rules}
+-- A part goes into the accounts' totals, and its sums into their places; the first part that is out of range ends the loop.
+use Rattle.std.proofs.Common.{◌≡◌, arith, w64, rules}
 use mir.ValLaws.{to_z-of_z}
-use Rattle.house.proofs.Summing.{summing_first, summing_room, summing_on, summing_last}
+use Rattle.house.specs.Places.{group_in}
+use Rattle.house.proofs.Summing.{summing_first, summing_room, part_out, summing_on, account_out, summing_last}
 use Rattle.house.proofs.part.sum_exactly.Goals as goal
 
 pub loop-p-init : goal.loop-p-init
-loop-p-init c = summing_first _ _ _ _ _ c.start-none.ensures
+loop-p-init c = summing_first _ _ _ _ c.start-totals.ensures
+
+pub sum_part-requires-clause-sums_with_room : goal.sum_part-requires-clause-sums_with_room
+sum_part-requires-clause-sums_with_room c =
+    let l = c.loop-p in
+    summing_room _ _ _ l.totals l.firsts l.gains l.p l.invariant c.requires.1 l.auto.p-end
+
+pub returns-in_err-part : goal.returns-in_err-part
+returns-in_err-part c =
+    rw c.from_residual.ensures
+    (part_out c.args.n c.args.m (group_in c.args.n c.args.marks.now c.args.equities.now) c.loop-p.p c.loop-p-test.true c.in_err-part.ensures)
 
 pub loop-p-preserved : goal.loop-p-preserved
 loop-p-preserved c =
     let l = c.loop-p in
-    let f = c.finish-first in
-    let g = c.finish-gain in
-    let zf : to_z w64 (of_z w64 f.result.value) ≡ f.result.value = to_z-of_z w64 f.result.value (search rules) in
-    let zg : to_z w64 (of_z w64 g.result.value) ≡ g.result.value = to_z-of_z w64 g.result.value (search rules) in
-    summing_on _ _ _ _ l.hi l.lo l.firsts l.gains l.fits l.at l.p l.invariant _ _ _ _ _ _ _ c.requires.1 c.loop-p-test.true c.sum_part-part.ensures f.ensures g.ensures zf zg
+    summing_on _ _ _ l.totals l.firsts l.gains l.p l.invariant _ _ _ _ c.requires.1 c.loop-p-test.true c.in_ok-part.ensures (to_z-of_z w64 _ (search rules)) (to_z-of_z w64 _ (search rules))
+
+pub returns-in_err-changes : goal.returns-in_err-changes
+returns-in_err-changes c =
+    let l = c.loop-p in
+    let e : l.p ≡ c.args.m = omega (arith, c.loop-p-test.false, l.auto.p-end) in
+    rw c.from_residual-in_err-changes.ensures
+    (account_out _ _ _ l.totals l.firsts l.gains l.p l.invariant e c.requires.0 c.in_err-changes.ensures)
 
 pub returns : goal.returns
 returns c =
     let l = c.loop-p in
-    summing_last _ _ _ _ l.hi l.lo l.firsts l.gains l.fits l.at l.p l.invariant c.requires.0 c.loop-p-test.false
-
-pub sum_part-part-requires-clause-sums_with_room : goal.sum_part-part-requires-clause-sums_with_room
-sum_part-part-requires-clause-sums_with_room c =
-    let l = c.loop-p in
-    summing_room _ _ _ _ _ _ _ _ _ _ _ l.invariant c.requires.1
+    let e : l.p ≡ c.args.m = omega (arith, c.loop-p-test.false, l.auto.p-end) in
+    summing_last _ _ _ l.totals l.firsts l.gains l.p l.invariant e c.requires.0 _ c.in_ok-changes.ensures

@@ -1,13 +1,13 @@
--- The invariant: the changes of the accounts before the place.
-use Rattle.std.proofs.Common.{◌≡◌, ◌-◌, ◌≤◌, pos}
+-- The invariant: the changes of the accounts before the place, all of them in i64.
+use Rattle.std.proofs.Common.{◌≡◌, ◌%◌, ◌^◌, true, pos}
 use Rattle.house.specs.Group.{every}
 use Rattle.house.specs.Places.{column}
-use Rattle.house.specs.Inner.Raised.{ended, total_at}
+use Rattle.house.specs.Inner.Raised.{lowered}
+use Rattle.house.specs.Inner.Parts.{total_at, total_fits}
 use Rattle.house.proofs.total.sum_accounts.Given as goal
 
 abbrev pub invariant-loop-a : goal.invariant-loop-a
-invariant-loop-a l = (l.a ≤ l.n) × (l.fits ≡ every l.a (λ i. (ended l.m (total_at l.hi l.lo i)).fits))
-    × (l.changes ≡ column 32 (pos 0) l.a (λ i. (ended l.m (total_at l.hi l.lo i)).value))
-
-abbrev pub decreases-loop-a : goal.decreases-loop-a
-decreases-loop-a l = l.n - l.a
+invariant-loop-a l = record {
+  fits : every l.a (total_fits l.m l.totals) ≡ true;
+  changes : l.changes ≡ column 32 (pos 0) l.a (λ i. lowered (total_at l.totals i % 2 ^ 64));
+}

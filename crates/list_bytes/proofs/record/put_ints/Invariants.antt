@@ -1,13 +1,9 @@
 -- After j turns the first j numbers are put.
-use Prim.Native.Nat.{◌+◌, ◌*◌, ◌-◌, ◌≤◌}
+use Prim.Native.Nat.{◌+◌, ◌*◌}
 use mathlib.Core.Path.{◌≡◌}
-use lib.ListN.{length}
 use Rattle.list_bytes.specs.Entries.{at_places_of}
 use Rattle.list_bytes.specs.Inner.Records.{int_at, put_all}
 use Rattle.list_bytes.proofs.record.put_ints.Given as goal
 
 abbrev pub invariant-loop-j : goal.invariant-loop-j
-invariant-loop-j l = (l.j ≤ 8) × (length l.out ≡ length l.initial.out) × (l.out ≡ put_all l.initial.out (12 * l.i + 4) (at_places_of l.j (int_at l.ints l.i)))
-
-abbrev pub decreases-loop-j : goal.decreases-loop-j
-decreases-loop-j l = 8 - l.j
+invariant-loop-j l = l.out ≡ put_all l.initial.out (12 * l.i + 4) (at_places_of l.j (int_at l.ints l.i))

@@ -11,18 +11,12 @@ use Rattle.list_bytes.proofs.record.write_records.Goals as goal
 
 pub loop-i-init : goal.loop-i-init
 unfolding put_all rows_in
-loop-i-init c = (omega arith, omega arith, omega arith, omega arith, refl, refl)
+loop-i-init c = refl
 
 pub loop-i-preserved : goal.loop-i-preserved
 loop-i-preserved c =
-    let a = c.args in (
-      omega arith,
-      c.loop-i.invariant.1,
-      c.loop-i.invariant.2,
-      c.loop-i.invariant.3,
-      omega (arith, c.put_words.auto, c.put_ints.auto),
-      rows_on a.out.now a.words.now a.ints.now c.loop-i.i c.loop-i.invariant.5 c.put_words.ensures c.put_ints.ensures,
-    )
+    let a = c.args in
+    rows_on a.out.now a.words.now a.ints.now c.loop-i.i c.loop-i.invariant c.put_words.ensures c.put_ints.ensures
 
 pub returns : goal.returns
 unfolding written_records
@@ -30,7 +24,7 @@ returns c =
     let a = c.args in
     let ws = a.words.now in
     let is = a.ints.now in
-    let e : c.loop-i.i ≡ fitting a.count (length ws) (length is) (length a.out.now) = omega (arith, c.least-n.ensures, c.least.ensures, c.least-held.ensures) in
-    c.loop-i.invariant.5
+    let e : c.loop-i.i ≡ fitting a.count (length ws) (length is) (length a.out.now) = omega arith in
+    c.loop-i.invariant
     ∙ put-all_fronts (rows_in c.loop-i.i ws is) a.out.now (omega (arith, rows_long c.loop-i.i ws is))
     ∙ ap (λ k. fronted (bytes_of (rows_in k ws is)) a.out.now) e

@@ -1,45 +1,7 @@
--- After i turns the columns hold the first i entries, and what was found after them.
-use Prim.Native.Nat.{◌≤◌, ◌<◌}
-use mathlib.Core.Path.{◌≡◌, refl, ap, ◌∙◌}
-use native.Mathlib.Omega.{arith}
-use lib.ListN.{length}
-use Rattle.word_bytes.specs.Numbers.{float_of}
-use Rattle.list_bytes.specs.Entries.{at_places_of}
-use Rattle.list_bytes.specs.Inner.Entries.{count_of}
-use Rattle.list_bytes.specs.Lists.{entry_symbol, entry_weight}
+-- The entries of a list of these values.
 use Rattle.list_bytes.specs.Inner.Lists.{targets_into}
-use Rattle.list_bytes.proofs.Columns.{count_small, put_on, read_all}
 use Rattle.list_bytes.proofs.target.targets_into.Goals as goal
-
-pub loop-i-init : goal.loop-i-init
-unfolding at_places_of
-loop-i-init c =
-    let n = length c.args.bytes.now in
-    let h : c.count_of-count.result ≤ 64 = omega (arith, c.count_of-count.ensures, count_small 64 n) in
-    (omega arith, h, refl, refl)
-
-pub loop-i-preserved : goal.loop-i-preserved
-loop-i-preserved c =
-    let s = c.args in
-    let b = s.bytes.now in
-    let i = c.loop-i.i in
-    let g : i < length s.symbol.now = omega (arith, c.whole_symbols.ensures) in
-    let h : i < length s.weight.now = omega (arith, c.whole_weights.ensures) in (
-      omega arith,
-      c.loop-i.invariant.1,
-      put_on i (entry_symbol b) s.symbol.now c.loop-i.invariant.2 c.symbol_at.ensures g,
-      put_on i (entry_weight b) s.weight.now c.loop-i.invariant.3 (c.float.ensures ∙ ap float_of c.word_at.ensures) h,
-    )
 
 pub returns : goal.returns
 unfolding targets_into
-returns c =
-    let s = c.args in
-    let b = s.bytes.now in
-    let e : c.loop-i.i ≡ count_of 64 (length b) = omega (arith, c.count_of-count.ensures) in
-    simp (
-      c.count_of-count.ensures,
-      read_all 64 (length b) c.loop-i.i (entry_symbol b) s.symbol.now c.loop-i.invariant.2 e,
-      read_all 64 (length b) c.loop-i.i
-          (entry_weight b) s.weight.now c.loop-i.invariant.3 e,
-    )
+returns c = c.entries_into.ensures

@@ -1,16 +1,19 @@
 -- The first position left is refused, or it is put at its place and the run goes on behind it; with none left the run is done.
-use mathlib.Core.Path.{sym, ◌∙◌}
 use borrow.Author.Rules.{rules}
+use Rattle.std.proofs.lemmas.Result.{err_from_is_err_and}
 use Rattle.loading.proofs.Entries as E
 use Rattle.loading.proofs.positions.positions_at.Goals as goal
 
-pub returns-then-not-is_done : goal.returns-then-not-is_done
-returns-then-not-is_done c =
-    E.stops c.loop-i.invariant c.position_at-e.result c.position_at-e.ensures (search rules) (sym c.is_done.ensures ∙ c.if-not-is_done.true)
+pub loop-i-init : goal.loop-i-init
+loop-i-init c = E.begin _ _ _ _ _
+
+pub returns-in_err-entry : goal.returns-in_err-entry
+returns-in_err-entry c =
+    let p = err_from_is_err_and c.from_residual.result c.from_residual.ensures.1 in
+    rw (p.1, p.2) (E.stops c.loop-i.invariant _ c.in_err-entry.ensures (search rules))
 
 pub loop-i-preserved : goal.loop-i-preserved
-loop-i-preserved c =
-    E.next c.loop-i.invariant c.position_at-e.result c.position_at-e.ensures (search rules) (sym c.is_done.ensures ∙ c.if-not-is_done.false) (search rules) _ _ c.post.ensures
+loop-i-preserved c = E.next c.loop-i.invariant _ c.in_ok-entry.ensures (search rules) (search rules) _ _ c.post.ensures
 
 pub returns : goal.returns
 returns c = E.ends c.loop-i.invariant (search rules)

@@ -1,24 +1,70 @@
 -- The reader's bytes stay those of the file, and each part is read from where the one before it ended.
-use mathlib.Core.Path.{◌≡◌, ap}
-use mathlib.Core.List.{List}
-use Prim.Native.Nat.{ℕ}
-use Rattle.seven_bit.specs.declared.Number.{Number}
-use Rattle.seven_bit.specs.Placed.{number_at_of}
-use Rattle.loading.specs.declared.head.Head.{Head}
-use Rattle.loading.specs.declared.positions.Positions.{Positions}
-use Rattle.loading.specs.Reading.{head_read_of, table_read, parsed}
+use Rattle.std.specs.Prelude.{Ok}
+use mathlib.Core.Path.{◌≡◌, ap, ◌∙◌}
+use Rattle.std.proofs.lemmas.Result.{err_from_is_err_and}
+use Rattle.seven_bit.specs.Placed.{number_at_of, number_or_fault}
+use Rattle.loading.specs.Reading.{head_in_of, head_or_fault, positions_in, positions_or_fault}
+use Rattle.loading.proofs.Loading as L
 use Rattle.loading.proofs.reader.parse.Goals as goal
+use Rattle.loading.proofs.reader.parse.Goals.{In_ok-form, In_ok-head, In_ok-positions}
 
-module _ (l : List ℕ) {b₀ b₁ b₂ : List ℕ} {p₀ p₁ p₂ : ℕ} {form : Number} {head : Head} {positions : Positions} where
-  in_turn : b₀ ≡ l → p₀ ≡ 0 → form ≡ number_at_of b₀ p₀ → b₁ ≡ b₀ → p₁ ≡ form.next
-      → head ≡ head_read_of b₁ form.value p₁ → b₂ ≡ b₁ → p₂ ≡ head.next → positions ≡ table_read b₂ form.value head.count p₂
-      → record { form = form; head = head; positions = positions } ≡ parsed l
-  unfolding parsed
-  in_turn b p f b' p' h b'' p'' t = simp (t, b'', p'', h, b', p', f, b, p)
+form : (c : In_ok-form) → Ok c.in_ok-form.form ≡ number_or_fault (number_at_of c.args.bytes.now 0)
+form c = L.form_at _ (ap (λ x. x.now) c.new-reader.ensures.0) c.new-reader.ensures.1 c.in_ok-form.ensures.read
+
+head : (c : In_ok-head) → Ok c.in_ok-head.head ≡ head_or_fault (head_in_of c.args.bytes.now)
+head c =
+    let f = L.form_at _ (ap (λ x. x.now) c.new-reader.ensures.0) c.new-reader.ensures.1 c.in_ok-form.ensures.read in
+    L.head_at _ _ f (ap (λ x. x.now) (c.in_ok-form.ensures.same ∙ c.new-reader.ensures.0)) c.in_ok-form.ensures.moved c.in_ok-head.ensures.read
+
+positions : (c : In_ok-positions) → Ok c.in_ok-positions.positions ≡ positions_or_fault (positions_in c.args.bytes.now)
+positions c =
+    let f = L.form_at _ (ap (λ x. x.now) c.new-reader.ensures.0) c.new-reader.ensures.1 c.in_ok-form.ensures.read in
+    let h = L.head_at _ _ f (ap (λ x. x.now) (c.in_ok-form.ensures.same ∙ c.new-reader.ensures.0)) c.in_ok-form.ensures.moved c.in_ok-head.ensures.read in
+    L.positions_at _ _ f c.if-form-ne-FORM.false _ h
+    (ap (λ x. x.now) (c.in_ok-head.ensures.same ∙ c.in_ok-form.ensures.same ∙ c.new-reader.ensures.0))
+    c.in_ok-head.ensures.moved c.in_ok-positions.ensures.read
+
+pub returns-in_err-form : goal.returns-in_err-form
+returns-in_err-form c =
+    let p = err_from_is_err_and c.from_residual.result c.from_residual.ensures.1 in
+    rw (p.1, p.2) (L.form_refused _ _ (L.form_at _ (ap (λ x. x.now) c.new-reader.ensures.0) c.new-reader.ensures.1 c.in_err-form.ensures.read))
+
+pub returns-then-form-ne-FORM : goal.returns-then-form-ne-FORM
+returns-then-form-ne-FORM c = L.form_unknown _ _ (form (goal.at.returns-then-form-ne-FORM c).In_ok-form) c.if-form-ne-FORM.true
+
+pub returns-in_err-head : goal.returns-in_err-head
+returns-in_err-head c =
+    let p = err_from_is_err_and c.from_residual-in_err-head.result c.from_residual-in_err-head.ensures.1 in
+    let f = form (goal.at.returns-in_err-head c).In_ok-form in
+    rw (p.1, p.2)
+    (L.head_refused _ _ f c.if-form-ne-FORM.false _ (L.head_at _ _ f (ap (λ x. x.now) (c.in_ok-form.ensures.same ∙ c.new-reader.ensures.0)) c.in_ok-form.ensures.moved c.in_err-head.ensures.read))
+
+pub returns-in_err-positions : goal.returns-in_err-positions
+returns-in_err-positions c =
+    let p = err_from_is_err_and c.from_residual-in_err-positions.result c.from_residual-in_err-positions.ensures.1 in
+    let f = form (goal.at.returns-in_err-positions c).In_ok-form in
+    let h = head (goal.at.returns-in_err-positions c).In_ok-head in
+    rw (p.1, p.2)
+    (L.positions_refused _ _ f c.if-form-ne-FORM.false _ h _
+    (L.positions_at _ _ f c.if-form-ne-FORM.false _ h
+    (ap (λ x. x.now) (c.in_ok-head.ensures.same ∙ c.in_ok-form.ensures.same ∙ c.new-reader.ensures.0))
+    c.in_ok-head.ensures.moved c.in_err-positions.ensures.read))
+
+pub returns-then-reader-bytes : goal.returns-then-reader-bytes
+returns-then-reader-bytes c =
+    let at = goal.at.returns-then-reader-bytes c in
+    L.left_over _ _ (form at.In_ok-form) c.if-form-ne-FORM.false _ (head at.In_ok-head) _ (positions at.In_ok-positions) _ c.in_ok-positions.ensures.moved c.if-reader-bytes.true
+
+pub returns-in_err-check_sound : goal.returns-in_err-check_sound
+returns-in_err-check_sound c =
+    let p = err_from_is_err_and c.from_residual-in_err-check_sound.result c.from_residual-in_err-check_sound.ensures.1 in
+    let at = goal.at.returns-in_err-check_sound c in
+    rw (p.1, p.2)
+    (L.not_sound _ _ (form at.In_ok-form) c.if-form-ne-FORM.false _ (head at.In_ok-head) _ (positions at.In_ok-positions)
+    _ c.in_ok-positions.ensures.moved c.if-reader-bytes.false _ c.account_of-account.ensures _ c.in_err-check_sound.ensures)
 
 pub returns : goal.returns
 returns c =
-    let b = ap (λ x. x.now) c.new-r.ensures.0 in
-    let b' = ap (λ x. x.now) c.number-form.ensures.1 in
-    let b'' = ap (λ x. x.now) c.head-head.ensures.1 in
-    in_turn c.args.bytes.now b c.new-r.ensures.1 c.number-form.ensures.0 b' c.number-form.ensures.2 c.head-head.ensures.0 b'' c.head-head.ensures.2 c.positions-positions.ensures.0
+    let at = goal.at.returns c in
+    L.all-good _ _ (form at.In_ok-form) c.if-form-ne-FORM.false _ (head at.In_ok-head) _ (positions at.In_ok-positions)
+    _ c.in_ok-positions.ensures.moved c.if-reader-bytes.false _ c.account_of-account.ensures c.in_ok-check_sound.ensures

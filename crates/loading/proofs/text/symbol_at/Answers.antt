@@ -1,20 +1,20 @@
 -- The length, its tests, and the text.
-use mathlib.Core.Path.{sym, ◌∙◌}
+use mathlib.Core.Path.{◌∙◌}
+use native.Mathlib.Omega.{arith}
+use Rattle.std.proofs.lemmas.Result.{err_from_is_err_and}
 use Rattle.loading.proofs.Texts as X
 use Rattle.loading.proofs.text.symbol_at.Goals as goal
 
-pub returns-then-not-is_done : goal.returns-then-not-is_done
-returns-then-not-is_done c =
-    X.no_number _ _ _ c.number_at-n.ensures (sym c.is_done.ensures ∙ c.if-not-is_done.true)
+pub returns-in_err-length : goal.returns-in_err-length
+returns-in_err-length c =
+    let p = err_from_is_err_and c.from_residual.result c.from_residual.ensures.1 in
+    rw (p.1, p.2) (X.no_number _ _ _ c.in_err-length.ensures)
 
-pub returns-then-n-eq0 : goal.returns-then-n-eq0
-returns-then-n-eq0 c =
-    c.no_number.ensures ∙ X.no_length _ _ _ c.number_at-n.ensures (sym c.is_done.ensures ∙ c.if-not-is_done.false) c.if-n-eq0.true
+pub returns-in-1-to-8 : goal.returns-in-1-to-8
+returns-in-1-to-8 c = c.text_at.ensures ∙ X.good_length _ _ _ c.in_ok-length.ensures (omega arith) (omega arith)
 
-pub returns-then-n-le8 : goal.returns-then-n-le8
-returns-then-n-le8 c =
-    c.text_at.ensures ∙ X.good_length _ _ _ c.number_at-n.ensures (sym c.is_done.ensures ∙ c.if-not-is_done.false) c.if-n-eq0.false c.if-n-le8.true
+pub returns-in_default : goal.returns-in_default
+returns-in_default c = X.no_length _ _ _ c.in_ok-length.ensures (omega arith)
 
-pub returns : goal.returns
-returns c =
-    c.no_number-2.ensures ∙ X.long-length _ _ _ c.number_at-n.ensures (sym c.is_done.ensures ∙ c.if-not-is_done.false) c.if-n-le8.false
+pub returns-in_default-2 : goal.returns-in_default-2
+returns-in_default-2 c = X.long-length _ _ _ c.in_ok-length.ensures (omega arith)

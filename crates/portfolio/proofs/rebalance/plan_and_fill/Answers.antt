@@ -28,7 +28,7 @@ blank-full = record { symbol = refl; quantity = refl; price = refl; drift = refl
 pub returns : goal.returns
 returns c =
     let x = c.args in
-    let a = account_with x.h (cols x.symbol.now x.quantity.now x.average.now x.realized.now x.total.now) in
+    let a = account_with x.h x.columns.now in
     let n = c.plan_on-p.new in
     let d = plan_cols n.symbol n.quantity n.price n.drift in
     let p = c.plan_on-p.result in

@@ -1,62 +1,40 @@
 -- A refusal leaves all as it was; else the rebalance at the prices as listed, or at the sorted ones that serve for them.
+use borrow.Author.Rules.{rules}
 use mathlib.Core.Path.{sym, ap, ◌∙◌, fun_ext}
-use Rattle.table.specs.Rows.{cols}
+use Rattle.table.specs.Rows.{Full, cols}
 use Rattle.table.proofs.Keyed.{ascending_rises}
 use Rattle.call_lists.proofs.Sorted.{sorted_usable}
-use Rattle.fills.specs.Records.{all_words, all_ints}
 use Rattle.account.specs.Inner.Account.{account_with}
-use Rattle.portfolio.specs.Answers.{is_done, rebalance_answer}
-use Rattle.portfolio.specs.Rebalance.{refused, admitted_plan, after_rebalance, rebalanced}
+use Rattle.portfolio.specs.Rebalance.{admitted_plan, after_rebalance, rebalanced}
 use Rattle.portfolio.specs.Trades.{filed}
-use Rattle.portfolio.proofs.Refusals.{rebalance-done, rebalance_ready}
+use Rattle.portfolio.proofs.Refusals.{full, no_error, rebalance-done, rebalance_ready}
 use Rattle.portfolio.proofs.rebalance.rebalance_on.Goals as goal
-
-pub returns-then-not-is_done : goal.returns-then-not-is_done
-unfolding rebalanced all_words all_ints
-returns-then-not-is_done c =
-    let x = c.args in
-    let a = account_with x.h (cols x.symbol.now x.quantity.now x.average.now x.realized.now x.total.now) in
-    let e = c.rebalance_answer-answer.ensures c.whole_columns.ensures ∙ ap (rebalance_answer a x.targets.now x.weights.now x.symbols.now x.prices.now) c.places-room.ensures in
-    let d = sym (ap is_done e) ∙ sym c.is_done.ensures ∙ c.if-not-is_done.true in
-    rw d (ap (λ w. filed (refused w a) x.words.now x.ints.now) e)
 
 pub returns-then-is_ascending : goal.returns-then-is_ascending
 unfolding rebalanced
 returns-then-is_ascending c =
-    let x = c.args in
-    let a = account_with x.h (cols x.symbol.now x.quantity.now x.average.now x.realized.now x.total.now) in
-    let e = c.rebalance_answer-answer.ensures c.whole_columns.ensures ∙ ap (rebalance_answer a x.targets.now x.weights.now x.symbols.now x.prices.now) c.places-room.ensures in
-    let d = sym (ap is_done e) ∙ sym c.is_done.ensures ∙ c.if-not-is_done.false in
-    let r = ascending_rises x.symbols.now (sym c.is_ascending.ensures ∙ c.if-is_ascending.true) in
+    let d = no_error _ (simp c.places-room.ensures at c.in_default.ensures) in
+    let r = ascending_rises c.args.symbols.now (sym c.if-is_ascending.ensures) in
     rw d (c.plan_and_fill.ensures (rebalance_ready _ _ _ _ _ _ (rebalance-done _ _ _ _ _ _ d) c.whole_columns.ensures _ r))
 
 pub slice_bounds-keys-end : goal.slice_bounds-keys-end
-slice_bounds-keys-end c =
-    let d = sym (ap is_done (c.rebalance_answer-answer.ensures c.whole_columns.ensures)) ∙ sym c.is_done.ensures ∙ c.if-not-is_done.false in
-    (sorted_usable (rebalance-done _ _ _ _ _ _ d).lists _ _ _ c.sort_prices-m.ensures).keys_room
+slice_bounds-keys-end c = (sorted_usable (rebalance-done _ _ _ _ _ _ (no_error _ c.in_default.ensures)).lists _ _ _ c.sort_prices-m.ensures).keys_room
 
 pub slice_bounds-plan_and_fill-end : goal.slice_bounds-plan_and_fill-end
-slice_bounds-plan_and_fill-end c =
-    let d = sym (ap is_done (c.rebalance_answer-answer.ensures c.whole_columns.ensures)) ∙ sym c.is_done.ensures ∙ c.if-not-is_done.false in
-    (sorted_usable (rebalance-done _ _ _ _ _ _ d).lists _ _ _ c.sort_prices-m.ensures).keys_lent
+slice_bounds-plan_and_fill-end c = (sorted_usable (rebalance-done _ _ _ _ _ _ (no_error _ c.in_default.ensures)).lists _ _ _ c.sort_prices-m.ensures).keys_lent
 
 pub slice_bounds-values-end : goal.slice_bounds-values-end
-slice_bounds-values-end c =
-    let d = sym (ap is_done (c.rebalance_answer-answer.ensures c.whole_columns.ensures)) ∙ sym c.is_done.ensures ∙ c.if-not-is_done.false in
-    (sorted_usable (rebalance-done _ _ _ _ _ _ d).lists _ _ _ c.sort_prices-m.ensures).values_room
+slice_bounds-values-end c = (sorted_usable (rebalance-done _ _ _ _ _ _ (no_error _ c.in_default.ensures)).lists _ _ _ c.sort_prices-m.ensures).values_room
 
 pub slice_bounds-plan_and_fill-end-2 : goal.slice_bounds-plan_and_fill-end-2
-slice_bounds-plan_and_fill-end-2 c =
-    let d = sym (ap is_done (c.rebalance_answer-answer.ensures c.whole_columns.ensures)) ∙ sym c.is_done.ensures ∙ c.if-not-is_done.false in
-    (sorted_usable (rebalance-done _ _ _ _ _ _ d).lists _ _ _ c.sort_prices-m.ensures).values_lent
+slice_bounds-plan_and_fill-end-2 c = (sorted_usable (rebalance-done _ _ _ _ _ _ (no_error _ c.in_default.ensures)).lists _ _ _ c.sort_prices-m.ensures).values_lent
 
 pub returns : goal.returns
 unfolding rebalanced
 returns c =
     let x = c.args in
-    let a = account_with x.h (cols x.symbol.now x.quantity.now x.average.now x.realized.now x.total.now) in
-    let e = c.rebalance_answer-answer.ensures c.whole_columns.ensures ∙ ap (rebalance_answer a x.targets.now x.weights.now x.symbols.now x.prices.now) c.places-room.ensures in
-    let d = sym (ap is_done e) ∙ sym c.is_done.ensures ∙ c.if-not-is_done.false in
+    let a = account_with x.h x.columns.now in
+    let d = no_error _ (simp c.places-room.ensures at c.in_default.ensures) in
     let r = rebalance-done _ _ _ _ _ _ d in
     let v = sorted_usable r.lists _ _ _ c.sort_prices-m.ensures in
     rw d

@@ -1,20 +1,21 @@
 -- A target counts if the search does not find it.
-use mathlib.Core.Path.{ap, ◌∙◌}
+use mathlib.Core.Path.{◌≡◌, ap}
 use native.Mathlib.Omega.{arith}
 use lib.ListN.{take}
 use Rattle.portfolio.specs.Inner.Planned.{lacked_by}
 use Rattle.portfolio.proofs.Lacking.{lacked_most, lacking_on, lacking-end}
 use Rattle.portfolio.proofs.refusal.count_not_held.Goals as goal
+use Rattle.portfolio.proofs.refusal.count_not_held.Goals.{in-Absent, in_default}
 
 pub loop-i-preserved : goal.loop-i-preserved
 loop-i-preserved c =
     let x = c.args in
-    let ks = take x.n x.key.now in (
+    let ks = take x.n x.key.now in
+    let counted : c.from.result ≡ lacked_by c.find.result =
+    elim c.match-matches.branch [ in-Absent w ↦ rw w.in-Absent.is (simp w.matches-is at c.from.ensures) | in_default w ↦ rw w.in_default.is (simp w.matches-is at c.from.ensures) ] in (
       omega arith,
-      omega (arith, c.lacked_by-count.ensures, lacked_most c.find-f.result),
-      λ e.
-          let f = c.lacked_by-count.ensures ∙ ap lacked_by (c.find-f.ensures.settled e) in
-          omega (arith, c.loop-i.invariant.2 e, f, lacking_on ks x.targets.now c.loop-i.i (omega arith)),
+      omega (arith, counted, lacked_most c.find.result),
+      λ e. omega (arith, c.loop-i.invariant.2 e, counted, ap lacked_by (c.find.ensures.settled e), lacking_on ks x.targets.now c.loop-i.i (omega arith)),
     )
 
 pub returns : goal.returns

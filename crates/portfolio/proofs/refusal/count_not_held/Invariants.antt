@@ -1,5 +1,5 @@
 -- Those counted so far, and those lacking of the targets that are left, are all.
-use Prim.Native.Nat.{◌+◌, ◌-◌, ◌≤◌}
+use Prim.Native.Nat.{◌+◌, ◌≤◌}
 use mathlib.Core.Path.{◌≡◌}
 use lib.ListN.{length, take, drop}
 use Rattle.table.specs.Inner.Keyed.{Rising}
@@ -9,6 +9,3 @@ use Rattle.portfolio.proofs.refusal.count_not_held.Given as goal
 abbrev pub invariant-loop-i : goal.invariant-loop-i
 invariant-loop-i l =
     (l.i ≤ length l.targets) × (l.count ≤ l.i) × (Rising (take l.n l.key) → l.count + lacking (drop l.i l.targets) (take l.n l.key) ≡ lacking l.targets (take l.n l.key))
-
-abbrev pub decreases-loop-i : goal.decreases-loop-i
-decreases-loop-i l = length l.targets - l.i

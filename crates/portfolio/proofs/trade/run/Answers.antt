@@ -16,22 +16,22 @@ use Rattle.portfolio.proofs.trade.run.Goals as goal
 pub returns : goal.returns
 returns c =
     let x = c.args in
-    let k = cols x.symbol.now x.quantity.now x.average.now x.realized.now x.total.now in
+    let k = x.columns.now in
     let os = orders x.m x.os.now x.oq.now x.op.now in
-    let r = c.fill_all-r.result in
-    let n = c.fill_all-r.new in
-    let d = cols n.symbol n.quantity n.average n.realized n.total in
+    let r = c.fill_all-b.result in
+    let n = c.fill_all-b.new in
+    let d = n.columns in
     let bs = buffers n.words n.ints r.written in
-    let p = simp (to_z-of_z c.ranges.notional) at c.put_together-ledger.ensures in
+    let p = simp (to_z-of_z c.ranges.notional) at c.put_together.ensures in
     λ f.
-    let g = c.fill_all-r.ensures (record {
-      ordered = subst (λ (b : Book). Ordered b.count k) (sym c.book_of-b.ensures) (account-ordered (account_with x.h k) f.sound f.full);
+    let g = c.fill_all-b.ensures (record {
+      ordered = subst (λ (b : Book). Ordered b.count k) (sym c.book_of.ensures) (account-ordered (account_with x.h k) f.sound f.full);
       symbols = f.symbols;
       quantities = f.quantities;
       prices = f.prices;
     }) in
     let runs = subst (λ (t : Terms). Runs t os (book_of_ledger x.h) k (buffers x.words.now x.ints.now 0) r d bs) c.terms_of-t.ensures
-    (subst (λ (b : Book). Runs c.terms_of-t.result os b k (buffers x.words.now x.ints.now b.written) r d bs) c.book_of-b.ensures g) in
+    (subst (λ (b : Book). Runs c.terms_of-t.result os b k (buffers x.words.now x.ints.now b.written) r d bs) c.book_of.ensures g) in
     ap (λ l. filing (account_with l d) bs) p
     ∙ run-filed x.h k os x.period x.kind x.words.now x.ints.now r d n.words n.ints
     x.m (orders-most x.m x.os.now x.oq.now x.op.now) f.roomy runs x.order_count x.notional

@@ -12,7 +12,7 @@ use Rattle.queries.proofs.Walks.{price-more}
 use Rattle.queries.proofs.price.looked_up.Goals as goal
 
 pub loop-i-init : goal.loop-i-init
-loop-i-init c = (omega arith, refl, λ r i h. absurd (omega arith))
+loop-i-init c = (refl, λ r i h. absurd (omega arith))
 
 pub loop-i-preserved : goal.loop-i-preserved
 loop-i-preserved c =
@@ -20,15 +20,14 @@ loop-i-preserved c =
     let l = c.loop-i in
     let q = c.quote-q.result in
     let f : SFits w64 q.price = search rules in
-    let h : l.i < length l.price = omega (arith, l.invariant.1) in (
-      omega arith,
-      simp length-set l.invariant.1,
+    let h : l.i < length l.price = omega (arith, l.invariant.0) in (
+      simp length-set l.invariant.0,
       λ r.
           simp (to_z-of_z f)
-          (price-more (price_of x.symbols.now x.prices.now) l.i x.symbol.now l.price q.price h (l.invariant.2 r) (ap (λ k. k.price) (c.quote-q.ensures.settled r))),
+          (price-more (price_of x.symbols.now x.prices.now) l.i x.symbol.now l.price q.price h (l.invariant.1 r) (ap (λ k. k.price) (c.quote-q.ensures.settled r))),
     )
 
 pub returns : goal.returns
 returns c =
     let e : c.loop-i.i ≡ c.args.n = omega arith in
-    record { settled = λ r. rw e at (c.loop-i.invariant.2 r) }
+    record { settled = λ r. rw e at (c.loop-i.invariant.1 r) }

@@ -1,5 +1,4 @@
 -- The places passed have their prices.
-use Prim.Native.Nat.{◌-◌, ◌≤◌}
 use mathlib.Core.Path.{◌≡◌}
 use lib.ListN.{length}
 use Rattle.table.specs.Inner.Keyed.{Rising}
@@ -8,7 +7,4 @@ use Rattle.queries.specs.Inner.Places.{PricesOf}
 use Rattle.queries.proofs.price.looked_up.Given as goal
 
 abbrev pub invariant-loop-i : goal.invariant-loop-i
-invariant-loop-i l = (l.i ≤ l.n) × (length l.price ≡ 64) × (Rising l.symbols → PricesOf (price_of l.symbols l.prices) l.i l.symbol l.price)
-
-abbrev pub decreases-loop-i : goal.decreases-loop-i
-decreases-loop-i l = l.n - l.i
+invariant-loop-i l = (length l.price ≡ 64) × (Rising l.symbols → PricesOf (price_of l.symbols l.prices) l.i l.symbol l.price)

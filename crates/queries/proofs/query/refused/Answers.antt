@@ -4,4 +4,4 @@ use Rattle.queries.proofs.query.refused.Goals as goal
 
 pub returns : goal.returns
 unfolding no_snapshot
-returns c = simp c.no_weights-weights.ensures
+returns c = simp c.no_weights.ensures

@@ -26,8 +26,8 @@ summed-sums-requires c =
     let q = query_done a c.args.symbols.now c.args.prices.now (ap is_done c.requires) in
     account-ordered a q.sound (account-full a _ c.well_formed.0)
 
-pub weights_on-weights-requires : goal.weights_on-weights-requires
-weights_on-weights-requires c =
+pub weights_on-requires : goal.weights_on-requires
+weights_on-requires c =
     let a = c.args.a in
     let q = query_done a c.args.symbols.now c.args.prices.now (ap is_done c.requires) in
     account-ordered a q.sound (account-full a _ c.well_formed.0)
@@ -44,7 +44,7 @@ returns c =
     let fs : SFits w64 s.worth = search rules in
     let fp : SFits w64 s.profit = search rules in
     let fe : SFits w64 g = search rules in
-    let listed = places-priced price a.positions.count (columns_of a.positions) c.prices_of-listed.result.price o c.prices_of-listed.ensures in
+    let listed = places-priced price a.positions.count (columns_of a.positions) c.prices_of-listed.result o c.prices_of-listed.ensures in
     let e = simp (to_z-of_z fc, to_z-of_z fs) at c.saturating_add-equity.ensures in
-    let w = simp (to_z-of_z fe) at c.weights_on-weights.ensures in
-    simp (to_z-of_z fc, to_z-of_z fe, to_z-of_z fp) (snapshot-made price a _ listed s c.summed-sums.ensures g e c.weights_on-weights.result w)
+    let w = simp (to_z-of_z fe) at c.weights_on.ensures in
+    simp (to_z-of_z fc, to_z-of_z fe, to_z-of_z fp) (snapshot-made price a _ listed s c.summed-sums.ensures g e c.weights_on.result w)

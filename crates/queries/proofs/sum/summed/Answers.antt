@@ -16,7 +16,7 @@ use Rattle.queries.proofs.Walks.{worth_on, worth-end, profit_on, profit-end, ope
 use Rattle.queries.proofs.sum.summed.Goals as goal
 
 pub loop-i-init : goal.loop-i-init
-loop-i-init c = (omega arith, omega arith, λ listed e. refl, omega arith, refl)
+loop-i-init c = (omega arith, λ listed e. refl, omega arith, refl)
 
 pub overflow_add-open_count : goal.overflow_add-open_count
 overflow_add-open_count c =
@@ -27,7 +27,7 @@ pub loop-i-preserved : goal.loop-i-preserved
 loop-i-preserved c =
     let x = c.args in
     let l = c.loop-i in
-    let t = cols x.symbol.now x.quantity.now x.average.now x.realized.now x.total.now in
+    let t = x.columns.now in
     let ps = rows x.n t in
     let ls = x.price.now in
     let one : c.open_one-open_count.result ≤ 1 = rw c.open_one-open_count.ensures (one-most (is_zero c.held-p.result.quantity.0)) in
@@ -43,22 +43,21 @@ loop-i-preserved c =
     let ev = simp (to_z-of_z fq ∙ c.raw.ensures, to_z-of_z fp) at c.value-v.ensures in
     let ew = (simp (to_z-of_z fv) at c.saturating_add-worth.ensures) ∙ ap (sat_add _) ev in
     let eg = simp (to_z-of_z fr) at c.saturating_add-profit.ensures in (
-      omega arith,
       omega (arith, one),
-      λ listed e. simp (to_z-of_z fw) (rw ew (worth_on ps ls l.i k h p listed _ e ∙ l.invariant.2 listed e)),
-      omega (arith, c.open_one-open_count.ensures, open_on ps ls l.i k h p, l.invariant.3),
-      simp (to_z-of_z fg) (rw eg (profit_on ps ls l.i k h p _ ∙ l.invariant.4)),
+      λ listed e. simp (to_z-of_z fw) (rw ew (worth_on ps ls l.i k h p listed _ e ∙ l.invariant.1 listed e)),
+      omega (arith, c.open_one-open_count.ensures, open_on ps ls l.i k h p, l.invariant.2),
+      simp (to_z-of_z fg) (rw eg (profit_on ps ls l.i k h p _ ∙ l.invariant.3)),
     )
 
 pub returns : goal.returns
 returns c =
     let x = c.args in
     let l = c.loop-i in
-    let t = cols x.symbol.now x.quantity.now x.average.now x.realized.now x.total.now in
+    let t = x.columns.now in
     let ps = rows x.n t in
     let k : length ps ≤ l.i = omega (arith, rows-length t c.requires.full x.n c.requires.small) in
     record {
-      worth = λ listed e. sym (worth-end ps l.i k listed _) ∙ l.invariant.2 listed e;
-      opens = omega (arith, open_end ps l.i k, l.invariant.3);
-      profit = sym (profit-end ps l.i k _) ∙ l.invariant.4;
+      worth = λ listed e. sym (worth-end ps l.i k listed _) ∙ l.invariant.1 listed e;
+      opens = omega (arith, open_end ps l.i k, l.invariant.2);
+      profit = sym (profit-end ps l.i k _) ∙ l.invariant.3;
     }

@@ -1,5 +1,5 @@
 -- The places passed are flat or have a price.
-use Prim.Native.Nat.{ℕ, ◌-◌, ◌≤◌}
+use Prim.Native.Nat.{ℕ}
 use mathlib.Core.Path.{◌≡◌}
 use lib.IntN.{ℤ}
 use lib.ListN.{drop}
@@ -10,8 +10,5 @@ use Rattle.queries.proofs.unpriced.first_unpriced.Given as goal
 
 abbrev pub invariant-loop-i : goal.invariant-loop-i
 invariant-loop-i l =
-    let ps = rows l.n (cols l.symbol l.quantity l.average l.realized l.total) in
-    (l.i ≤ l.n) × ((listed : ℕ → ℤ) → PositionPrices listed ps l.price → first_unpriced listed (drop l.i ps) ≡ first_unpriced listed ps)
-
-abbrev pub decreases-loop-i : goal.decreases-loop-i
-decreases-loop-i l = l.n - l.i
+    let ps = rows l.n l.columns in
+    (listed : ℕ → ℤ) → PositionPrices listed ps l.price → first_unpriced listed (drop l.i ps) ≡ first_unpriced listed ps

@@ -1,19 +1,16 @@
 -- The columns hold the weights of the places passed.
-use Prim.Native.Nat.{ℕ, ◌-◌, ◌≤◌}
+use Prim.Native.Nat.{ℕ, ◌≤◌}
 use mathlib.Core.Path.{◌≡◌}
 use lib.IntN.{ℤ}
 use lib.ListN.{take}
 use Rattle.table.specs.Rows.{cols, rows}
 use Rattle.queries.specs.Queries.{open_ones, weigh}
 use Rattle.queries.specs.Answers.{weighed}
-use Rattle.queries.specs.Inner.Places.{PositionPrices, weight_columns}
+use Rattle.queries.specs.Inner.Places.{PositionPrices}
 use Rattle.queries.proofs.weight.weigh.Given as goal
 
 abbrev pub invariant-loop-i : goal.invariant-loop-i
 invariant-loop-i l =
-    let ps = rows l.n (cols l.symbol l.quantity l.average l.realized l.total) in
-    (l.i ≤ l.n) × (l.count ≤ l.i)
-    × ((listed : ℕ → ℤ) → PositionPrices listed ps l.price → weight_columns l.count l.keys l.weights ≡ weighed (weigh listed l.equity (open_ones (take l.i ps))))
-
-abbrev pub decreases-loop-i : goal.decreases-loop-i
-decreases-loop-i l = l.n - l.i
+    let ps = rows l.n l.columns in
+    (l.weights.count ≤ l.i)
+    × ((listed : ℕ → ℤ) → PositionPrices listed ps l.price → l.weights ≡ weighed (weigh listed l.equity (open_ones (take l.i ps))))

@@ -1,6 +1,6 @@
--- Each branch is a run of fields of one kind, or one field.
+-- Each arm is a run of fields of one kind, or one field.
 use mathlib.Core.Path.{◌≡◌, sym, ap}
-use borrow.Author.Rules.{rules}
+use native.Mathlib.Omega.{arith}
 use Rattle.saved_form.specs.declared.field.Kind.{Kind}
 use Rattle.saved_form.specs.declared.field.Field.{Field}
 use Rattle.saved_form.specs.Fields.{since}
@@ -10,27 +10,26 @@ use Rattle.saved_form.proofs.field.kind_of.Goals as goal
 kind-is : {f : Field} {k : Kind} → f ≡ since 1 k → k ≡ f.kind
 kind-is e = sym (ap (λ (f : Field). f.kind) e)
 
-pub returns-then-i-lt6 : goal.returns-then-i-lt6
-returns-then-i-lt6 c = kind-is (F.first_any _ (search rules))
+pub returns-in-0-to-5 : goal.returns-in-0-to-5
+returns-in-0-to-5 c = kind-is (F.first_any _ (omega arith))
 
-pub returns-then-i-lt9 : goal.returns-then-i-lt9
-returns-then-i-lt9 c = kind-is (F.patterns _ (search rules) (search rules))
+pub returns-in-0-to-8 : goal.returns-in-0-to-8
+returns-in-0-to-8 c = kind-is (F.patterns _ (omega arith) (omega arith))
 
-pub returns-then-i-eq-CAP_MARK : goal.returns-then-i-eq-CAP_MARK
-returns-then-i-eq-CAP_MARK c = kind-is (F.mark_at _ (search rules))
+pub returns-in-9 : goal.returns-in-9
+returns-in-9 c = kind-is (F.mark_at _ c.in-9.is)
 
-pub returns-then-i-eq-CAP_COUNT : goal.returns-then-i-eq-CAP_COUNT
-returns-then-i-eq-CAP_COUNT c = kind-is (F.count_at _ (search rules))
+pub returns-in-10 : goal.returns-in-10
+returns-in-10 c = kind-is (F.count_at _ c.in-10.is)
 
-pub returns-then-i-eq-CEILING : goal.returns-then-i-eq-CEILING
-returns-then-i-eq-CEILING c = kind-is (F.ceiling_at _ (search rules))
+pub returns-in-11 : goal.returns-in-11
+returns-in-11 c = kind-is (F.ceiling_at _ c.in-11.is)
 
-pub returns-then-i-lt14 : goal.returns-then-i-lt14
-returns-then-i-lt14 c =
-    kind-is (F.flags_after _ (search rules) c.if-i-eq-CAP_MARK.false c.if-i-eq-CAP_COUNT.false c.if-i-eq-CEILING.false (search rules))
+pub returns-in-0-to-13 : goal.returns-in-0-to-13
+returns-in-0-to-13 c = kind-is (F.flags _ (omega arith) (omega arith))
 
-pub returns-then-i-eq-POSITION_COUNT : goal.returns-then-i-eq-POSITION_COUNT
-returns-then-i-eq-POSITION_COUNT c = kind-is (F.positions_at _ (search rules))
+pub returns-in-22 : goal.returns-in-22
+returns-in-22 c = kind-is (F.positions_at _ c.in-22.is)
 
-pub returns : goal.returns
-returns c = kind-is (F.any_after _ (search rules) c.if-i-eq-POSITION_COUNT.false)
+pub returns-in_default : goal.returns-in_default
+returns-in_default c = kind-is (F.any_after _ (omega arith) (omega arith))

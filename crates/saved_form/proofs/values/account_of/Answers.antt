@@ -8,7 +8,7 @@ unfolding account_of
 returns c =
     simp (
       kept (record { sfits = c.unfolded.type_inv }) c.unfolded.ensures,
-      c.settings_of-settings.ensures,
-      c.counters_of-counters.ensures,
-      c.series_of-series.ensures,
+      c.settings_of.ensures,
+      c.counters_of.ensures,
+      c.series_of.ensures,
     )

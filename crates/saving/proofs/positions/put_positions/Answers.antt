@@ -5,7 +5,7 @@ use Rattle.saving.proofs.positions.put_positions.Goals as goal
 
 pub loop-i-preserved : goal.loop-i-preserved
 loop-i-preserved c =
-    R.write-next c.loop-i.invariant c.requires.2 (search rules) c.held-p.result (search rules) c.held-p.ensures c.put_position-at.ensures
+    R.write-next c.loop-i.invariant c.requires.2 (search rules) c.held-position.result (search rules) c.held-position.ensures c.put_position-at.ensures
 
 pub returns : goal.returns
 returns c = R.write_done c.loop-i.invariant c.requires.2 (search rules) (search rules)

@@ -1,10 +1,6 @@
 -- The loop's invariant: what is left of the text, written from here on, makes of the bytes what is asked.
-use Prim.Native.Nat.{◌+◌, ◌-◌}
 use Rattle.saving.proofs.Texts as T
 use Rattle.saving.proofs.text.put_text.Given as goal
 
 abbrev pub invariant-loop-at : goal.invariant-loop-at
 invariant-loop-at l = T.Writing l.initial.bytes l.place l.s l.bytes l.rest l.at
-
-abbrev pub decreases-loop-at : goal.decreases-loop-at
-decreases-loop-at l = l.place + 8 - l.at

@@ -5,8 +5,8 @@ use lib.ListN.{length, take}
 use Rattle.table.proofs.Places.{used_within, used_same, finds_there}
 use Rattle.table.proofs.found.find.Goals as goal
 
-pub returns-then-k-key : goal.returns-then-k-key
-returns-then-k-key c =
+pub returns-then-keys-hint : goal.returns-then-keys-hint
+returns-then-keys-hint c =
     let room : c.used-m.result ≤ length c.args.keys.now = used_within c.args.n c.args.keys.now c.used-m.ensures in
     let same : take c.used-m.result c.args.keys.now ≡ take c.args.n c.args.keys.now = used_same c.args.n c.args.keys.now c.used-m.ensures in
-    rw same at (finds_there c.args.keys.now _ room _ _ c.if-hint-m.true c.if-k-key.true)
+    rw same at (finds_there c.args.keys.now _ room _ _ c.if-hint-m.true c.if-keys-hint.true)

@@ -7,16 +7,17 @@ use mir.Facts.{to_z-of_z}
 use Rattle.call_lists.proofs.Lists.{below_one}
 use Rattle.wanted.specs.Plan.{planned_close}
 use Rattle.wanted.proofs.planned.planned_close.Goals as goal
+use Rattle.wanted.proofs.planned.planned_close.Goals.{then-wanted-via-then-wanted, then-wanted-via-else-wanted+then-price-lt1}
 
 pub returns-then-wanted : goal.returns-then-wanted
 unfolding planned_close
-returns-then-wanted c = simp c.if-wanted.true c.passed_over.ensures
-
-pub returns-then-price-lt1 : goal.returns-then-price-lt1
-unfolding planned_close
-returns-then-price-lt1 c =
-    let e = below_one c.args.price ∙ ap not (simp (to_z-of_z c.ranges.price) at c.if-price-lt1.true) in
-    simp (c.if-wanted.false, e) c.passed_over-then-price-lt1.ensures
+returns-then-wanted c =
+    elim c.then-wanted.branch [
+      | then-wanted-via-then-wanted w ↦ simp w.if-wanted.true c.passed_over.ensures
+      | then-wanted-via-else-wanted+then-price-lt1 w ↦
+          let e = below_one c.args.price ∙ ap not (simp (to_z-of_z c.ranges.price) at w.if-price-lt1.true) in
+          simp (w.if-wanted.false, e) c.passed_over.ensures
+    ]
 
 pub returns : goal.returns
 unfolding planned_close

@@ -9,6 +9,7 @@ use mir.Facts.{to_z-of_z}
 use Rattle.sizing.specs.Sizing.{sized, drift}
 use Rattle.call_lists.proofs.Lists.{below_one}
 use Rattle.wanted.specs.Plan.{planned, gap_of, allowed_order, planned_target}
+use Rattle.wanted.proofs.Plans.{priced}
 use Rattle.wanted.proofs.planned.planned_target.Goals as goal
 
 pub returns-then-price-lt1 : goal.returns-then-price-lt1
@@ -31,7 +32,7 @@ returns-then-within_band c =
     let t = sym w.ensures ∙ c.if-within_band.true in
     let order = allowed_order c.args.s c.args.symbol.0 (sized gap c.args.price c.args.s.quantity_step) c.args.price in
     let none : planned c.args.symbol.0 (pos 0) c.args.price d.result ≡ order d.result = simp t in
-    simp (e, to_z-of_z c.ranges.price) (none ∙ ap order told)
+    simp (e, to_z-of_z c.ranges.price) (ap (priced c.args.price d.result) c.passed_over-then-within_band.ensures ∙ none ∙ ap order told)
 
 pub returns : goal.returns
 unfolding planned_target

@@ -2,7 +2,7 @@
 use mathlib.Core.Path.{◌≡◌, refl, sym, ◌∙◌, subst}
 use mathlib.Core.Bool.{Bool, not}
 use lib.Dec.{T}
-use lib.Ieee.{binary64, nan, div, of_bits}
+use lib.Ieee.{binary64, nan, of_bits}
 use lib.Ieee.Bits.{nan_bits_is, nan_bits_above}
 use borrow.Author.Tests.{lt-ltb, le-ltb}
 use Rattle.word_bytes.proofs.Numbers.{is_nan_lem}
@@ -11,8 +11,8 @@ use Rattle.word_bytes.proofs.number.float.Goals as goal
 pub float_from_bits-result : goal.float_from_bits-result
 float_from_bits-result c = subst (λ (t : Bool). T (not t)) (sym (nan_bits_above binary64 c.args.w ∙ le-ltb _ _ c.if-w-gt9218868437227405312.false)) tt
 
-none : div binary64 (of_bits binary64 0) (of_bits binary64 0) ≡ nan
-unfolding div of_bits
+none : of_bits binary64 0x7ff8_0000_0000_0000 ≡ nan
+unfolding of_bits
 none = refl
 
 pub returns-then-w-gt9218868437227405312 : goal.returns-then-w-gt9218868437227405312

@@ -7,18 +7,18 @@ use borrow.Author.Rules.{rules}
 use Rattle.account.specs.Account.{sound_account}
 use Rattle.account.proofs.account.Account.is_sound.Goals as goal
 
-pub returns-then-not-sound_scalars : goal.returns-then-not-sound_scalars
+pub returns-then-sound_scalars : goal.returns-then-sound_scalars
 unfolding sound_account
-returns-then-not-sound_scalars c =
+returns-then-sound_scalars c =
     let f : SFits w64 c.args.self.cash = search rules in
     let e = simp (to_z-of_z f) at c.sound_scalars.ensures in
-    let t = sym e ∙ c.if-not-sound_scalars.true in
-    rw t
-
-pub returns : goal.returns
-unfolding sound_account
-returns c =
-    let f : SFits w64 c.args.self.cash = search rules in
-    let e = simp (to_z-of_z f) at c.sound_scalars.ensures in
-    let t = sym e ∙ c.if-not-sound_scalars.false in
+    let t = sym e ∙ c.if-sound_scalars.true in
     rw t c.sound_columns.ensures
+
+pub returns-else-sound_scalars : goal.returns-else-sound_scalars
+unfolding sound_account
+returns-else-sound_scalars c =
+    let f : SFits w64 c.args.self.cash = search rules in
+    let e = simp (to_z-of_z f) at c.sound_scalars.ensures in
+    let t = sym e ∙ c.if-sound_scalars.false in
+    rw t c.if-sound_scalars.false

@@ -1,22 +1,15 @@
--- By the two refusals.
-use mathlib.Core.Path.{◌∙◌, sym}
-use Rattle.account.specs.Calls.{changed}
+-- By what the check answers.
+use mir.Syntax.{w64}
+use mir.Val.{SFits}
+use mir.Facts.{to_z-of_z}
+use borrow.Author.Rules.{rules}
+use Rattle.account.proofs.Checks.{changed_done, changed_refused}
 use Rattle.account.proofs.account.Account.under.Goals as goal
 
-pub returns-then-not-is_sound : goal.returns-then-not-is_sound
-unfolding changed
-returns-then-not-is_sound c = let t = sym c.is_sound.ensures ∙ c.if-not-is_sound.true in rw t
+pub returns-in-Ok : goal.returns-in-Ok
+returns-in-Ok c =
+    let f : SFits w64 c.args.self.cash = search rules in
+    simp (to_z-of_z f) (changed_done c.args.settings c.args.self c.in-Ok.ensures)
 
-pub returns-then-not-is_good : goal.returns-then-not-is_good
-unfolding changed
-returns-then-not-is_good c =
-    let t = sym c.is_sound.ensures ∙ c.if-not-is_sound.false in
-    let g = sym c.is_good.ensures ∙ c.if-not-is_good.true in
-    rw (t, g)
-
-pub returns : goal.returns
-unfolding changed
-returns c =
-    let t = sym c.is_sound.ensures ∙ c.if-not-is_sound.false in
-    let g = sym c.is_good.ensures ∙ c.if-not-is_good.false in
-    rw (t, g)
+pub returns-in-Err : goal.returns-in-Err
+returns-in-Err c = changed_refused c.args.settings c.args.self c.in-Err.ensures

@@ -1,72 +1,114 @@
 -- Each test in turn is one of the definition's.
-use mathlib.Core.Path.{◌≡◌, ◌∙◌, sym}
-use mathlib.Core.Bool.{true}
+use mathlib.Core.Path.{◌≡◌, refl, ap, ◌∙◌}
+use mathlib.Core.Bool.{Bool, true, false, ◌&&◌}
 use lib.IntN.{pos}
+use lib.Signed.{le_z}
 use mir.Syntax.{w64}
-use mir.Val.{SFits}
+use mir.Val.{SFits, to_z, of_z}
 use mir.Facts.{to_z-of_z}
 use borrow.Author.Rules.{rules}
-use Rattle.position.proofs.Counts.{lt_not_ge, not_lt_ge}
-use Rattle.account.specs.Settings.{is_at_least, good_rules, good_settings}
+use Rattle.table.specs.Keyed.{both}
+use Rattle.account.specs.Settings.{good_rules, good_band, good_settings}
 use Rattle.account.proofs.settings.Settings.is_good.Goals as goal
+use Rattle.account.proofs.settings.Settings.is_good.Goals.{then-is_good, else-is_good, then-self-ge1, else-self-ge1, then-self-ge0, else-self-ge0, then-self-ge0-2, else-self-ge0-2}
 
-pub returns-then-not-is_good : goal.returns-then-not-is_good
-unfolding good_settings
-returns-then-not-is_good c = let t = sym c.is_good.ensures ∙ c.if-not-is_good.true in rw t
+-- where two tests join
+and_then : (v p x : Bool) → p ≡ true → v ≡ x → v ≡ (p && x)
+and_then v p x h e = rw h e
 
-pub returns-then-self-lt1 : goal.returns-then-self-lt1
-unfolding good_settings
-returns-then-self-lt1 c =
-    let r : good_rules c.args.self.rules ≡ true = sym c.is_good.ensures ∙ c.if-not-is_good.false in
-    let tf : SFits w64 c.args.self.quantity_step = search rules in
-    let t = lt_not_ge c.args.self.quantity_step (pos 1) (simp (to_z-of_z tf) at c.if-self-lt1.true) in
-    rw (r, t)
+and_else : (v p x : Bool) → p ≡ false → v ≡ p → v ≡ (p && x)
+and_else v p x h e = rw h at e ∙ rw h
 
-pub returns-then-self-lt0 : goal.returns-then-self-lt0
-unfolding good_settings
-returns-then-self-lt0 c =
-    let r : good_rules c.args.self.rules ≡ true = sym c.is_good.ensures ∙ c.if-not-is_good.false in
-    let kf : SFits w64 c.args.self.quantity_step = search rules in
-    let k : is_at_least 1 c.args.self.quantity_step ≡ true = not_lt_ge c.args.self.quantity_step (pos 1) (simp (to_z-of_z kf) at c.if-self-lt1.false) in
-    let tf : SFits w64 c.args.self.min_order_value = search rules in
-    let t = lt_not_ge c.args.self.min_order_value (pos 0) (simp (to_z-of_z tf) at c.if-self-lt0.true) in
-    rw (r, k, t)
+grouped : (r k m x b n : Bool) → (((((r && k) && m) && x) && b) && n) ≡ both r (both k (both m (both x (both b n))))
+grouped false k m x b n = refl
+grouped true false m x b n = refl
+grouped true true false x b n = refl
+grouped true true true false b n = refl
+grouped true true true true b n = refl
 
-pub returns-then-self-lt0-2 : goal.returns-then-self-lt0-2
-unfolding good_settings
-returns-then-self-lt0-2 c =
-    let r : good_rules c.args.self.rules ≡ true = sym c.is_good.ensures ∙ c.if-not-is_good.false in
-    let kf : SFits w64 c.args.self.quantity_step = search rules in
-    let k : is_at_least 1 c.args.self.quantity_step ≡ true = not_lt_ge c.args.self.quantity_step (pos 1) (simp (to_z-of_z kf) at c.if-self-lt1.false) in
-    let mf : SFits w64 c.args.self.min_order_value = search rules in
-    let m : is_at_least 0 c.args.self.min_order_value ≡ true = not_lt_ge c.args.self.min_order_value (pos 0) (simp (to_z-of_z mf) at c.if-self-lt0.false) in
-    let tf : SFits w64 c.args.self.max_order_value = search rules in
-    let t = lt_not_ge c.args.self.max_order_value (pos 0) (simp (to_z-of_z tf) at c.if-self-lt0-2.true) in
-    rw (r, k, m, t)
+chain : (r k m x b n : Bool) {v1 v2 v3 v4 : Bool} → v1 ≡ (r && k) → v2 ≡ (v1 && m) → v3 ≡ (v2 && x) → v4 ≡ (v3 && b) → (v4 && n) ≡ both r (both k (both m (both x (both b n))))
+chain r k m x b n e1 e2 e3 e4 = rw (e4, e3, e2, e1) (grouped r k m x b n)
 
-pub returns-then-not-is_good_band : goal.returns-then-not-is_good_band
-unfolding good_settings
-returns-then-not-is_good_band c =
-    let r : good_rules c.args.self.rules ≡ true = sym c.is_good.ensures ∙ c.if-not-is_good.false in
-    let kf : SFits w64 c.args.self.quantity_step = search rules in
-    let k : is_at_least 1 c.args.self.quantity_step ≡ true = not_lt_ge c.args.self.quantity_step (pos 1) (simp (to_z-of_z kf) at c.if-self-lt1.false) in
-    let mf : SFits w64 c.args.self.min_order_value = search rules in
-    let m : is_at_least 0 c.args.self.min_order_value ≡ true = not_lt_ge c.args.self.min_order_value (pos 0) (simp (to_z-of_z mf) at c.if-self-lt0.false) in
-    let xf : SFits w64 c.args.self.max_order_value = search rules in
-    let x : is_at_least 0 c.args.self.max_order_value ≡ true = not_lt_ge c.args.self.max_order_value (pos 0) (simp (to_z-of_z xf) at c.if-self-lt0-2.false) in
-    let t = sym c.is_good_band.ensures ∙ c.if-not-is_good_band.true in
-    rw (r, k, m, x, t)
+last_true : (v n : Bool) {g : Bool} → (v && n) ≡ g → v ≡ true → n ≡ g
+last_true v n e h = rw h at e
 
-pub returns : goal.returns
+last_false : (v n : Bool) {g : Bool} → (v && n) ≡ g → v ≡ false → v ≡ g
+last_false v n e h = h ∙ rw h at e
+
+pub returns-then-is_good_band : goal.returns-then-is_good_band
 unfolding good_settings
-returns c =
-    let r : good_rules c.args.self.rules ≡ true = sym c.is_good.ensures ∙ c.if-not-is_good.false in
-    let kf : SFits w64 c.args.self.quantity_step = search rules in
-    let k : is_at_least 1 c.args.self.quantity_step ≡ true = not_lt_ge c.args.self.quantity_step (pos 1) (simp (to_z-of_z kf) at c.if-self-lt1.false) in
-    let mf : SFits w64 c.args.self.min_order_value = search rules in
-    let m : is_at_least 0 c.args.self.min_order_value ≡ true = not_lt_ge c.args.self.min_order_value (pos 0) (simp (to_z-of_z mf) at c.if-self-lt0.false) in
-    let xf : SFits w64 c.args.self.max_order_value = search rules in
-    let x : is_at_least 0 c.args.self.max_order_value ≡ true = not_lt_ge c.args.self.max_order_value (pos 0) (simp (to_z-of_z xf) at c.if-self-lt0-2.false) in
-    let nf : SFits w64 c.args.self.max_rebalance_notional = search rules in
-    let t = sym c.is_good_band.ensures ∙ c.if-not-is_good_band.false in
-    rw (r, k, m, x, t) (simp (to_z-of_z nf))
+returns-then-is_good_band c =
+    let s = c.args.self in
+    let kf : SFits w64 s.quantity_step = search rules in
+    let mf : SFits w64 s.min_order_value = search rules in
+    let xf : SFits w64 s.max_order_value = search rules in
+    let nf : SFits w64 s.max_rebalance_notional = search rules in
+    let v1 : c.if-is_good.value ≡ (c.is_good.result && le_z (pos 1) (to_z w64 (of_z w64 s.quantity_step))) =
+    elim c.if-is_good.branch [
+      | then-is_good w ↦ and_then _ _ _ w.if-is_good.true w.value-is
+      | else-is_good w ↦ and_else _ _ _ w.if-is_good.false w.value-is
+    ]
+    in
+    let v2 : c.if-self-ge1.value ≡ (c.if-is_good.value && le_z (pos 0) (to_z w64 (of_z w64 s.min_order_value))) =
+    elim c.if-self-ge1.branch [
+      | then-self-ge1 w ↦ and_then _ _ _ w.if-self-ge1.true w.value-is
+      | else-self-ge1 w ↦ and_else _ _ _ w.if-self-ge1.false w.value-is
+    ]
+    in
+    let v3 : c.if-self-ge0.value ≡ (c.if-self-ge1.value && le_z (pos 0) (to_z w64 (of_z w64 s.max_order_value))) =
+    elim c.if-self-ge0.branch [
+      | then-self-ge0 w ↦ and_then _ _ _ w.if-self-ge0.true w.value-is
+      | else-self-ge0 w ↦ and_else _ _ _ w.if-self-ge0.false w.value-is
+    ]
+    in
+    let v4 : c.if-self-ge0-2.value ≡ (c.if-self-ge0.value && good_band s.no_trade_band_bps) =
+    elim c.if-self-ge0-2.branch [
+      | then-self-ge0-2 w ↦ and_then _ _ _ w.if-self-ge0-2.true (w.value-is ∙ w.is_good_band.ensures)
+      | else-self-ge0-2 w ↦ and_else _ _ _ w.if-self-ge0-2.false w.value-is
+    ]
+    in
+    let all =
+    chain (good_rules s.rules) (le_z (pos 1) (to_z w64 (of_z w64 s.quantity_step))) (le_z (pos 0) (to_z w64 (of_z w64 s.min_order_value))) (le_z (pos 0) (to_z w64 (of_z w64 s.max_order_value))) (good_band s.no_trade_band_bps)
+    (le_z (pos 0) (to_z w64 (of_z w64 s.max_rebalance_notional)))
+    (v1 ∙ ap (λ r. r && le_z (pos 1) (to_z w64 (of_z w64 s.quantity_step))) c.is_good.ensures) v2 v3 v4
+    in
+    simp (to_z-of_z nf) (last_true _ _ (simp (to_z-of_z kf, to_z-of_z mf, to_z-of_z xf, to_z-of_z nf) at all) c.if-is_good_band.true)
+
+pub returns-else-is_good_band : goal.returns-else-is_good_band
+unfolding good_settings
+returns-else-is_good_band c =
+    let s = c.args.self in
+    let kf : SFits w64 s.quantity_step = search rules in
+    let mf : SFits w64 s.min_order_value = search rules in
+    let xf : SFits w64 s.max_order_value = search rules in
+    let nf : SFits w64 s.max_rebalance_notional = search rules in
+    let v1 : c.if-is_good.value ≡ (c.is_good.result && le_z (pos 1) (to_z w64 (of_z w64 s.quantity_step))) =
+    elim c.if-is_good.branch [
+      | then-is_good w ↦ and_then _ _ _ w.if-is_good.true w.value-is
+      | else-is_good w ↦ and_else _ _ _ w.if-is_good.false w.value-is
+    ]
+    in
+    let v2 : c.if-self-ge1.value ≡ (c.if-is_good.value && le_z (pos 0) (to_z w64 (of_z w64 s.min_order_value))) =
+    elim c.if-self-ge1.branch [
+      | then-self-ge1 w ↦ and_then _ _ _ w.if-self-ge1.true w.value-is
+      | else-self-ge1 w ↦ and_else _ _ _ w.if-self-ge1.false w.value-is
+    ]
+    in
+    let v3 : c.if-self-ge0.value ≡ (c.if-self-ge1.value && le_z (pos 0) (to_z w64 (of_z w64 s.max_order_value))) =
+    elim c.if-self-ge0.branch [
+      | then-self-ge0 w ↦ and_then _ _ _ w.if-self-ge0.true w.value-is
+      | else-self-ge0 w ↦ and_else _ _ _ w.if-self-ge0.false w.value-is
+    ]
+    in
+    let v4 : c.if-self-ge0-2.value ≡ (c.if-self-ge0.value && good_band s.no_trade_band_bps) =
+    elim c.if-self-ge0-2.branch [
+      | then-self-ge0-2 w ↦ and_then _ _ _ w.if-self-ge0-2.true (w.value-is ∙ w.is_good_band.ensures)
+      | else-self-ge0-2 w ↦ and_else _ _ _ w.if-self-ge0-2.false w.value-is
+    ]
+    in
+    let all =
+    chain (good_rules s.rules) (le_z (pos 1) (to_z w64 (of_z w64 s.quantity_step))) (le_z (pos 0) (to_z w64 (of_z w64 s.min_order_value))) (le_z (pos 0) (to_z w64 (of_z w64 s.max_order_value))) (good_band s.no_trade_band_bps)
+    (le_z (pos 0) (to_z w64 (of_z w64 s.max_rebalance_notional)))
+    (v1 ∙ ap (λ r. r && le_z (pos 1) (to_z w64 (of_z w64 s.quantity_step))) c.is_good.ensures) v2 v3 v4
+    in
+    last_false _ _ (simp (to_z-of_z kf, to_z-of_z mf, to_z-of_z xf, to_z-of_z nf) at all) c.if-is_good_band.false
