@@ -23,7 +23,7 @@ use Rattle.account.specs.Account.{held_in, sound_account}
 use Rattle.account.specs.Calls.{absent, present, present_or, position_of, position_at_of}
 use Rattle.account_bytes.specs.Sizes.{settings_length}
 use Rattle.account_bytes.specs.Settings.{settings_words, written_settings}
-use Rattle.c_accounts.specs.Entries.{account_in, settings_in, sound_in, AccountTold, answering}
+use Rattle.c_accounts.specs.Entries.{account_in, settings_in, sound_in, answering}
 use Rattle.account.specs.Inner.Answers.{unless_unsound}
 use Rattle.c_accounts.specs.Queries.{queried, held_words, settings_told}
 use Rattle.c_accounts.specs.Inner.Queries.{is_unsound, tell_in}
