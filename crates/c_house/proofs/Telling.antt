@@ -1,5 +1,5 @@
 -- What is told, case by case, and what an answer of done tells of the places.
-use Rattle.std.proofs.Common.{◌≡◌, ℕ, ◌+◌, ◌-◌, ◌≤◌, Bool, true, false, ◌&&◌, eqb, leb, ltb, Ok, Err, List, ◌∷◌, length, take, ℤ, refl, ap, arith, eqb-true, leb-true}
+use Rattle.std.proofs.Common.{◌≡◌, ℕ, ◌+◌, ◌-◌, ◌≤◌, Bool, true, false, ◌&&◌, eqb, Ok, Err, List, ◌∷◌, length, take, ℤ, refl, ap, arith, eqb-true}
 use lib.Ieee.{Float}
 use Rattle.answer.specs.Choice.{pick}
 use Rattle.answer.specs.Numbers.{number_of, is_done, unless, checked}

@@ -1,8 +1,7 @@
 -- What the sums give the report, and what an answer of done tells of the places.
-use Rattle.std.proofs.Common.{◌≡◌, ℕ, zero, suc, ◌*◌, ◌<◌, ◌≤◌, Bool, true, false, ◌&&◌, eqb, ltb, leb, cond, None, Some, Ok, Err, List, length, get_or, replicate, ℤ, pos, sym, refl, ap, ◌∙◌, arith, eqb-true, leb-true}
+use Rattle.std.proofs.Common.{◌≡◌, ℕ, zero, suc, ◌*◌, ◌<◌, ◌≤◌, Bool, true, false, ◌&&◌, eqb, ltb, leb, None, Some, Ok, Err, List, length, get_or, replicate, ℤ, pos, sym, refl, ap, ◌∙◌, arith, eqb-true, leb-true}
 use lib.Signed.{lt_z}
 use lib.Ieee.{Float, binary64, sub}
-use Rattle.answer.specs.Choice.{pick}
 use Rattle.answer.specs.Numbers.{is_done, unless, checked}
 use Rattle.answer.proofs.Choice.{both_true}
 use Rattle.answer.proofs.Answers.{passed}

@@ -104,13 +104,7 @@ fn early(accounts: u64, parts: u64, marks: &[u8], equities: &[i64]) -> Result<()
 
 // The figures of a report that is empty before; after a refusal they are any. 15 is told before 14, wherever either stands: all sums are taken before a first
 // sum is asked for.
-fn fill(
-    n: usize,
-    m: usize,
-    marks: &[u8],
-    equities: &[i64],
-    house: &mut House,
-) -> Result<(), Answer>
+fn fill(n: usize, m: usize, marks: &[u8], equities: &[i64], house: &mut House) -> Result<(), Answer>
     requires sizes { (n ≤ 32) × (m ≤ 64) × (length marks.now ≡ 2 * (m * n)) × (length equities.now ≡ 2 * (m * n)) }
     requires empty { house.old ≡ refusal Done }
     ensures { MatchResult result (λ done. house.new ≡ house_of_group n m (group_in n marks.now equities.now)) (λ answer. refusal answer ≡ house_of_group n m (group_in n marks.now equities.now)) }
@@ -126,8 +120,9 @@ fn fill(
     )
     .ok_or(Answer::OutOfRange)?;
     house.change = sum_group(m, &house.gains).ok_or(Answer::OutOfRange)?;
-    house.figure =
-        grow(m, &house.firsts, &house.gains, &mut house.growths).ok_or(Answer::NoFirstSum)?;
+    house.figure = grow(m, &house.firsts, &house.gains, &mut house.growths).ok_or(
+        Answer::NoFirstSum,
+    )?;
     Ok(())
 }
 
