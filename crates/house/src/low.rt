@@ -5,6 +5,7 @@ ghost use Rattle.house.specs.Places.{group_in};
 ghost use Rattle.house.specs.Inner.Low.{away, step, LowAdded, LowSummed};
 
 use crate::entry::present;
+use crate::part::SMALL;
 use crate::sum::{HALF, lower};
 
 // 2^55, from 0 either way: so 64 changes, each below 2^56, add up to less than 2^63, and so do 32 first equities. The group's change may not, and is asked
@@ -63,7 +64,7 @@ fn sum_low_part(n: usize, p: usize, marks: &[u8], equities: &[i64], lo: &mut [u6
 }
 
 // The sums as they are where every equity that counts is within reach of 0, into columns that are empty before, and whether it is: then the spread that is
-// returned is below 2^56.
+// returned is below 2^56. Else it ends after the first part that has one beyond.
 pub(crate) fn sum_low(
     n: usize,
     m: usize,
@@ -75,7 +76,7 @@ pub(crate) fn sum_low(
 ) -> u64
     requires sizes { (n ≤ 32) × (m ≤ 64) × (length marks.now ≡ 2 * (m * n)) × (length equities.now ≡ 2 * (m * n)) }
     requires empty { (firsts.old ≡ replicate 64 (pos 0)) × (gains.old ≡ replicate 64 (pos 0)) × (changes.old ≡ replicate 32 (pos 0)) }
-    ensures { LowSummed n m (group_in n marks.now equities.now) result firsts.new gains.new changes.new }
+    ensures { result < 2 ^ 56 → LowSummed n m (group_in n marks.now equities.now) result firsts.new gains.new changes.new }
 {
     let mut lo = [HALF; 32];
     let mut spread = 0u64;
@@ -84,6 +85,9 @@ pub(crate) fn sum_low(
         firsts[p] = lower(part.first);
         gains[p] = lower(part.gain);
         spread |= part.spread;
+        if SMALL <= spread {
+            return spread;
+        }
     }
     for a in 0..n {
         changes[a] = lower(lo[a]);

@@ -11,7 +11,7 @@ use crate::total::sum_accounts;
 use sums::Wide;
 
 // 2^56: what the low words' spread is below where they are enough.
-const SMALL: u64 = 0x100_0000_0000_0000;
+pub(crate) const SMALL: u64 = 0x100_0000_0000_0000;
 
 #[derive(Clone, Copy)]
 struct Part {

@@ -40,4 +40,4 @@ returns c =
     let l = c.loop-p in
     let e : l.p ≡ c.args.m = omega (arith, c.loop-p-test.false, l.auto.p-end) in
     let d : c.loop-a.a ≡ c.args.n = omega (arith, c.loop-a-test.false, c.loop-a.auto.a-end) in
-    low_summing_last _ _ _ l.lo l.firsts l.gains l.spread l.p l.invariant e _ (c.loop-a.invariant ∙ rw d)
+    λ h. low_summing_last _ _ _ l.lo l.firsts l.gains l.spread l.p l.invariant e _ (c.loop-a.invariant ∙ rw d)
