@@ -65,7 +65,7 @@ impl Account {
         self.check()
     }
 
-    // Both of an account that is lent: 2,728 bytes are not copied for a look at them.
+    // Both of an account that is lent, so that it is not copied for a look at it.
     fn sound(&self) -> bool
         ensures { result ≡ sound_account self.now }
     {
