@@ -1,9 +1,8 @@
 // An account, which goes in and comes back by value, and the ledger that stands for it where its columns are lent.
 ghost use Rattle.std.specs.Prelude.{◌≡◌};
-ghost use Rattle.answer.specs.declared.Answer.TheVariants.{Done};
-ghost use Rattle.answer.specs.Numbers.{checked};
+ghost use Rattle.answer.specs.declared.Answer.TheVariants.{Done, Unsound};
+ghost use Rattle.answer.specs.Numbers.{unless, checked};
 ghost use Rattle.account.specs.Account.{sound_account};
-ghost use Rattle.account.specs.Inner.Answers.{unless_unsound};
 
 use crate::settings::Settings;
 use crate::soundness::{sound_columns, sound_scalars};
@@ -56,15 +55,28 @@ impl Account {
     pub fn is_sound(self) -> bool
         ensures { result ≡ sound_account self }
     {
-        let t = self.positions;
-        sound_scalars(self.cash, self.settings) && sound_columns(&t.columns, t.count)
+        self.sound()
     }
 
     // 11 for an account that is not sound.
     pub fn check_sound(self) -> Result<(), Answer>
-        ensures { result ≡ checked (unless_unsound self Done) }
+        ensures { result ≡ checked (unless (sound_account self) Unsound Done) }
     {
-        if self.is_sound() {
+        self.check()
+    }
+
+    // Both of an account that is lent, so that it is not copied for a look at it.
+    fn sound(&self) -> bool
+        ensures { result ≡ sound_account self.now }
+    {
+        sound_scalars(self.cash, self.settings)
+            && sound_columns(&self.positions.columns, self.positions.count)
+    }
+
+    pub(crate) fn check(&self) -> Result<(), Answer>
+        ensures { result ≡ checked (unless (sound_account self.now) Unsound Done) }
+    {
+        if self.sound() {
             Ok(())
         } else {
             Err(Answer::Unsound)

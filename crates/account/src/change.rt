@@ -19,10 +19,10 @@ pub struct Changed {
 
 impl Account {
     // 11, then 1 for settings that are bad.
-    fn check_settings(self, settings: Settings) -> Result<(), Answer>
-        ensures { result ≡ checked (settings_answer settings self) }
+    fn check_settings(&self, settings: Settings) -> Result<(), Answer>
+        ensures { result ≡ checked (settings_answer settings self.now) }
     {
-        self.check_sound()?;
+        self.check()?;
         if settings.is_good() {
             Ok(())
         } else {

@@ -47,15 +47,15 @@ fn absent(answer: Answer) -> Held
 }
 
 // The position at place i of a table.
-fn row(t: Table, i: usize) -> Position
-    ensures { result ≡ held_at (At i) 0 (columns_of t) }
+fn row(t: &Table, i: usize) -> Position
+    ensures { result ≡ held_at (At i) 0 (columns_of t.now) }
 {
     t.columns.held(Found::At(i), 0)
 }
 
 // What a search in a table's symbols found.
-fn found_in(t: Table, f: Found) -> Option<Position>
-    ensures { held_of (Ok result) ≡ found_in f (columns_of t) }
+fn found_in(t: &Table, f: Found) -> Option<Position>
+    ensures { held_of (Ok result) ≡ found_in f (columns_of t.now) }
 {
     match f {
         Found::At(i) => Some(row(t, i)),
@@ -74,11 +74,11 @@ impl Account {
     fn find_position(self, symbol: Symbol) -> Result<Option<Position>, Answer>
         ensures { held_of result ≡ position_of symbol.0 self }
     {
-        self.check_sound()?;
+        self.check()?;
         if !symbol.is_good() {
             return Err(Answer::BadSymbol(Entry::Price(0)));
         }
-        let t = self.positions;
+        let t = &self.positions;
         Ok(found_in(t, find(&t.columns.symbol, t.count, symbol.0, 0)))
     }
 
@@ -92,8 +92,8 @@ impl Account {
     fn nth_position(self, index: usize) -> Result<Option<Position>, Answer>
         ensures { held_of result ≡ position_at_of index self }
     {
-        self.check_sound()?;
-        let t = self.positions;
+        self.check()?;
+        let t = &self.positions;
         if index < t.count {
             Ok(Some(row(t, index)))
         } else {

@@ -22,7 +22,7 @@ impl Account {
     fn told<T: Copy>(self, value: T, zero: T) -> Told<T>
         ensures { result ≡ told zero (sound_account self) value }
     {
-        match self.check_sound() {
+        match self.check() {
             Ok(()) => Told {
                 answer: Answer::Done,
                 value,

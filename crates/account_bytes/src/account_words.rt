@@ -123,9 +123,10 @@ pub fn read_account(bytes: &[u8]) -> Option<Account>
 pub fn account_in(bytes: &[u8]) -> Account
     ensures { result ≡ account_in bytes.now }
 {
-    match read_account(bytes) {
-        Some(a) => a,
-        None => Account::zero(),
+    if is_account(bytes) {
+        account_of(bytes)
+    } else {
+        Account::zero()
     }
 }
 

@@ -23,10 +23,10 @@ use Rattle.account.specs.Account.{held_in, sound_account}
 use Rattle.account.specs.Calls.{absent, present, present_or, position_of, position_at_of}
 use Rattle.account_bytes.specs.Sizes.{settings_length}
 use Rattle.account_bytes.specs.Settings.{settings_words, written_settings}
-use Rattle.c_accounts.specs.Entries.{account_in, settings_in, sound_in, AccountTold, answering}
+use Rattle.c_accounts.specs.Entries.{account_in, settings_in, sound_in, answering}
 use Rattle.account.specs.Inner.Answers.{unless_unsound}
 use Rattle.c_accounts.specs.Queries.{queried, held_words, settings_told}
-use Rattle.c_accounts.specs.Inner.Queries.{tell_in}
+use Rattle.c_accounts.specs.Inner.Queries.{is_unsound, tell_in}
 use Rattle.account_bytes.proofs.Sound.{sound_in_lem}
 
 -- ---- whether an account is sound, as code asks
@@ -39,35 +39,37 @@ sound_is true e = refl
 sound_is false e = cc
 
 -- ---- words told, by each way out
-module _ (a : Account) (w : Answer) (words out : List ℕ) where
-  pub tell_unsound : {e : Answer} → checked (unless_unsound a Done) ≡ Err e → answering e out ≡ tell_in a w words out
+module _ (w : Answer) (words out : List ℕ) where
+  pub tell_unsound : is_unsound w ≡ true → answering w out ≡ tell_in w words out
   unfolding tell_in
-  tell_unsound e = let h = unsound_is (sound_account a) e in simp (h.0, h.1)
+  tell_unsound e = simp e
 
-  pub tell_short : {u : Unit {0}} → checked (unless_unsound a Done) ≡ Ok u → (length out ≡ 8 * length words → ⊥) → answering TooLong out ≡ tell_in a w words out
+  pub tell_short : is_unsound w ≡ false → (length out ≡ 8 * length words → ⊥) → answering TooLong out ≡ tell_in w words out
   unfolding tell_in
-  tell_short e f = simp (sound_is (sound_account a) e, ne_eqb (length out) (8 * length words) f)
+  tell_short e f = simp (e, ne_eqb (length out) (8 * length words) f)
 
-  pub tell_made : {u : Unit {0}} (l : List ℕ) → checked (unless_unsound a Done) ≡ Ok u → length out ≡ 8 * length words → l ≡ pick (is_done w) (bytes_of words) out → answering w l ≡ tell_in a w words out
+  pub tell_made : (l : List ℕ) → is_unsound w ≡ false → length out ≡ 8 * length words → l ≡ pick (is_done w) (bytes_of words) out → answering w l ≡ tell_in w words out
   unfolding tell_in
-  tell_made l e f h = simp (sound_is (sound_account a) e, eq-eqb (length out) (8 * length words) f, h)
+  tell_made l e f h = simp (e, eq-eqb (length out) (8 * length words) f, h)
+
+-- an answer that is given of a sound account alone, and is not 11 itself
+told_by : (t : Bool) (w : Answer) → is_unsound w ≡ false → (words out : List ℕ)
+    → tell_in (pick t w Unsound) words out ≡ pick t (pick (eqb (length out) (8 * length words)) (answering w (pick (is_done w) (bytes_of words) out)) (answering TooLong out)) (answering Unsound out)
+unfolding tell_in
+told_by true w e words out = simp e
+told_by false w e words out = refl
 
 -- ---- what is told, of the account that bytes hold
 -- the words that the account gives
-pub told-queried : (gives : Account → List ℕ) (w : Answer) (b out : List ℕ) {a : Account} {ws : List ℕ}
-    → a ≡ account_in b → ws ≡ gives a → let words = gives (account_in b) in tell_in a w ws out ≡ queried b (8 * length words) w words out
-unfolding queried tell_in
-told-queried gives w b out {a} {ws} h k = ap (λ (l : List ℕ). tell_in a w l out) k ∙ ap (λ (x : Account). tell_in x w (gives x) out) h ∙ rw (sound_in_lem b) refl
-
--- an answer that tells 11 itself, too
-told_again : (t : Bool) (w : Answer) (x : Answer → AccountTold) (y : AccountTold) → pick t (x (pick t w Unsound)) y ≡ pick t (x w) y
-told_again true w x y = refl
-told_again false w x y = refl
-
-tell_again : (a : Account) (w : Answer) (words out : List ℕ) → tell_in a (unless_unsound a w) words out ≡ tell_in a w words out
-unfolding tell_in
-tell_again a w words out =
-    told_again (sound_account a) w (λ v. pick (eqb (length out) (8 * length words)) (answering v (pick (is_done v) (bytes_of words) out)) (answering TooLong out)) (answering Unsound out)
+pub told-queried : (gives : Account → List ℕ) (w : Answer) → is_unsound w ≡ false → (b out : List ℕ) {a : Account} {v : Answer} {ws : List ℕ}
+    → a ≡ account_in b → v ≡ unless_unsound a w → ws ≡ gives a → let words = gives (account_in b) in tell_in v ws out ≡ queried b (8 * length words) w words out
+unfolding queried
+told-queried gives w u b out {a} {v} {ws} h m k =
+    ap (λ (x : Answer). tell_in x ws out) m
+    ∙ ap (λ (l : List ℕ). tell_in (unless_unsound a w) l out) k
+    ∙ ap (λ (x : Account). tell_in (unless_unsound x w) (gives x) out) h
+    ∙ told_by (sound_account (account_in b)) w u (gives (account_in b)) out
+    ∙ rw (sound_in_lem b) refl
 
 -- ---- positions
 present-done : (o : Option Position) → (present_or o).answer ≡ Done
@@ -93,12 +95,14 @@ unfolding position_at_of
 place_answer i a = place_by (sound_account a) (ltb i a.positions.count) _
 
 -- the words of the position that the account gives
-pub told-held : (gives : Account → Held) (w : Answer) → ((a : Account) → (gives a).answer ≡ unless_unsound a w) → (b out : List ℕ) {a : Account} {h : Held} {ws : List ℕ}
-    → a ≡ account_in b → h ≡ gives a → ws ≡ held_words h → tell_in a h.answer ws out ≡ queried b 48 w (held_words (gives (account_in b))) out
-told-held gives w each b out {a} {h} {ws} e g k =
-    ap (λ (x : Answer). tell_in a x ws out) (ap (λ (x : Held). x.answer) g ∙ each a)
-    ∙ tell_again a w ws out
-    ∙ told-queried (λ (x : Account). held_words (gives x)) w b out e (k ∙ ap held_words g)
+pub told-held : (gives : Account → Held) (w : Answer) → is_unsound w ≡ false → ((a : Account) → (gives a).answer ≡ unless_unsound a w) → (b out : List ℕ) {a : Account} {h : Held} {ws : List ℕ}
+    → a ≡ account_in b → h ≡ gives a → ws ≡ held_words h → tell_in h.answer ws out ≡ queried b 48 w (held_words (gives (account_in b))) out
+told-held gives w u each b out {a} {h} {ws} e g k =
+    told-queried (λ (x : Account). held_words (gives x)) w u b out e (ap (λ (x : Held). x.answer) g ∙ each a) (k ∙ ap held_words g)
+
+pub good-told : (g : Bool) → is_unsound (pick g Done (BadSymbol alone)) ≡ false
+good-told true = refl
+good-told false = refl
 
 -- "a position the account lacks is 0 with an absent mark"
 pub absent_is_zeros : (w : Answer) → bytes_of (held_words (absent w)) ≡ replicate 48 0

@@ -3,7 +3,9 @@ ghost use Rattle.std.specs.Prelude.{◌≡◌, ◌*◌, ◌≤◌, length};
 ghost use Rattle.word_bytes.specs.Words.{words_of};
 ghost use Rattle.c_accounts.specs.Entries.{account_told};
 ghost use Rattle.c_accounts.specs.Queries.{held_words, cash_told, settings_told, counters_told, series_told, position_told, position_at_told};
-ghost use Rattle.c_accounts.specs.Inner.Queries.{tell_in};
+ghost use Rattle.answer.specs.declared.Answer.TheVariants.{Done};
+ghost use Rattle.account.specs.Inner.Answers.{unless_unsound};
+ghost use Rattle.c_accounts.specs.Inner.Queries.{is_unsound, tell_in};
 
 use account::{Account, Held};
 use account_bytes::{
@@ -23,13 +25,29 @@ fn put_words(words: &[u64], out: &mut [u8])
     }
 }
 
-// The answer of a question to an account, and its words where it is done.
-fn tell(a: Account, asked: Answer, words: &[u64], out: &mut [u8]) -> u64
-    requires { length words.now ≤ 7 }
-    ensures { account_told result out.new ≡ tell_in a asked words.now out.old }
+// What a question that any sound account answers is refused for.
+fn soundness(a: Account) -> Answer
+    ensures { result ≡ unless_unsound a Done }
 {
-    if let Err(answer) = a.check_sound() {
-        return answer::word(answer);
+    match a.check_sound() {
+        Ok(()) => Answer::Done,
+        Err(answer) => answer,
+    }
+}
+
+fn is_unsound(answer: Answer) -> bool
+    ensures { result ≡ is_unsound answer }
+{
+    answer == Answer::Unsound
+}
+
+// The answer of a question to an account, and its words where it is done. The answer tells an unsound account, so that soundness is looked at once.
+fn tell(asked: Answer, words: &[u64], out: &mut [u8]) -> u64
+    requires { length words.now ≤ 7 }
+    ensures { account_told result out.new ≡ tell_in asked words.now out.old }
+{
+    if is_unsound(asked) {
+        return answer::word(asked);
     }
     if out.len() != 8 * words.len() {
         return answer::word(Answer::TooLong);
@@ -60,7 +78,7 @@ pub extern "C" fn tc_cash(account: &[u8], out: &mut [u8]) -> u64
     ensures { account_told result out.new ≡ cash_told account.now out.old }
 {
     let a = account_in(account);
-    tell(a, Answer::Done, &[unsigned(a.cash)], out)
+    tell(soundness(a), &[unsigned(a.cash)], out)
 }
 
 // The words of the settings, as opening takes them.
@@ -85,7 +103,7 @@ pub extern "C" fn tc_counters(account: &[u8], out: &mut [u8]) -> u64
     ensures { account_told result out.new ≡ counters_told account.now out.old }
 {
     let a = account_in(account);
-    tell(a, Answer::Done, &counter_words(a.counters), out)
+    tell(soundness(a), &counter_words(a.counters), out)
 }
 
 // Three words: the counts of equities and returns, and the previous equity.
@@ -94,7 +112,7 @@ pub extern "C" fn tc_series(account: &[u8], out: &mut [u8]) -> u64
     ensures { account_told result out.new ≡ series_told account.now out.old }
 {
     let a = account_in(account);
-    tell(a, Answer::Done, &series_words(a.series), out)
+    tell(soundness(a), &series_words(a.series), out)
 }
 
 // Six words: the present mark, the symbol, quantity, average, realized profit and total cost.
@@ -104,7 +122,7 @@ pub extern "C" fn tc_position(account: &[u8], symbol: u64, out: &mut [u8]) -> u6
 {
     let a = account_in(account);
     let h = a.position(Symbol(symbol));
-    tell(a, h.answer, &held_words(h), out)
+    tell(h.answer, &held_words(h), out)
 }
 
 // The same by its place, the lowest symbol at place 0.
@@ -114,5 +132,5 @@ pub extern "C" fn tc_position_at(account: &[u8], index: u64, out: &mut [u8]) -> 
 {
     let a = account_in(account);
     let h = a.position_at(index as usize);
-    tell(a, h.answer, &held_words(h), out)
+    tell(h.answer, &held_words(h), out)
 }

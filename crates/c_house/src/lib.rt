@@ -2,11 +2,12 @@
 #![tactic(auto)]
 
 ghost use Rattle.std.specs.Prelude.{◌≡◌, ◌∷◌, ◌+◌, ◌-◌, ◌≤◌, length, take};
+ghost use Rattle.answer.specs.Numbers.{checked};
 ghost use Rattle.c_house.specs.Lent.{lent, places, told, house_told};
-ghost use Rattle.c_house.specs.Inner.Given.{lent_house};
+ghost use Rattle.c_house.specs.Inner.Asked.{first_answer};
 
 use answer::{Answer, is_done, number};
-use house::{House, good_group, house_return};
+use house::{good_group, house_return};
 
 // One value, and after it the first of a column, as many as there are places.
 fn put_after<T: Copy>(first: T, column: &[T], places: &mut [T])
@@ -44,18 +45,16 @@ fn has_places(
         && changes.len() as u64 == accounts + 1
 }
 
-// The report where there are places for it, and else why there is none.
-fn report_for(
+// What is asked before the report: a group, and places for what is told of it.
+fn asked(
     accounts: u64,
     parts: u64,
-    marks: &[u8],
-    equities: &[i64],
     rates: &[f64],
     changes: &[i64],
     firsts: &[i64],
     gains: &[i64],
-) -> Result<House, Answer>
-    ensures { result ≡ lent_house accounts parts marks.now equities.now (lent rates.now changes.now firsts.now gains.now) }
+) -> Result<(), Answer>
+    ensures { result ≡ checked (first_answer accounts parts (lent rates.now changes.now firsts.now gains.now)) }
 {
     if !good_group(accounts) {
         return Err(Answer::BadGroup);
@@ -63,12 +62,7 @@ fn report_for(
     if !has_places(accounts, parts, rates, changes, firsts, gains) {
         return Err(Answer::TooLong);
     }
-    let house = house_return(accounts, parts, marks, equities);
-    if is_done(house.answer) {
-        Ok(house)
-    } else {
-        Err(house.answer)
-    }
+    Ok(())
 }
 
 // After 0 the rates are the figure and each part's growth, the changes the group's and each account's, the firsts and the gains each part's first sum and
@@ -86,16 +80,16 @@ pub extern "C" fn tc_house_return(
 ) -> u64
     ensures { told result (lent rates.new changes.new firsts.new gains.new) ≡ house_told accounts parts marks.now equities.now (lent rates.old changes.old firsts.old gains.old) }
 {
-    match report_for(
-        accounts, parts, marks, equities, rates, changes, firsts, gains,
-    ) {
-        Ok(house) => {
-            put_after(house.figure, &house.growths, rates);
-            put_after(house.change, &house.changes, changes);
-            put_sums(&house.firsts, firsts);
-            put_sums(&house.gains, gains);
-            0
-        }
-        Err(answer) => number(answer),
+    if let Err(answer) = asked(accounts, parts, rates, changes, firsts, gains) {
+        return number(answer);
     }
+    let house = house_return(accounts, parts, marks, equities);
+    if !is_done(house.answer) {
+        return number(house.answer);
+    }
+    put_after(house.figure, &house.growths, rates);
+    put_after(house.change, &house.changes, changes);
+    put_sums(&house.firsts, firsts);
+    put_sums(&house.gains, gains);
+    0
 }

@@ -127,9 +127,12 @@ module _ (t : Terms) (o : Order) (b : Book) (c : Columns) (d : Deal) (e : d ≡ 
       ∙ ap (λ y. then_some y (record_by t o d b.sequence b.cash)) (sym k)
       ∙ ap (λ (y : Deal). then_some (pick (is_zero y.quantity.0) false t.recording) (record_by t o y b.sequence b.cash)) e
 
-  pub none_filled : is_zero d.quantity.0 ≡ true → r.book ≡ counted_in d b → r.«record» ≡ None → Fills t o b c r c
+  all_is : r.made ≡ record_by t o d b.sequence b.cash → r.made ≡ record_by t o (deal_of t o b.cash) b.sequence b.cash
+  all_is h = h ∙ ap (λ (y : Deal). record_by t o y b.sequence b.cash) e
+
+  pub none_filled : is_zero d.quantity.0 ≡ true → r.book ≡ counted_in d b → r.made ≡ record_by t o d b.sequence b.cash → r.«record» ≡ None → Fills t o b c r c
   unfolding counted_in counted_by
-  none_filled z hb hr = record {
+  none_filled z hb ha hr = record {
     ordered = subst (λ n. Ordered n c) (sym (ap (λ x. x.count) hb)) s;
     done = λ rs.
         ap (λ x. state x c (rs ++ records_of r)) hb
@@ -137,6 +140,7 @@ module _ (t : Terms) (o : Order) (b : Book) (c : Columns) (d : Deal) (e : d ≡ 
         ∙ ap (state (counted_in d b) c) (append-nil rs)
         ∙ sym (after_is rs ∙ none_after t o (state b c rs) d z);
     written = ap (λ x. x.written) hb;
+    all = all_is ha;
     made = record_is false hr (simp z);
   }
 
@@ -159,14 +163,15 @@ module _ (t : Terms) (o : Order) (b : Book) (c : Columns) (d : Deal) (e : d ≡ 
     rows_are : rows m c' ≡ put64 key_of (applied (holding o.symbol.0 (rows b.count c)) d.quantity.0 d.price) (rows b.count c)
     rows_are = puts.same ∙ ap (λ x. put64 key_of x (rows b.count c)) (hw ∙ ap (λ x. applied x d.quantity.0 d.price) held-is)
 
-    pub one_filled : r.book ≡ settled_in d.cash_after m t.recording h (counted_in d b) → r.«record» ≡ then_some t.recording (record_by t o d b.sequence b.cash)
+    pub one_filled : r.book ≡ settled_in d.cash_after m t.recording h (counted_in d b) → r.made ≡ record_by t o d b.sequence b.cash → r.«record» ≡ then_some t.recording (record_by t o d b.sequence b.cash)
         → Fills t o b c r c'
     unfolding settled_in counted_in counted_by settled_by
-    one_filled hb hr = record {
+    one_filled hb ha hr = record {
       ordered = subst (λ n. Ordered n c') (sym (ap (λ x. x.count) hb)) puts.ordered;
       done = λ rs.
           let k = ap (λ x. rs ++ option_to_list x) hr ∙ joined t.recording rs (record_by t o d b.sequence b.cash) in
           ap (λ x. state x c' (rs ++ records_of r)) hb ∙ same-state refl rows_are refl refl refl k ∙ sym (after_is rs ∙ some_after t o (state b c rs) d z);
       written = ap (λ x. x.written) hb;
+      all = all_is ha;
       made = record_is t.recording hr (simp z);
     }

@@ -12,10 +12,11 @@ use crate::terms::{Book, Order, Terms};
 use position::{Shares, Symbol};
 use table::{Columns, Found};
 
-// One fill: the scalars after it, and the record of it, if one is kept.
+// One fill: the scalars after it, what was made of the order as a record, also where it filled nothing or nothing is recorded, and that record, if it is kept.
 #[derive(Clone, Copy)]
 pub struct Filled {
     pub book: Book,
+    pub made: ExecutionRecord,
     pub record: Option<ExecutionRecord>,
 }
 
@@ -64,10 +65,12 @@ pub fn fill_one(columns: &mut Columns, b: Book, o: Order, t: Terms) -> Filled
     ensures { Ordered b.count columns.old → Fills t o b columns.old result columns.new }
 {
     let d = deal_of(o, b.cash, t);
+    let made = record_of(t, o, d, b.sequence, b.cash);
     let c = counted(b, d);
     if d.quantity.is_zero() {
         return Filled {
             book: c,
+            made,
             record: None,
         };
     }
@@ -75,10 +78,10 @@ pub fn fill_one(columns: &mut Columns, b: Book, o: Order, t: Terms) -> Filled
     let p = columns.held(f, o.symbol.0);
     let z = p.fill(d.quantity, d.price);
     let count = columns.post(b.count, f, z);
-    let record = record_of(t, o, d, b.sequence, b.cash);
     Filled {
         book: settled_in(c, d.cash_after, count, t.recording, place_after(f)),
-        record: t.recording.then_some(record),
+        made,
+        record: t.recording.then_some(made),
     }
 }
 

@@ -121,15 +121,15 @@ module _ (n m : ℕ) (g : Group) where
     pub gains : gs ≡ column 64 (pos 0) p (λ q. lowered (low_sum n (λ a. step_word (g q a))))
     pub totals : (i : ℕ) → i < 32 → get_or lo i 0 ≡ word_after n g p i
 
-  pub low_summing_first : LowSumming (replicate 32 half) (replicate 64 (pos 0)) (replicate 64 (pos 0)) 0 0
+  pub low_summing_first : (fs gs : List ℤ) → fs ≡ replicate 64 (pos 0) → gs ≡ replicate 64 (pos 0) → LowSumming (replicate 32 half) fs gs 0 0
   unfolding sum_n
-  low_summing_first =
+  low_summing_first fs gs ef eg =
       record {
         long = length-replicate 32 half;
         near = λ bound q a h z. absurd (omega arith);
         known = λ q a z. absurd (omega arith);
-        firsts = column-first 64 (pos 0) _;
-        gains = column-first 64 (pos 0) _;
+        firsts = ef ∙ column-first 64 (pos 0) _;
+        gains = eg ∙ column-first 64 (pos 0) _;
         totals = λ i h. get_or-replicate 32 i half 0 h ∙ none (ltb i n);
       }
     where
@@ -161,7 +161,7 @@ module _ (n m : ℕ) (g : Group) where
       low-total a b z = h.totals a b ∙ rw (lt-ltb a n z, e)
 
       pub low_summing_last : (cs : List ℤ) → cs ≡ column 32 (pos 0) n (λ a. lowered (low_sum m (λ q. step_word (g q a))))
-          → LowSummed n m g (record { spread = s; parts = record { firsts = fs; gains = gs; changes = cs } })
+          → LowSummed n m g s fs gs cs
       low_summing_last cs ec =
           record {
             near = λ bound q a o z. h.near bound q a o (omega arith);

@@ -1,11 +1,10 @@
 -- Low words are enough where every equity is within 2 ^ 55 of 0: no sum leaves i64, and so its upper word is known.
-use Rattle.std.proofs.Common.{◌≡◌, ℕ, zero, suc, ◌+◌, ◌-◌, ◌*◌, ◌%◌, ◌^◌, ◌<◌, ◌≤◌, true, ◌⊎◌, ℤ, pos, negsuc, ◌+ℤ◌, ◌-ℤ◌, sym, refl, ap, ◌∙◌, inl, inr, ⊎_elim, arith, w64, SFits, of_z}
+use Rattle.std.proofs.Common.{◌≡◌, ℕ, zero, suc, ◌+◌, ◌-◌, ◌*◌, ◌%◌, ◌^◌, ◌<◌, ◌≤◌, true, ◌⊎◌, List, ℤ, pos, negsuc, ◌+ℤ◌, ◌-ℤ◌, sym, refl, ap, ◌∙◌, inl, inr, ⊎_elim, arith, w64, SFits, of_z}
 use Rattle.sums.proofs.Ints.{P, N, P-add, P-sub, one_sided, fits_of}
 use Rattle.house.specs.Group.{Equity, given, absent, Ends, Group, of_both, first_of, change_of, every, in_i64, sum_to, first_sum, summed_change, account_change, part_in_i64}
 use Rattle.house.specs.Inner.Raised.{half, raised, lowered, sum_n, summed}
 use Rattle.house.specs.Inner.Parts.{Summed}
 use Rattle.house.specs.Inner.Low.{away, step, first_word, step_word, low_sum, last_of, Known, LowSummed}
-use Rattle.house.specs.declared.low.LowParts.{LowParts}
 use Rattle.house.proofs.Raised.{word_raised, raised_parts, raised_lt, in_is, in_yes, ended-value}
 use Rattle.house.proofs.Columns.{every_of, column_cong}
 
@@ -105,7 +104,7 @@ small_in : (n : ℕ) (z : ℤ) → n ≤ 64 → Small (n * 2 ^ 56) z → in_i64 
 small_in n z h s = in_is z (fits_of z (omega (arith, s.above)) (omega (arith, s.below)))
 
 -- ---- the whole
-module _ (n m : ℕ) (g : Group) (hn : n ≤ 32) (hm : m ≤ 64) (r : LowParts) (s : LowSummed n m g r) (close : r.spread < 2 ^ 56) where
+module _ (n m : ℕ) (g : Group) (hn : n ≤ 32) (hm : m ≤ 64) (spread : ℕ) (fs gs cs : List ℤ) (s : LowSummed n m g spread fs gs cs) (close : spread < 2 ^ 56) where
   module _ (p a : ℕ) (hp : p < m) (ha : a < n) where
     first_small : Small (2 ^ 55) (first_of (g p a))
     first_small = small_word (first_of (g p a)) (s.known p a hp ha).first (s.near (2 ^ 56) p a close hp ha).0
@@ -147,7 +146,7 @@ module _ (n m : ℕ) (g : Group) (hn : n ≤ 32) (hm : m ≤ 64) (r : LowParts) 
         ap lowered (low_is m _ (λ p. raised (change_of (g p a))) (λ p hp. step-raised (g p a) (s.known p a hp ha) (change-in p a hp ha)))
         ∙ ended-value m (λ p. change_of (g p a)) (λ p hp. in_yes _ (change-in p a hp ha)) account-in
 
-  pub low-enough : Summed n m g r.parts
+  pub low-enough : Summed n m g fs gs cs
   low-enough =
       record {
         fits = rw (every_of m (part_in_i64 n g) part_in, every_of n (λ a. in_i64 (account_change m g a)) account-in);

@@ -1,9 +1,8 @@
 -- What the sums give the report, and what an answer of done tells of the places.
-use Rattle.std.proofs.Common.{◌≡◌, ℕ, zero, suc, ◌*◌, ◌<◌, ◌≤◌, Bool, true, false, ◌&&◌, eqb, ltb, leb, cond, None, Some, Ok, Err, List, length, get_or, ℤ, pos, sym, refl, ap, ◌∙◌, arith, eqb-true, leb-true}
+use Rattle.std.proofs.Common.{◌≡◌, ℕ, zero, suc, ◌*◌, ◌<◌, ◌≤◌, Bool, true, false, ◌&&◌, eqb, ltb, leb, None, Some, Ok, Err, List, length, get_or, replicate, ℤ, pos, sym, refl, ap, ◌∙◌, arith, eqb-true, leb-true}
 use lib.Signed.{lt_z}
 use lib.Ieee.{Float, binary64, sub}
-use Rattle.answer.specs.Choice.{pick}
-use Rattle.answer.specs.Numbers.{is_done, unless}
+use Rattle.answer.specs.Numbers.{is_done, unless, checked}
 use Rattle.answer.proofs.Choice.{both_true}
 use Rattle.answer.proofs.Answers.{passed}
 use Rattle.answer.specs.declared.Answer.{Answer}
@@ -15,10 +14,7 @@ use Rattle.house.specs.Places.{group_in, column}
 use Rattle.house.specs.House.{most_accounts, most_parts, within, whole, early_answer, refusal, report, answered, house_of_group, house_of}
 use Rattle.house.specs.declared.House.{House}
 use Rattle.house.specs.Inner.Raised.{fitting}
-use Rattle.house.specs.Inner.Parts.{is_positive, Summed, Grown}
-use Rattle.house.specs.Inner.Given.{reported, lent_report}
-use Rattle.house.specs.declared.part.Parts.{Parts}
-use Rattle.house.specs.declared.growth.Growths.{Growths}
+use Rattle.house.specs.Inner.Parts.{in_range, is_positive, Summed, Grown}
 use Rattle.house.proofs.Columns.{every_cong, column_at, column_cong, test_passed, test_failed}
 
 sum_to_cong : (n : ℕ) (f g : ℕ → ℤ) → ((i : ℕ) → i < n → f i ≡ g i) → sum_to n f ≡ sum_to n g
@@ -31,14 +27,26 @@ unfolding product_to
 product_cong zero f g e = refl
 product_cong (suc m) f g e = rw (product_cong m f g (λ p h. e p (omega arith)), e m (omega arith))
 
-module _ (n m : ℕ) (g : Group) (hm : m ≤ 64) (r : Parts) (s : Summed n m g r) where
-  first_at : (p : ℕ) → p < m → get_or r.firsts p (pos 0) ≡ first_sum n g p
+-- the columns and the answer of a report that is empty
+pub record Empty (h : House) : Type 0 where
+  pub answer : h.answer ≡ Done
+  pub changes : h.changes ≡ replicate 32 (pos 0)
+  pub firsts : h.firsts ≡ replicate 64 (pos 0)
+  pub gains : h.gains ≡ replicate 64 (pos 0)
+  pub growths : h.growths ≡ replicate 64 none
+
+pub emptied : (h : House) → h ≡ refusal Done → Empty h
+unfolding refusal
+emptied h e = rw e (record { answer = refl; changes = refl; firsts = refl; gains = refl; growths = refl })
+
+module _ (n m : ℕ) (g : Group) (hm : m ≤ 64) (fs gs cs : List ℤ) (s : Summed n m g fs gs cs) where
+  first_at : (p : ℕ) → p < m → get_or fs p (pos 0) ≡ first_sum n g p
   first_at p h = ap (λ l. get_or l p (pos 0)) s.firsts ∙ column_at 64 (pos 0) m (first_sum n g) p (pos 0) hm h
 
-  gain_at : (p : ℕ) → p < m → get_or r.gains p (pos 0) ≡ summed_change n g p
+  gain_at : (p : ℕ) → p < m → get_or gs p (pos 0) ≡ summed_change n g p
   gain_at p h = ap (λ l. get_or l p (pos 0)) s.gains ∙ column_at 64 (pos 0) m (summed_change n g) p (pos 0) hm h
 
-  group_is : fitting (sum_to m (λ p. get_or r.gains p (pos 0))) ≡ fitting (group_change n m g)
+  group_is : fitting (sum_to m (λ p. get_or gs p (pos 0))) ≡ fitting (group_change n m g)
   group_is = ap fitting (sum_to_cong m _ (summed_change n g) gain_at)
 
   all_by : all_in_i64 n m g ≡ in_i64 (group_change n m g)
@@ -46,34 +54,47 @@ module _ (n m : ℕ) (g : Group) (hm : m ≤ 64) (r : Parts) (s : Summed n m g r
       let b = both_true (every m (part_in_i64 n g)) (every n (λ a. in_i64 (account_change m g a))) s.fits in
       rw (b.0, b.1)
 
-  positive_is : every m (is_positive r.firsts) ≡ all_positive n m g
-  positive_is = every_cong m (is_positive r.firsts) (λ p. lt_z (pos 0) (first_sum n g p)) (λ p h. ap (lt_z (pos 0)) (first_at p h))
+  positive_is : every m (is_positive fs) ≡ all_positive n m g
+  positive_is = every_cong m (is_positive fs) (λ p. lt_z (pos 0) (first_sum n g p)) (λ p h. ap (lt_z (pos 0)) (first_at p h))
 
   -- the group's change is not in i64
-  pub out_of_range : None ≡ fitting (sum_to m (λ p. get_or r.gains p (pos 0))) → Err OutOfRange ≡ reported n m g
-  out_of_range e = rw (all_by, test_failed _ _ (e ∙ group_is))
+  pub group_out : None ≡ fitting (sum_to m (λ p. get_or gs p (pos 0))) → refusal OutOfRange ≡ house_of_group n m g
+  unfolding house_of_group
+  group_out e = rw (all_by, test_failed _ _ (e ∙ group_is))
 
-  module _ (change : ℤ) (e : Some change ≡ fitting (sum_to m (λ p. get_or r.gains p (pos 0)))) where
+  module _ (change : ℤ) (e : Some change ≡ fitting (sum_to m (λ p. get_or gs p (pos 0)))) where
     group-in : (in_i64 (group_change n m g) ≡ true) × (change ≡ group_change n m g)
     group-in = test_passed _ _ _ (e ∙ group_is)
 
-    pub no_first-sum : every m (is_positive r.firsts) ≡ false → Err NoFirstSum ≡ reported n m g
+    pub no_first-sum : every m (is_positive fs) ≡ false → refusal NoFirstSum ≡ house_of_group n m g
+    unfolding house_of_group
     no_first-sum q = rw (all_by, group-in.0, sym positive_is ∙ q)
 
-    module _ (w : Growths) (hw : Grown m r.firsts r.gains w) where
-      growth-at : (p : ℕ) → p < m → growth_of (get_or r.gains p (pos 0)) (get_or r.firsts p (pos 0)) ≡ growth n g p
+    module _ (figure : Float) (growths : List Float) (hw : Grown m fs gs figure growths) where
+      growth-at : (p : ℕ) → p < m → growth_of (get_or gs p (pos 0)) (get_or fs p (pos 0)) ≡ growth n g p
       growth-at p h = rw (gain_at p h, first_at p h)
 
-      figure_is : w.figure ≡ sub binary64 (product_to m (growth n g)) one
+      figure_is : figure ≡ sub binary64 (product_to m (growth n g)) one
       figure_is = hw.figure ∙ ap (λ x. sub binary64 x one) (product_cong m _ (growth n g) growth-at)
 
-      growths-are : w.growths ≡ column 64 none m (growth n g)
+      growths-are : growths ≡ column 64 none m (growth n g)
       growths-are = hw.growths ∙ column_cong 64 none m _ (growth n g) growth-at
 
-      pub report_is : Ok (record { answer = Done; figure = w.figure; change = change; changes = r.changes; firsts = r.firsts; gains = r.gains; growths = w.growths }) ≡ reported n m g
-      unfolding report
+      pub report_is : record { answer = Done; figure = figure; change = change; changes = cs; firsts = fs; gains = gs; growths = growths } ≡ house_of_group n m g
+      unfolding house_of_group report
       report_is =
           rw (all_by, group-in.0, sym positive_is ∙ hw.positive, figure_is, group-in.1, s.changes, s.firsts, s.gains, growths-are)
+
+-- a part or an account is not in i64
+pub out_of_range : (n m : ℕ) (g : Group) → in_range n m g ≡ false → refusal OutOfRange ≡ house_of_group n m g
+unfolding house_of_group
+out_of_range n m g e = go (every m (part_in_i64 n g)) (every n (λ a. in_i64 (account_change m g a))) e
+  where
+    go : (a b : Bool) → a && b ≡ false
+        → refusal OutOfRange ≡ answered (unless (a && (b && in_i64 (group_change n m g))) OutOfRange (unless (all_positive n m g) NoFirstSum Done)) (report n m g)
+    go true true q = cc
+    go true false q = refl
+    go false b q = refl
 
 -- what an early answer of done tells of the places
 pub early-done : (n m : ℕ) (marks : List ℕ) (equities : List ℤ) → is_done (early_answer n m marks equities) ≡ true
@@ -96,45 +117,20 @@ house-done n m marks equities e = go (is_done (early_answer n m marks equities))
     go true q = q
     go false q = rw q at e
 
--- ---- the report or the refusal, as the house return has them
-module _ (n m : ℕ) (g : Group) where
-  pub given : (h : House) → Ok h ≡ reported n m g → h ≡ house_of_group n m g
-  unfolding house_of_group
-  given h e = go (all_in_i64 n m g) (all_positive n m g) e
-    where
-      go : (a b : Bool) → Ok h ≡ cond a (cond b (Ok (report n m g)) (Err NoFirstSum)) (Err OutOfRange) → h ≡ answered (unless a OutOfRange (unless b NoFirstSum Done)) (report n m g)
-      go true true q = cc
-      go true false q = cc
-      go false b q = cc
-
-  pub refused : (x : Answer) → Err x ≡ reported n m g → refusal x ≡ house_of_group n m g
-  unfolding house_of_group
-  refused x e = go (all_in_i64 n m g) (all_positive n m g) e
-    where
-      go : (a b : Bool) → Err x ≡ cond a (cond b (Ok (report n m g)) (Err NoFirstSum)) (Err OutOfRange) → refusal x ≡ answered (unless a OutOfRange (unless b NoFirstSum Done)) (report n m g)
-      go true true q = cc
-      go true false q = cc
-      go false b q = cc
-
+-- ---- what is asked before any sum
 module _ (n m : ℕ) (marks : List ℕ) (equities : List ℤ) where
-  pub lent-given : (h : House) → Ok h ≡ lent_report n m marks equities → h ≡ house_of n m marks equities
+  pub early_passed : Ok tt ≡ checked (early_answer n m marks equities) → house_of_group n m (group_in n marks equities) ≡ house_of n m marks equities
   unfolding house_of
-  lent-given h e = go (early_answer n m marks equities) e
+  early_passed e = go (is_done (early_answer n m marks equities)) refl
     where
-      go : (a : Answer) → Ok h ≡ pick (is_done a) (reported n m (group_in n marks equities)) (Err a) → h ≡ answered a (house_of_group n m (group_in n marks equities))
-      go a q = by (is_done a) q
-        where
-          by : (t : Bool) → Ok h ≡ pick t (reported n m (group_in n marks equities)) (Err a) → h ≡ pick t (house_of_group n m (group_in n marks equities)) (refusal a)
-          by true q = given n m (group_in n marks equities) h q
-          by false q = cc
+      go : (t : Bool) → is_done (early_answer n m marks equities) ≡ t → house_of_group n m (group_in n marks equities) ≡ answered (early_answer n m marks equities) (house_of_group n m (group_in n marks equities))
+      go true q = rw q
+      go false q = let w = rw q at e in cc
 
-  pub lent-refused : (x : Answer) → Err x ≡ lent_report n m marks equities → refusal x ≡ house_of n m marks equities
+  pub early_refused : (x : Answer) → Err x ≡ checked (early_answer n m marks equities) → refusal x ≡ house_of n m marks equities
   unfolding house_of
-  lent-refused x e = go (early_answer n m marks equities) e
+  early_refused x e = go (is_done (early_answer n m marks equities)) refl
     where
-      go : (a : Answer) → Err x ≡ pick (is_done a) (reported n m (group_in n marks equities)) (Err a) → refusal x ≡ answered a (house_of_group n m (group_in n marks equities))
-      go a q = by (is_done a) q
-        where
-          by : (t : Bool) → Err x ≡ pick t (reported n m (group_in n marks equities)) (Err a) → refusal x ≡ pick t (house_of_group n m (group_in n marks equities)) (refusal a)
-          by true q = refused n m (group_in n marks equities) x q
-          by false q = let e : x ≡ a = cc in ap refusal e
+      go : (t : Bool) → is_done (early_answer n m marks equities) ≡ t → refusal x ≡ answered (early_answer n m marks equities) (house_of_group n m (group_in n marks equities))
+      go true q = let w = rw q at e in cc
+      go false q = let w = rw q at e in let i : x ≡ early_answer n m marks equities = cc in rw q (ap refusal i)

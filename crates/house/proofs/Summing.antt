@@ -1,5 +1,6 @@
 -- The loop over the parts: what it has come to after some of them, one part more, and the accounts' changes.
 use Rattle.std.proofs.Common.{◌≡◌, ℕ, ◌+◌, ◌/◌, ◌%◌, ◌^◌, ◌<◌, ◌≤◌, Bool, true, false, cond, eqb, ltb, List, length, set, replicate, ℤ, pos, sym, refl, ap, ◌∙◌, add-one, arith, ltb-true, lt-ltb, w64, SFits}
+use Rattle.std.specs.Prelude.{Option, Some, None, MatchOption}
 use lib.ListN.{length-replicate, get_or-replicate}
 use Rattle.sums.specs.declared.Wide.{Wide}
 use Rattle.sums.specs.Wide.{value_of, wide}
@@ -94,10 +95,10 @@ module _ (n m : ℕ) (g : Group) where
       accounts_in : every n (total_fits m totals) ≡ every n (λ a. in_i64 (account_change m g a))
       accounts_in = every_cong n (total_fits m totals) (λ a. in_i64 (account_change m g a)) total-fits
 
-      pub account_out : every n (total_fits m totals) ≡ false → in_range n m g ≡ false
+      account_out : every n (total_fits m totals) ≡ false → in_range n m g ≡ false
       account_out q = rw (parts_in, sym accounts_in ∙ q)
 
-      pub summing_last : (cs : List ℤ) → Totalled n m totals cs → Summed n m g (record { firsts = fs; gains = gs; changes = cs })
+      summing_last : (cs : List ℤ) → Totalled n m totals cs → Summed n m g fs gs cs
       summing_last cs t =
           let all : every n (λ a. in_i64 (account_change m g a)) ≡ true = sym accounts_in ∙ t.fits in
           record {
@@ -108,3 +109,8 @@ module _ (n m : ℕ) (g : Group) where
                 ∙ column_cong 32 (pos 0) n (λ a. lowered (total_at totals a % 2 ^ 64)) (account_change m g)
                 (λ a h. ap (λ x. lowered (x % 2 ^ 64)) (total_is a h) ∙ ended-value m (λ q. change_of (g q a)) (own a h) (every_at n (λ i. in_i64 (account_change m g i)) all a h));
           }
+
+      pub summed_by : (r : Option Unit) (cs : List ℤ) → MatchOption r (every n (total_fits m totals) ≡ false) (λ done. Totalled n m totals cs)
+          → MatchOption r (in_range n m g ≡ false) (λ done. Summed n m g fs gs cs)
+      summed_by None cs t = account_out t
+      summed_by (Some done) cs t = summing_last cs t

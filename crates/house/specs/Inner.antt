@@ -2,4 +2,3 @@
 pub mod Raised
 pub mod Parts
 pub mod Low
-pub mod Given

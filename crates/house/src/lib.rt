@@ -1,11 +1,11 @@
 // One figure for a group of accounts: document 02, "House return over a group of accounts".
 #![tactic(auto)]
 
-ghost use Rattle.std.specs.Prelude.{◌≡◌, ◌*◌, ◌≤◌, length};
+ghost use Rattle.std.specs.Prelude.{◌≡◌, ◌*◌, ◌≤◌, length, MatchResult};
 ghost use Rattle.answer.specs.Numbers.{checked};
+ghost use Rattle.answer.specs.declared.Answer.TheVariants.{Done};
 ghost use Rattle.house.specs.Places.{group_in, good_marks};
-ghost use Rattle.house.specs.House.{most_accounts, within, whole, early_answer, refusal, house_of};
-ghost use Rattle.house.specs.Inner.Given.{reported, lent_report};
+ghost use Rattle.house.specs.House.{most_accounts, within, whole, early_answer, refusal, house_of_group, house_of};
 
 mod entry;
 mod growth;
@@ -14,8 +14,8 @@ mod part;
 mod sum;
 mod total;
 
-use crate::growth::{Growths, grow};
-use crate::part::{Parts, sum_parts};
+use crate::growth::grow;
+use crate::part::sum_parts;
 use crate::total::sum_group;
 use answer::Answer;
 
@@ -102,35 +102,39 @@ fn early(accounts: u64, parts: u64, marks: &[u8], equities: &[i64]) -> Result<()
     Ok(())
 }
 
-// 15 is told before 14, wherever either stands: all sums are taken before a first sum is asked for.
-fn report_of(n: usize, m: usize, marks: &[u8], equities: &[i64]) -> Result<House, Answer>
-    requires { (n ≤ 32) × (m ≤ 64) × (length marks.now ≡ 2 * (m * n)) × (length equities.now ≡ 2 * (m * n)) }
-    ensures { result ≡ reported n m (group_in n marks.now equities.now) }
+// The figures of a report that is empty before; after a refusal they are any. 15 is told before 14, wherever either stands: all sums are taken before a first
+// sum is asked for.
+fn fill(n: usize, m: usize, marks: &[u8], equities: &[i64], house: &mut House) -> Result<(), Answer>
+    requires sizes { (n ≤ 32) × (m ≤ 64) × (length marks.now ≡ 2 * (m * n)) × (length equities.now ≡ 2 * (m * n)) }
+    requires empty { house.old ≡ refusal Done }
+    ensures { MatchResult result (λ done. house.new ≡ house_of_group n m (group_in n marks.now equities.now)) (λ answer. refusal answer ≡ house_of_group n m (group_in n marks.now equities.now)) }
 {
-    let Parts {
-        firsts,
-        gains,
-        changes,
-    } = sum_parts(n, m, marks, equities).ok_or(Answer::OutOfRange)?;
-    let change = sum_group(m, &gains).ok_or(Answer::OutOfRange)?;
-    let Growths { figure, growths } = grow(m, &firsts, &gains).ok_or(Answer::NoFirstSum)?;
-    Ok(House {
-        answer: Answer::Done,
-        figure,
-        change,
-        changes,
-        firsts,
-        gains,
-        growths,
-    })
+    sum_parts(
+        n,
+        m,
+        marks,
+        equities,
+        &mut house.firsts,
+        &mut house.gains,
+        &mut house.changes,
+    )
+    .ok_or(Answer::OutOfRange)?;
+    house.change = sum_group(m, &house.gains).ok_or(Answer::OutOfRange)?;
+    house.figure = grow(m, &house.firsts, &house.gains, &mut house.growths).ok_or(
+        Answer::NoFirstSum,
+    )?;
+    Ok(())
 }
 
-// The report of what is lent, and else the first answer that refuses it.
-fn lent_report(accounts: u64, parts: u64, marks: &[u8], equities: &[i64]) -> Result<House, Answer>
-    ensures { result ≡ lent_report accounts parts marks.now equities.now }
+fn report_of(n: usize, m: usize, marks: &[u8], equities: &[i64]) -> House
+    requires { (n ≤ 32) × (m ≤ 64) × (length marks.now ≡ 2 * (m * n)) × (length equities.now ≡ 2 * (m * n)) }
+    ensures { result ≡ house_of_group n m (group_in n marks.now equities.now) }
 {
-    early(accounts, parts, marks, equities)?;
-    report_of(accounts as usize, parts as usize, marks, equities)
+    let mut house = refused(Answer::Done);
+    match fill(n, m, marks, equities, &mut house) {
+        Ok(()) => house,
+        Err(answer) => refused(answer),
+    }
 }
 
 // Marks and equities stand part by part, in a part account by account, for each its first end and its last. A mark is 1 where the equity is there and 0
@@ -138,8 +142,8 @@ fn lent_report(accounts: u64, parts: u64, marks: &[u8], equities: &[i64]) -> Res
 pub fn house_return(accounts: u64, parts: u64, marks: &[u8], equities: &[i64]) -> House
     ensures { result ≡ house_of accounts parts marks.now equities.now }
 {
-    match lent_report(accounts, parts, marks, equities) {
-        Ok(house) => house,
+    match early(accounts, parts, marks, equities) {
+        Ok(()) => report_of(accounts as usize, parts as usize, marks, equities),
         Err(answer) => refused(answer),
     }
 }

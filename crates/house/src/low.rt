@@ -1,11 +1,11 @@
 // The low words of the sums alone, for amounts so small that no sum needs more: then the upper words are what they are of any sum that is in i64.
-ghost use Rattle.std.specs.Prelude.{◌≡◌, ℕ, ◌+◌, ◌*◌, ◌^◌, ◌<◌, ◌≤◌, length, if◌then◌else◌, bit_or, slice_index};
+ghost use Rattle.std.specs.Prelude.{◌≡◌, ℕ, ◌+◌, ◌*◌, ◌^◌, ◌<◌, ◌≤◌, length, if◌then◌else◌, bit_or, replicate, pos, slice_index};
 ghost use Rattle.std.specs.Int.{w64, cast_unsigned};
 ghost use Rattle.house.specs.Places.{group_in};
 ghost use Rattle.house.specs.Inner.Low.{away, step, LowAdded, LowSummed};
 
 use crate::entry::present;
-use crate::part::Parts;
+use crate::part::SMALL;
 use crate::sum::{HALF, lower};
 
 // 2^55, from 0 either way: so 64 changes, each below 2^56, add up to less than 2^63, and so do 32 first equities. The group's change may not, and is asked
@@ -17,13 +17,6 @@ struct LowPart {
     first: u64,
     gain: u64,
     spread: u64,
-}
-
-// The sums as they are where every equity that counts is within reach of 0, and whether it is: then the spread is below 2^56.
-#[derive(Clone, Copy)]
-pub(crate) struct LowParts {
-    pub(crate) spread: u64,
-    pub(crate) parts: Parts,
 }
 
 fn word_if(there: bool, x: i64) -> u64
@@ -70,30 +63,34 @@ fn sum_low_part(n: usize, p: usize, marks: &[u8], equities: &[i64], lo: &mut [u6
     }
 }
 
-pub(crate) fn sum_low(n: usize, m: usize, marks: &[u8], equities: &[i64]) -> LowParts
-    requires { (n ≤ 32) × (m ≤ 64) × (length marks.now ≡ 2 * (m * n)) × (length equities.now ≡ 2 * (m * n)) }
-    ensures { LowSummed n m (group_in n marks.now equities.now) result }
+// The sums as they are where every equity that counts is within reach of 0, into columns that are empty before, and whether it is: then the spread that is
+// returned is below 2^56. Else it ends after the first part that has one beyond.
+pub(crate) fn sum_low(
+    n: usize,
+    m: usize,
+    marks: &[u8],
+    equities: &[i64],
+    firsts: &mut [i64; 64],
+    gains: &mut [i64; 64],
+    changes: &mut [i64; 32],
+) -> u64
+    requires sizes { (n ≤ 32) × (m ≤ 64) × (length marks.now ≡ 2 * (m * n)) × (length equities.now ≡ 2 * (m * n)) }
+    requires empty { (firsts.old ≡ replicate 64 (pos 0)) × (gains.old ≡ replicate 64 (pos 0)) × (changes.old ≡ replicate 32 (pos 0)) }
+    ensures { result < 2 ^ 56 → LowSummed n m (group_in n marks.now equities.now) result firsts.new gains.new changes.new }
 {
     let mut lo = [HALF; 32];
-    let mut firsts = [0; 64];
-    let mut gains = [0; 64];
     let mut spread = 0u64;
     for p in 0..m {
         let part = sum_low_part(n, p, marks, equities, &mut lo);
         firsts[p] = lower(part.first);
         gains[p] = lower(part.gain);
         spread |= part.spread;
+        if SMALL <= spread {
+            return spread;
+        }
     }
-    let mut changes = [0; 32];
     for a in 0..n {
         changes[a] = lower(lo[a]);
     }
-    LowParts {
-        spread,
-        parts: Parts {
-            firsts,
-            gains,
-            changes,
-        },
-    }
+    spread
 }

@@ -1,5 +1,5 @@
 // The sums of each part, and with them those of each account.
-ghost use Rattle.std.specs.Prelude.{◌≡◌, false, ◌+◌, ◌*◌, ◌≤◌, ◌&&◌, length, MatchOption};
+ghost use Rattle.std.specs.Prelude.{◌≡◌, false, ◌+◌, ◌*◌, ◌≤◌, ◌&&◌, length, replicate, pos, MatchOption};
 ghost use Rattle.house.specs.Group.{part_in_i64};
 ghost use Rattle.house.specs.Places.{group_in};
 ghost use Rattle.house.specs.Inner.Parts.{SumsWithRoom, Added, in_range, Summed};
@@ -11,20 +11,12 @@ use crate::total::sum_accounts;
 use sums::Wide;
 
 // 2^56: what the low words' spread is below where they are enough.
-const SMALL: u64 = 0x100_0000_0000_0000;
+pub(crate) const SMALL: u64 = 0x100_0000_0000_0000;
 
 #[derive(Clone, Copy)]
 struct Part {
     first: i64,
     gain: i64,
-}
-
-// Of each part its first sum and its summed change, and of each account its change.
-#[derive(Clone, Copy)]
-pub(crate) struct Parts {
-    pub(crate) firsts: [i64; 64],
-    pub(crate) gains: [i64; 64],
-    pub(crate) changes: [i64; 32],
 }
 
 // The part p, and each account's change in its own total too. None where a change or a sum of the part is not in i64.
@@ -55,36 +47,49 @@ fn sum_part(
 }
 
 // With both words. None where a change or a finished sum of a part or of an account is not in i64.
-fn sum_exactly(n: usize, m: usize, marks: &[u8], equities: &[i64]) -> Option<Parts>
+fn sum_exactly(
+    n: usize,
+    m: usize,
+    marks: &[u8],
+    equities: &[i64],
+    firsts: &mut [i64; 64],
+    gains: &mut [i64; 64],
+    changes: &mut [i64; 32],
+) -> Option<()>
     requires { (n ≤ 32) × (m ≤ 64) × (length marks.now ≡ 2 * (m * n)) × (length equities.now ≡ 2 * (m * n)) }
-    ensures { MatchOption result (in_range n m (group_in n marks.now equities.now) ≡ false) (Summed n m (group_in n marks.now equities.now)) }
+    ensures { MatchOption result (in_range n m (group_in n marks.now equities.now) ≡ false) (λ done. Summed n m (group_in n marks.now equities.now) firsts.new gains.new changes.new) }
 {
+    *firsts = [0; 64];
+    *gains = [0; 64];
+    *changes = [0; 32];
     let mut totals = [start(m as u64); 32];
-    let mut firsts = [0; 64];
-    let mut gains = [0; 64];
     for p in 0..m {
         let part = sum_part(n, p, marks, equities, &mut totals)?;
         firsts[p] = part.first;
         gains[p] = part.gain;
     }
-    let changes = sum_accounts(n, m, &totals)?;
-    Some(Parts {
-        firsts,
-        gains,
-        changes,
-    })
+    sum_accounts(n, m, &totals, changes)
 }
 
 // By low words alone where they are enough, which no everyday amounts are beyond; else with both. By part and by account all sums of small amounts are in
-// i64.
-pub(crate) fn sum_parts(n: usize, m: usize, marks: &[u8], equities: &[i64]) -> Option<Parts>
-    requires { (n ≤ 32) × (m ≤ 64) × (length marks.now ≡ 2 * (m * n)) × (length equities.now ≡ 2 * (m * n)) }
-    ensures { MatchOption result (in_range n m (group_in n marks.now equities.now) ≡ false) (Summed n m (group_in n marks.now equities.now)) }
+// i64. Of each part its first sum and its summed change, and of each account its change, into columns that are empty before.
+pub(crate) fn sum_parts(
+    n: usize,
+    m: usize,
+    marks: &[u8],
+    equities: &[i64],
+    firsts: &mut [i64; 64],
+    gains: &mut [i64; 64],
+    changes: &mut [i64; 32],
+) -> Option<()>
+    requires sizes { (n ≤ 32) × (m ≤ 64) × (length marks.now ≡ 2 * (m * n)) × (length equities.now ≡ 2 * (m * n)) }
+    requires empty { (firsts.old ≡ replicate 64 (pos 0)) × (gains.old ≡ replicate 64 (pos 0)) × (changes.old ≡ replicate 32 (pos 0)) }
+    ensures { MatchOption result (in_range n m (group_in n marks.now equities.now) ≡ false) (λ done. Summed n m (group_in n marks.now equities.now) firsts.new gains.new changes.new) }
 {
-    let low = sum_low(n, m, marks, equities);
-    if low.spread < SMALL {
-        Some(low.parts)
+    let spread = sum_low(n, m, marks, equities, firsts, gains, changes);
+    if spread < SMALL {
+        Some(())
     } else {
-        sum_exactly(n, m, marks, equities)
+        sum_exactly(n, m, marks, equities, firsts, gains, changes)
     }
 }

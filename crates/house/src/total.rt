@@ -1,5 +1,5 @@
 // The change of each account, and of the group, over the whole period.
-ghost use Rattle.std.specs.Prelude.{◌≡◌, false, ◌≤◌, pos, slice_index_or, MatchOption};
+ghost use Rattle.std.specs.Prelude.{◌≡◌, false, ◌≤◌, replicate, pos, slice_index_or, MatchOption};
 ghost use Rattle.house.specs.Group.{sum_to, every};
 ghost use Rattle.house.specs.Inner.Raised.{fitting};
 ghost use Rattle.house.specs.Inner.Parts.{total_fits, Totalled};
@@ -7,16 +7,21 @@ ghost use Rattle.house.specs.Inner.Parts.{total_fits, Totalled};
 use crate::sum::{finish, plus, raise, start};
 use sums::Wide;
 
-// None where an account's change is not in i64.
-pub(crate) fn sum_accounts(n: usize, m: usize, totals: &[Wide; 32]) -> Option<[i64; 32]>
-    requires { n ≤ 32 }
-    ensures { MatchOption result (every n (total_fits m totals.now) ≡ false) (Totalled n m totals.now) }
+// None where an account's change is not in i64. The column of changes is empty before.
+pub(crate) fn sum_accounts(
+    n: usize,
+    m: usize,
+    totals: &[Wide; 32],
+    changes: &mut [i64; 32],
+) -> Option<()>
+    requires n_bound { n ≤ 32 }
+    requires empty { changes.old ≡ replicate 32 (pos 0) }
+    ensures { MatchOption result (every n (total_fits m totals.now) ≡ false) (λ done. Totalled n m totals.now changes.new) }
 {
-    let mut changes = [0; 32];
     for a in 0..n {
         changes[a] = finish(totals[a], m as u64)?;
     }
-    Some(changes)
+    Some(())
 }
 
 // None where the group's change is not in i64.

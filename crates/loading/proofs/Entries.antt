@@ -2,7 +2,7 @@
 use Rattle.std.specs.Prelude.{Result, Ok, Err}
 use Prim.Native.Nat.{ℕ, min, zero, suc, ◌+◌, ◌-◌, ◌<◌, ◌≤◌}
 use mathlib.Core.Path.{◌≡◌, refl, sym, ap, ◌∙◌}
-use mathlib.Core.Bool.{Bool, true, false}
+use mathlib.Core.Bool.{true, false}
 use mathlib.Core.List.{List, [], ◌∷◌, map}
 use native.Mathlib.Omega.{arith}
 use native.Mathlib.Numerals.{add-one}
@@ -10,7 +10,6 @@ use lib.IntN.{ℤ, pos}
 use lib.ListN.{length, get_or, replicate, length-map}
 use lib.Seq.{sets}
 use borrow.Author.Tests.{lt-ltb}
-use Rattle.answer.specs.Choice.{pick}
 use Rattle.answer.specs.Numbers.{is_done}
 use Rattle.answer.specs.declared.Answer.{Answer}
 use Rattle.answer.specs.declared.Answer.TheVariants.{Done}
@@ -27,12 +26,13 @@ use Rattle.table.specs.Inner.Rows.{CountedCols, counted_cols, set_all, posted}
 use Rattle.account.specs.Account.{table_of}
 use Rattle.seven_bit.specs.declared.read.Fault.{Fault}
 use Rattle.seven_bit.specs.declared.read.Number.{Number}
-use Rattle.seven_bit.specs.Placed.{ToldNumber, number_or_fault}
+use Rattle.seven_bit.specs.Placed.{ToldNumber, or_fault, number_or_fault}
 use Rattle.seven_bit.proofs.Faults.{ok_of, err_of, to_ok, err_through}
 use Rattle.seven_bit.specs.Signed.{unfolded}
 use Rattle.saved_form.proofs.Fields.{position_fields_lem}
 use Rattle.saved_form.specs.declared.field.Field.{Field}
 use Rattle.loading.specs.declared.entry.Entry.{Entry}
+use Rattle.loading.specs.declared.positions.Filed.{Filed}
 use Rattle.loading.specs.Reading.{Run, fields_read_of, symbol_read, ToldEntry, no_entry, signed_in, entry_of, entry_after, entry_or_fault, position_read, Rows, no_rows, with_row, then_rows, positions_read, filed, up_to64, table_read, positions_or_fault}
 use Rattle.loading.specs.Inner.Reading.{reached, filed_as, set_rows}
 use Rattle.loading.proofs.Numbers.{run_from, few-read}
@@ -122,28 +122,20 @@ module _ (l : List ℕ) (form : ℕ) where
       let h = few-rows k e.next in
       by_test (λ (r : Rows). length r.rows ≤ suc k) (is_done e.answer) (with_row e.position (positions_read k l form e.next)) (no_rows e.answer e.next) (λ b. omega arith) (λ b. omega arith)
 
-  all_by : (e : ToldEntry) (r : Rows) (k : ℕ) (t : Bool) → is_done e.answer ≡ t → (is_done r.answer ≡ true → length r.rows ≡ k) → is_done (pick t (with_row e.position r) (no_rows e.answer e.next)).answer ≡ true → length (pick t (with_row e.position r) (no_rows e.answer e.next)).rows ≡ suc k
-  all_by e r k true f h d = ap suc (h d)
-  all_by e r k false f h d = cc
-
-  -- as many as are told, where none is refused
-  pub all-rows : (k at : ℕ) → is_done (positions_read k l form at).answer ≡ true → length (positions_read k l form at).rows ≡ k
-  unfolding positions_read then_rows
-  all-rows zero at d = refl
-  all-rows (suc k) at d =
-      let e = position_read l form at in
-      all_by e (positions_read k l form e.next) k (is_done e.answer) refl (all-rows k e.next) d
-
 -- ---- the loop: what is left, read from here on and put from place i on, makes what the whole run makes
+abbrev filed_from : ℕ → Rows → Filed
+filed_from i r = record { count = i + length r.rows; next = or_fault r.answer r.next r.next }
+
 pub record Filing (l : List ℕ) (form place count : ℕ) (c d : Columns) (i at : ℕ) : Type 0 where
   pub within : i ≤ count
-  pub told : filed_as (positions_read (count - i) l form at) ≡ filed_as (positions_read count l form place)
+  pub told : filed_from i (positions_read (count - i) l form at) ≡ filed_as (positions_read count l form place)
   pub columns : set_rows i (positions_read (count - i) l form at).rows d ≡ set_rows 0 (positions_read count l form place).rows c
 
 pub begin : (l : List ℕ) (form place count : ℕ) (c : Columns) → Filing l form place count c c 0 place
 begin l form place count c =
     let e : count - 0 ≡ count = omega arith in
-    record { within = omega arith; told = simp e; columns = simp e }
+    let n : 0 + length (positions_read count l form place).rows ≡ length (positions_read count l form place).rows = omega arith in
+    record { within = omega arith; told = simp (e, n); columns = simp e }
 
 -- a position that is put at a place, whatever the count
 put_at : (i n : ℕ) (p : Position) (c : Columns) → i < 64 → posted (At i) p (counted_cols n c) ≡ counted_cols n (set_all i p c)
@@ -161,9 +153,10 @@ module _ {l : List ℕ} {form place count : ℕ} {c d : Columns} {i at : ℕ} (h
       let put = ap (λ (t : CountedCols). t.columns) (rw o.1 at s ∙ put_at i i t.position d room) in
       let rest = positions_read (count - (i + 1)) l form t.next in
       let r = read_next l form at t refl (count - i) (count - (i + 1)) (omega arith) o.0 in
+      let one : i + 1 + length rest.rows ≡ i + suc (length rest.rows) = omega arith in
       rw o.1 (record {
         within = omega arith;
-        told = ap filed_as r ∙ h.told;
+        told = simp one (ap (filed_from i) r ∙ h.told);
         columns =
             ap (set_rows (i + 1) rest.rows) put
             ∙ ap (λ (k : ℕ). set_rows k rest.rows (set_all i t.position d)) (add-one i)
@@ -171,22 +164,27 @@ module _ {l : List ℕ} {form place count : ℕ} {c d : Columns} {i at : ℕ} (h
             ∙ h.columns;
       })
 
-  abbrev Ends : Result ℕ Fault → Type 0
+  abbrev Ends : Filed → Type 0
   Ends f = (f ≡ filed_as (positions_read count l form place)) × (d ≡ set_rows 0 (positions_read count l form place).rows c)
 
-  ends_with : (w : Answer) (to : ℕ) → no_rows w to ≡ positions_read (count - i) l form at → Ends (filed_as (no_rows w to))
+  ends_with : (w : Answer) (to : ℕ) → no_rows w to ≡ positions_read (count - i) l form at → Ends (record { count = i; next = or_fault w to to })
   unfolding set_rows
-  ends_with w to r = (ap filed_as r ∙ h.told, ap (λ (x : Rows). set_rows i x.rows d) r ∙ h.columns)
+  ends_with w to r =
+      let n : i ≡ i + 0 = omega arith in
+      (ap (λ (k : ℕ). record { count = k; next = or_fault w to to }) n ∙ ap (filed_from i) r ∙ h.told, ap (λ (x : Rows). set_rows i x.rows d) r ∙ h.columns)
 
-  pub stops : (f : Fault) → Err f ≡ entry_or_fault here → i < count → Ends (Err f)
+  pub stops : (f : Fault) → Err f ≡ entry_or_fault here → i < count → Ends (record { count = i; next = Err f })
   stops f e p =
       let t = here in
       let d = err_of t.answer t.next (record { next = t.next; position = t.position }) f e in
       let w = ends_with t.answer t.next (read_none l form at t refl (count - i) (omega arith) d.0) in
-      (err_through t.answer t.next (record { next = t.next; position = t.position }) t.next f e ∙ w.0, w.1)
+      (ap (λ (n : Result ℕ Fault). record { count = i; next = n }) (err_through t.answer t.next (record { next = t.next; position = t.position }) t.next f e) ∙ w.0, w.1)
 
-  pub ends : count ≤ i → Ends (Ok at)
-  ends p = ends_with Done at (read_all l form at (count - i) (omega arith))
+  pub ends : count ≤ i → Ends (record { count = count; next = Ok at })
+  ends p =
+      let n : count ≡ i = omega (arith, h.within) in
+      let w = ends_with Done at (read_all l form at (count - i) (omega arith)) in
+      (ap (λ (k : ℕ). record { count = k; next = Ok at }) n ∙ w.0, w.1)
 
 -- ---- columns that were zeros
 columns-set : (i : ℕ) (ps : List Position) (c : Columns) → set_rows i ps c ≡ cols (sets c.symbol i (map key_of ps)) (sets c.quantity i (map held ps)) (sets c.average i (map avg ps)) (sets c.realized i (map realized ps)) (sets c.total i (map total ps))
@@ -219,26 +217,25 @@ module _ (l : List ℕ) (form count place m : ℕ) (most : m ≡ min count 64) w
 
   module _ (d : Columns) (t : Table) (empty : t ≡ empty_table) (from-empty : d ≡ set_rows 0 rows_read.rows t.columns) where
     abbrev table : Table
-    table = record { count = m; columns = d }
+    table = record { count = length rows_read.rows; columns = d }
 
-    table_is : is_done rows_read.answer ≡ true → table ≡ (filed rows_read).table
+    table_is : table ≡ (filed rows_read).table
     unfolding filed table_of
-    table_is done =
+    table_is =
         let ps = rows_read.rows in
         let few : length ps ≤ 64 = omega (arith, few-rows l form m place) in
-        let all = all-rows l form m place done in
         let e = from-empty ∙ ap (λ (t : Table). set_rows 0 ps t.columns) empty ∙ columns-set 0 ps zeros in
-        rw e (simp (all, column ps few key_of 0, column ps few held (pos 0), column ps few avg (pos 0), column ps few realized (pos 0), column ps few total (pos 0)))
+        rw e (simp (column ps few key_of 0, column ps few held (pos 0), column ps few avg (pos 0), column ps few realized (pos 0), column ps few total (pos 0)))
 
-    pub table_held : (next : ℕ) → Ok next ≡ filed_as rows_read → Ok (record { next = next; table = table }) ≡ positions_or_fault (table_read l form count place)
+    pub table_held : (f : Filed) → f ≡ filed_as rows_read → (next : ℕ) → Ok next ≡ f.next → Ok (record { next = next; table = record { count = f.count; columns = d } }) ≡ positions_or_fault (table_read l form count place)
     unfolding filed
-    table_held next h =
+    table_held f e next h =
         let r = rows_read in
-        let o = ok_of r.answer r.next r.next next h in
-        rw (o.1, table_is o.0) (to_ok r.answer r.next (record { next = r.next; table = (filed r).table }) o.0 ∙ ap positions_or_fault (sym at_most))
+        let o = ok_of r.answer r.next r.next next (h ∙ ap (λ (f : Filed). f.next) e) in
+        rw (o.1, ap (λ (f : Filed). f.count) e, table_is) (to_ok r.answer r.next (record { next = r.next; table = (filed r).table }) o.0 ∙ ap positions_or_fault (sym at_most))
 
-  pub table_refused : (f : Fault) → Err f ≡ filed_as rows_read → Err f ≡ positions_or_fault (table_read l form count place)
+  pub table_refused : (g : Filed) → g ≡ filed_as rows_read → (f : Fault) → Err f ≡ g.next → Err f ≡ positions_or_fault (table_read l form count place)
   unfolding filed
-  table_refused f h =
+  table_refused g e f h =
       let r = rows_read in
-      err_through r.answer r.next r.next (record { next = r.next; table = (filed r).table }) f h ∙ ap positions_or_fault (sym at_most)
+      err_through r.answer r.next r.next (record { next = r.next; table = (filed r).table }) f (h ∙ ap (λ (g : Filed). g.next) e) ∙ ap positions_or_fault (sym at_most)

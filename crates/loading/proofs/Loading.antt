@@ -56,6 +56,9 @@ module _ (l : List ℕ) where
     form_is : (is_done form_told.answer ≡ true) × (form ≡ record { value = form_told.value; next = form_told.next })
     form_is = ok_of form_told.answer form_told.next (record { value = form_told.value; next = form_told.next }) form e
 
+    pub form_moved : {b : List ℕ} {p q : ℕ} → b ≡ l → p ≡ 0 → q ≡ (number_at_of b p).next → q ≡ form.next
+    form_moved b p e = rw (b, p) at e ∙ sym (ap (λ (n : Number). n.next) form_is.1)
+
     form_value : form_told.value ≡ form.value
     form_value = sym (ap (λ (n : Number). n.value) form_is.1)
 
@@ -83,6 +86,12 @@ module _ (l : List ℕ) where
         head_is : (is_done head_told.answer ≡ true) × (head ≡ record { next = head_told.next; count = head_told.count; values = head_told.values })
         head_is = ok_of head_told.answer head_told.next (record { next = head_told.next; count = head_told.count; values = head_told.values }) head h
 
+        pub head_moved : {b : List ℕ} {p q : ℕ} → b ≡ l → p ≡ form.next → q ≡ (head_read_of b form.value p).next → q ≡ head.next
+        head_moved b p e =
+            rw (b, p) at e
+            ∙ ap (λ (n : Number). (head_read_of l n.value n.next).next) form_is.1
+            ∙ sym (ap (λ (h : Head). h.next) head_is.1)
+
         -- the positions are those of the file
         pub positions_at : {r : Result Positions Fault} {b : List ℕ} {p : ℕ} → b ≡ l → p ≡ head.next → r ≡ positions_or_fault (table_read b form.value head.count p) → r ≡ positions_or_fault positions_told
         positions_at b p e =
@@ -104,6 +113,13 @@ module _ (l : List ℕ) where
 
           positions_next : positions_told.next ≡ positions.next
           positions_next = sym (ap (λ (q : Positions). q.next) positions_are.1)
+
+          pub positions_moved : {b : List ℕ} {p q : ℕ} → b ≡ l → p ≡ head.next → q ≡ (table_read b form.value head.count p).next → q ≡ positions.next
+          positions_moved b p e =
+              rw (b, p) at e
+              ∙ ap (λ (n : Number). (table_read l n.value head.count head.next).next) form_is.1
+              ∙ ap (λ (h : Head). (table_read l form_told.value h.count h.next).next) head_is.1
+              ∙ positions_next
 
           pub left_over : (place : ℕ) → place ≡ positions.next → (place ≡ length l → ⊥) → Err (LeftOver place) ≡ account_read l
           unfolding load_answer

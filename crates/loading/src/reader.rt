@@ -1,7 +1,7 @@
 // "a reader over the lent bytes and its place": each of its functions takes it apart, calls a function of the bytes and the place, and moves to where that one says.
-ghost use Rattle.std.specs.Prelude.{◌≡◌, IfOk};
-ghost use Rattle.seven_bit.specs.Placed.{number_at_of, number_or_fault};
-ghost use Rattle.loading.specs.Reading.{head_read_of, head_or_fault, table_read, positions_or_fault};
+ghost use Rattle.std.specs.Prelude.{◌≡◌};
+ghost use Rattle.seven_bit.specs.Placed.{ToldNumber, number_at_of, number_or_fault};
+ghost use Rattle.loading.specs.Reading.{ToldHead, head_read_of, head_or_fault, ToldPositions, table_read, positions_or_fault};
 ghost use Rattle.loading.specs.Loading.{account_read};
 
 use crate::head::{Head, head_at};
@@ -10,6 +10,36 @@ use account::Account;
 use answer::Answer;
 use saved_form::{FORM, account_of};
 use seven_bit::{Fault, Number, number_at};
+
+// Where a number ended, or the place of its refusal.
+fn number_end(read: &Result<Number, Fault>) -> usize
+    ensures { (n : ToldNumber) → read.now ≡ number_or_fault n → result ≡ n.next }
+{
+    match read {
+        Ok(number) => number.next,
+        Err(fault) => fault.place,
+    }
+}
+
+// The same of the numbers before the positions.
+fn head_end(read: &Result<Head, Fault>) -> usize
+    ensures { (h : ToldHead) → read.now ≡ head_or_fault h → result ≡ h.next }
+{
+    match read {
+        Ok(head) => head.next,
+        Err(fault) => fault.place,
+    }
+}
+
+// The same of the positions.
+fn positions_end(read: &Result<Positions, Fault>) -> usize
+    ensures { (p : ToldPositions) → read.now ≡ positions_or_fault p → result ≡ p.next }
+{
+    match read {
+        Ok(positions) => positions.next,
+        Err(fault) => fault.place,
+    }
+}
 
 #[derive(Drop)]
 struct Reader<'a> {
@@ -29,33 +59,33 @@ impl<'a> Reader<'a> {
     fn number(&mut self) -> Result<Number, Fault>
         ensures read { result ≡ number_or_fault (number_at_of self.old.bytes.now self.old.place) }
         ensures same { self.new.bytes ≡ self.old.bytes }
-        ensures moved { IfOk result (λ n. self.new.place ≡ n.next) }
+        ensures moved { self.new.place ≡ (number_at_of self.old.bytes.now self.old.place).next }
     {
-        let number = number_at(self.bytes, self.place)?;
-        self.place = number.next;
-        Ok(number)
+        let read = number_at(self.bytes, self.place);
+        self.place = number_end(&read);
+        read
     }
 
     // The numbers before the positions, in a file of a form.
     fn head(&mut self, form: u64) -> Result<Head, Fault>
         ensures read { result ≡ head_or_fault (head_read_of self.old.bytes.now form self.old.place) }
         ensures same { self.new.bytes ≡ self.old.bytes }
-        ensures moved { IfOk result (λ h. self.new.place ≡ h.next) }
+        ensures moved { self.new.place ≡ (head_read_of self.old.bytes.now form self.old.place).next }
     {
-        let head = head_at(self.bytes, form, self.place)?;
-        self.place = head.next;
-        Ok(head)
+        let read = head_at(self.bytes, form, self.place);
+        self.place = head_end(&read);
+        read
     }
 
     // So many positions.
     fn positions(&mut self, form: u64, count: u64) -> Result<Positions, Fault>
         ensures read { result ≡ positions_or_fault (table_read self.old.bytes.now form count self.old.place) }
         ensures same { self.new.bytes ≡ self.old.bytes }
-        ensures moved { IfOk result (λ p. self.new.place ≡ p.next) }
+        ensures moved { self.new.place ≡ (table_read self.old.bytes.now form count self.old.place).next }
     {
-        let positions = table_at(self.bytes, form, count, self.place)?;
-        self.place = positions.next;
-        Ok(positions)
+        let read = table_at(self.bytes, form, count, self.place);
+        self.place = positions_end(&read);
+        read
     }
 }
 

@@ -18,7 +18,7 @@ fn snapshot_of(a: Account, symbols: &[u64], prices: &[i64]) -> Snapshot
     requires { query_answer a symbols.now prices.now ≡ Done }
     ensures { result ≡ snapshot_of (price_of symbols.now prices.now) a }
 {
-    let t = a.positions;
+    let t = &a.positions;
     let n = t.count;
     let listed = prices_of(&t.columns.symbol, n, symbols, prices);
     let sums = summed(&t.columns, n, &listed);

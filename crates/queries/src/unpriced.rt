@@ -61,7 +61,7 @@ pub fn unpriced_holding(a: Account, symbols: &[u64], prices: &[i64]) -> Unpriced
     if let Err(answer) = check_query(a, symbols, prices) {
         return told(answer, None);
     }
-    let t = a.positions;
+    let t = &a.positions;
     let listed = prices_of(&t.columns.symbol, t.count, symbols, prices);
     let first = first_unpriced(&t.columns, t.count, &listed);
     told(Answer::Done, first)

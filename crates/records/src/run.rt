@@ -25,6 +25,6 @@ pub fn collect<'w, 'i, 'a>(
     ensures { out.new ≡ collected words.now ints.now count out.old }
 {
     for i in 0..count.min(out.len()) {
-        out[i] = record_at(words, ints, i);
+        store_record(out, i, record_at(words, ints, i));
     }
 }

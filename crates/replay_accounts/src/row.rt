@@ -20,19 +20,25 @@ pub(crate) fn head(r: Row, i: usize) -> u64 {
 
 // The lists of a row are whole.
 pub(crate) fn targets_of(r: Row) -> Targets {
-    read_targets(&r.targets).unwrap_or(Targets {
-        count: 0,
-        symbol: [0; 64],
-        weight: [0.0; 64],
-    })
+    match read_targets(&r.targets) {
+        Some(targets) => targets,
+        None => Targets {
+            count: 0,
+            symbol: [0; 64],
+            weight: [0.0; 64],
+        },
+    }
 }
 
 pub(crate) fn prices_of(r: Row) -> Prices {
-    read_prices(&r.prices).unwrap_or(Prices {
-        count: 0,
-        symbol: [0; 128],
-        price: [0; 128],
-    })
+    match read_prices(&r.prices) {
+        Some(prices) => prices,
+        None => Prices {
+            count: 0,
+            symbol: [0; 128],
+            price: [0; 128],
+        },
+    }
 }
 
 // Whether both have the same first n words.

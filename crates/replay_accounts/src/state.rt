@@ -200,15 +200,23 @@ fn same_counts(told: &[u8], k: Counters, s: Series) -> bool {
         && word_at(told, PREV_EQUITY_AT) == unsigned(s.prev_equity)
 }
 
+// Whether both columns are the same in all places. The loop has no way out, so that it compiles to vector steps.
+fn same<T: Copy + PartialEq>(a: &[T; 64], b: &[T; 64]) -> bool {
+    let mut same = true;
+    for k in 0..64 {
+        same &= a[k] == b[k];
+    }
+    same
+}
+
 fn same_positions(told: &[u8], positions: Table) -> bool {
-    let theirs = columns_of(told);
-    let ours = positions.columns;
+    let ours = &positions.columns;
     word_at(told, COUNT_AT) == positions.count as u64
-        && theirs.symbol == ours.symbol
-        && theirs.quantity == ours.quantity
-        && theirs.average == ours.average
-        && theirs.realized == ours.realized
-        && theirs.total == ours.total
+        && same(&symbols_of(told), &ours.symbol)
+        && same(&numbers_of(told, 1), &ours.quantity)
+        && same(&numbers_of(told, 2), &ours.average)
+        && same(&numbers_of(told, 3), &ours.realized)
+        && same(&numbers_of(told, 4), &ours.total)
 }
 
 // Whether an account is the one that is told, in all that the Rust has and in what it lacks.

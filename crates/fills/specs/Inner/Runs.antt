@@ -61,6 +61,7 @@ pub record Fills (t : Terms) (o : Order) (b : Book) (c : Columns) (r : Filled) (
   pub ordered : Ordered r.book.count d
   pub done : (rs : List ExecutionRecord) → state r.book d (rs ++ records_of r) ≡ fill t o (state b c rs)
   pub written : r.book.written ≡ b.written
+  pub all : r.made ≡ record_by t o (deal_of t o b.cash) b.sequence b.cash
   pub made : r.«record» ≡ then_some (pick (is_zero (deal_of t o b.cash).quantity.0) false t.recording) (record_by t o (deal_of t o b.cash) b.sequence b.cash)
 
 -- (b, c) and the lent slices to (r, d) and theirs by a run of orders

@@ -5,7 +5,6 @@ use Rattle.house.specs.Group.{Ends, Group, of_both, first_of}
 use Rattle.house.specs.Places.{column}
 use Rattle.house.specs.Inner.Raised.{half, lowered, sum_n}
 use Rattle.house.specs.declared.low.LowPart.{LowPart}
-use Rattle.house.specs.declared.low.LowParts.{LowParts}
 
 -- 2 ^ 55
 abbrev pub reach : ℕ
@@ -53,9 +52,9 @@ pub record LowAdded (n p : ℕ) (g : Group) (r : LowPart) (lo₀ lo : List ℕ) 
   pub long : length lo ≡ 32
   pub totals : (i : ℕ) → i < 32 → slice_index lo i ≡ (slice_index lo₀ i + cond (nat_lt i n) (step_word (g p i)) 0) % 2 ^ 64
 
-pub record LowSummed (n m : ℕ) (g : Group) (r : LowParts) : Type 0 where
-  pub near : (bound p a : ℕ) → r.spread < bound → p < m → a < n → BothWithin bound (g p a)
+pub record LowSummed (n m : ℕ) (g : Group) (spread : ℕ) (fs gs cs : List ℤ) : Type 0 where
+  pub near : (bound p a : ℕ) → spread < bound → p < m → a < n → BothWithin bound (g p a)
   pub known : (p a : ℕ) → p < m → a < n → Known (g p a)
-  pub firsts : r.parts.firsts ≡ column 64 (pos 0) m (λ p. lowered (low_sum n (λ a. first_word (g p a))))
-  pub gains : r.parts.gains ≡ column 64 (pos 0) m (λ p. lowered (low_sum n (λ a. step_word (g p a))))
-  pub changes : r.parts.changes ≡ column 32 (pos 0) n (λ a. lowered (low_sum m (λ p. step_word (g p a))))
+  pub firsts : fs ≡ column 64 (pos 0) m (λ p. lowered (low_sum n (λ a. first_word (g p a))))
+  pub gains : gs ≡ column 64 (pos 0) m (λ p. lowered (low_sum n (λ a. step_word (g p a))))
+  pub changes : cs ≡ column 32 (pos 0) n (λ a. lowered (low_sum m (λ p. step_word (g p a))))

@@ -1,5 +1,5 @@
 -- What the loops over parts and accounts leave, in the paper's terms. Definitions only.
-use Rattle.std.specs.Prelude.{◌≡◌, ℕ, ◌+◌, ◌/◌, ◌%◌, ◌^◌, ◌<◌, Bool, true, cond, ◌&&◌, Option, Some, None, List, length, ℤ, pos, ◌==◌, int_lt, nat_lt, slice_index_or}
+use Rattle.std.specs.Prelude.{◌≡◌, ℕ, ◌+◌, ◌/◌, ◌%◌, ◌^◌, ◌<◌, Bool, true, cond, ◌&&◌, Option, Some, None, List, length, ℤ, Float, pos, ◌==◌, int_lt, nat_lt, slice_index_or}
 use Rattle.std.specs.Float.{binary64}
 use Rattle.std.specs.Float.Ieee.{sub}
 use Rattle.sums.specs.declared.Wide.{Wide}
@@ -10,8 +10,6 @@ use Rattle.house.specs.Places.{column}
 use Rattle.house.specs.Inner.Raised.{raised, lowered}
 use Rattle.house.specs.declared.entry.Entry.{Entry}
 use Rattle.house.specs.declared.part.Part.{Part}
-use Rattle.house.specs.declared.part.Parts.{Parts}
-use Rattle.house.specs.declared.growth.Growths.{Growths}
 
 -- one account in one part, where its change is in i64
 abbrev pub entered : Ends → Option Entry
@@ -38,11 +36,11 @@ pub record Added (n p : ℕ) (g : Group) (r : Part) (before after : List Wide) :
 abbrev pub in_range : ℕ → ℕ → Group → Bool
 in_range n m g = every m (part_in_i64 n g) && every n (λ a. in_i64 (account_change m g a))
 
-pub record Summed (n m : ℕ) (g : Group) (r : Parts) : Type 0 where
+pub record Summed (n m : ℕ) (g : Group) (fs gs cs : List ℤ) : Type 0 where
   pub fits : in_range n m g ≡ true
-  pub firsts : r.firsts ≡ column 64 (pos 0) m (first_sum n g)
-  pub gains : r.gains ≡ column 64 (pos 0) m (summed_change n g)
-  pub changes : r.changes ≡ column 32 (pos 0) n (account_change m g)
+  pub firsts : fs ≡ column 64 (pos 0) m (first_sum n g)
+  pub gains : gs ≡ column 64 (pos 0) m (summed_change n g)
+  pub changes : cs ≡ column 32 (pos 0) n (account_change m g)
 
 -- the total of an account over m parts as it ends
 abbrev pub total_fits : ℕ → List Wide → ℕ → Bool
@@ -55,7 +53,7 @@ pub record Totalled (n m : ℕ) (totals : List Wide) (r : List ℤ) : Type 0 whe
 abbrev pub is_positive : List ℤ → ℕ → Bool
 is_positive firsts p = int_lt (pos 0) (slice_index_or firsts p (pos 0))
 
-pub record Grown (m : ℕ) (firsts gains : List ℤ) (r : Growths) : Type 0 where
+pub record Grown (m : ℕ) (firsts gains : List ℤ) (f : Float) (r : List Float) : Type 0 where
   pub positive : every m (is_positive firsts) ≡ true
-  pub figure : r.figure ≡ sub binary64 (product_to m (λ p. growth_of (slice_index_or gains p (pos 0)) (slice_index_or firsts p (pos 0)))) one
-  pub growths : r.growths ≡ column 64 zero m (λ p. growth_of (slice_index_or gains p (pos 0)) (slice_index_or firsts p (pos 0)))
+  pub figure : f ≡ sub binary64 (product_to m (λ p. growth_of (slice_index_or gains p (pos 0)) (slice_index_or firsts p (pos 0)))) one
+  pub growths : r ≡ column 64 zero m (λ p. growth_of (slice_index_or gains p (pos 0)) (slice_index_or firsts p (pos 0)))

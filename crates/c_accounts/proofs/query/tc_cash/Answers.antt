@@ -1,7 +1,7 @@
 -- The word of the cash, told.
 use Prim.Native.Nat.{ℕ}
 use mathlib.Core.List.{[], ◌∷◌}
-use mathlib.Core.Path.{◌∙◌, ap}
+use mathlib.Core.Path.{refl, ◌∙◌, ap}
 use mir.Val.{SFits}
 use mir.Syntax.{w64}
 use borrow.Author.Rules.{rules}
@@ -18,4 +18,4 @@ returns c =
     let f : SFits w64 c.account_in-a.result.cash = search rules in
     let e = stored f c.unsigned.ensures in
     c.tell.ensures
-    ∙ told-queried (λ (x : Account). unsigned_of x.cash ∷ []) Done s.account.now s.out.now c.account_in-a.ensures (ap (λ (w : ℕ). w ∷ []) e)
+    ∙ told-queried (λ (x : Account). unsigned_of x.cash ∷ []) Done refl s.account.now s.out.now c.account_in-a.ensures c.soundness.ensures (ap (λ (w : ℕ). w ∷ []) e)

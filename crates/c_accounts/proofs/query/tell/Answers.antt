@@ -12,19 +12,21 @@ use Rattle.answer.specs.Numbers.{is_done}
 use Rattle.table.specs.Keyed.{pick}
 use Rattle.word_bytes.specs.Words.{bytes_of}
 
-pub returns-in-Err : goal.returns-in-Err
-returns-in-Err c = let s = c.args in ap (λ (n : ℕ). account_told n s.out.now) c.word.ensures ∙ tell_unsound s.a s.asked s.words.now s.out.now (sym c.check_sound.ensures ∙ c.in-Err.is)
+pub returns-then-is_unsound : goal.returns-then-is_unsound
+returns-then-is_unsound c =
+    let s = c.args in
+    ap (λ (n : ℕ). account_told n s.out.now) c.word.ensures ∙ tell_unsound s.asked s.words.now s.out.now (sym c.is_unsound.ensures ∙ c.if-is_unsound.true)
 
 pub returns-then-out-words : goal.returns-then-out-words
 returns-then-out-words c =
     let s = c.args in
-    ap (λ (n : ℕ). account_told n s.out.now) c.word-then-out-words.ensures ∙ tell_short s.a s.asked s.words.now s.out.now (sym c.check_sound.ensures ∙ c.in_default.is) c.if-out-words.true
+    ap (λ (n : ℕ). account_told n s.out.now) c.word-then-out-words.ensures ∙ tell_short s.asked s.words.now s.out.now (sym c.is_unsound.ensures ∙ c.if-is_unsound.false) c.if-out-words.true
 
 pub returns-then-not-is_done : goal.returns-then-not-is_done
 returns-then-not-is_done c =
     let s = c.args in
     ap (λ (n : ℕ). account_told n s.out.now) c.word-then-not-is_done.ensures
-    ∙ tell_made s.a s.asked s.words.now s.out.now s.out.now (sym c.check_sound.ensures ∙ c.in_default.is) c.if-out-words.false (simp (sym c.is_done.ensures ∙ c.if-not-is_done.true))
+    ∙ tell_made s.asked s.words.now s.out.now s.out.now (sym c.is_unsound.ensures ∙ c.if-is_unsound.false) c.if-out-words.false (simp (sym c.is_done.ensures ∙ c.if-not-is_done.true))
 
 pub returns : goal.returns
 returns c =
@@ -33,4 +35,4 @@ returns c =
     let o = octets l (λ i h. omega (arith, c.type_inv.out i)) in
     let n : length l ≡ 8 * length s.words.now = omega (arith, c.put_words.auto.out, c.if-out-words.false) in
     let k : l ≡ pick (is_done s.asked) (bytes_of s.words.now) s.out.now = bytes_are (length s.words.now) l s.words.now o n c.put_words.ensures ∙ simp (sym c.is_done.ensures ∙ c.if-not-is_done.false) in
-    ap (λ (n : ℕ). account_told n l) c.word-2.ensures ∙ tell_made s.a s.asked s.words.now s.out.now l (sym c.check_sound.ensures ∙ c.in_default.is) c.if-out-words.false k
+    ap (λ (n : ℕ). account_told n l) c.word-2.ensures ∙ tell_made s.asked s.words.now s.out.now l (sym c.is_unsound.ensures ∙ c.if-is_unsound.false) c.if-out-words.false k

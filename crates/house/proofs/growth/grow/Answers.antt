@@ -17,7 +17,7 @@ product-on g i p x e q = rw (e, q, add-one i)
 
 pub loop-p-init : goal.loop-p-init
 unfolding every product_to of_bits
-loop-p-init c = record { positive = refl; product = refl; growths = column-first 64 zero _ }
+loop-p-init c = record { positive = refl; product = refl; growths = c.requires.empty ∙ column-first 64 zero _ }
 
 pub returns-then-not-positive : goal.returns-then-not-positive
 returns-then-not-positive c =

@@ -7,7 +7,7 @@ use Rattle.house.proofs.LowAdding.{low_summing_first, low-words, low_summing_on,
 use Rattle.house.proofs.low.sum_low.Goals as goal
 
 pub loop-p-init : goal.loop-p-init
-loop-p-init c = low_summing_first _ _ _
+loop-p-init c = low_summing_first _ _ _ _ _ c.requires.empty.0 c.requires.empty.1
 
 pub sum_low_part-part-requires-clause-lo_len : goal.sum_low_part-part-requires-clause-lo_len
 sum_low_part-part-requires-clause-lo_len c =
@@ -21,10 +21,10 @@ loop-p-preserved c =
     let g = c.lower-in-loop-p in
     let x : to_z w64 (of_z w64 f.result) ≡ lowered c.sum_low_part-part.result.first = to_z-of_z w64 f.result (record { sfits = f.type_inv }) ∙ f.ensures in
     let y : to_z w64 (of_z w64 g.result) ≡ lowered c.sum_low_part-part.result.gain = to_z-of_z w64 g.result (record { sfits = g.type_inv }) ∙ g.ensures in
-    low_summing_on _ _ _ l.lo l.firsts l.gains l.spread l.p l.invariant _ _ _ _ c.requires.1 c.loop-p-test.true c.sum_low_part-part.ensures x y
+    low_summing_on _ _ _ l.lo l.firsts l.gains l.spread l.p l.invariant _ _ _ _ c.requires.sizes.1 c.loop-p-test.true c.sum_low_part-part.ensures x y
 
 pub loop-a-init : goal.loop-a-init
-loop-a-init c = column-first 32 _ _
+loop-a-init c = c.requires.empty.2 ∙ column-first 32 _ _
 
 pub loop-a-preserved : goal.loop-a-preserved
 loop-a-preserved c =
@@ -40,4 +40,4 @@ returns c =
     let l = c.loop-p in
     let e : l.p ≡ c.args.m = omega (arith, c.loop-p-test.false, l.auto.p-end) in
     let d : c.loop-a.a ≡ c.args.n = omega (arith, c.loop-a-test.false, c.loop-a.auto.a-end) in
-    low_summing_last _ _ _ l.lo l.firsts l.gains l.spread l.p l.invariant e _ (c.loop-a.invariant ∙ rw d)
+    λ h. low_summing_last _ _ _ l.lo l.firsts l.gains l.spread l.p l.invariant e _ (c.loop-a.invariant ∙ rw d)

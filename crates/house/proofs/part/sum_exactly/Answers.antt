@@ -2,7 +2,7 @@
 use Rattle.std.proofs.Common.{◌≡◌, arith, w64, rules}
 use mir.ValLaws.{to_z-of_z}
 use Rattle.house.specs.Places.{group_in}
-use Rattle.house.proofs.Summing.{summing_first, summing_room, part_out, summing_on, account_out, summing_last}
+use Rattle.house.proofs.Summing.{summing_first, summing_room, part_out, summing_on, summed_by}
 use Rattle.house.proofs.part.sum_exactly.Goals as goal
 
 pub loop-p-init : goal.loop-p-init
@@ -23,15 +23,8 @@ loop-p-preserved c =
     let l = c.loop-p in
     summing_on _ _ _ l.totals l.firsts l.gains l.p l.invariant _ _ _ _ c.requires.1 c.loop-p-test.true c.in_ok-part.ensures (to_z-of_z w64 _ (search rules)) (to_z-of_z w64 _ (search rules))
 
-pub returns-in_err-changes : goal.returns-in_err-changes
-returns-in_err-changes c =
-    let l = c.loop-p in
-    let e : l.p ≡ c.args.m = omega (arith, c.loop-p-test.false, l.auto.p-end) in
-    rw c.from_residual-in_err-changes.ensures
-    (account_out _ _ _ l.totals l.firsts l.gains l.p l.invariant e c.requires.0 c.in_err-changes.ensures)
-
 pub returns : goal.returns
 returns c =
     let l = c.loop-p in
     let e : l.p ≡ c.args.m = omega (arith, c.loop-p-test.false, l.auto.p-end) in
-    summing_last _ _ _ l.totals l.firsts l.gains l.p l.invariant e c.requires.0 _ c.in_ok-changes.ensures
+    summed_by _ _ _ l.totals l.firsts l.gains l.p l.invariant e c.requires.0 _ _ c.sum_accounts.ensures

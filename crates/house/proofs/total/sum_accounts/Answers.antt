@@ -9,7 +9,7 @@ use Rattle.house.proofs.total.sum_accounts.Goals as goal
 
 pub loop-a-init : goal.loop-a-init
 unfolding every
-loop-a-init c = record { fits = refl; changes = column-first 32 _ _ }
+loop-a-init c = record { fits = refl; changes = c.requires.empty ∙ column-first 32 _ _ }
 
 pub returns-in_err-changes : goal.returns-in_err-changes
 unfolding ended

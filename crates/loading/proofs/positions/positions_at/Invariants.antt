@@ -1,5 +1,4 @@
 -- The loop's invariant: the positions left, read from here on, make of the columns what the whole run makes of them.
-use Rattle.table.specs.Rows.{cols}
 use Rattle.loading.proofs.Entries as E
 use Rattle.loading.proofs.positions.positions_at.Given as goal
 

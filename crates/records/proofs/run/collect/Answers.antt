@@ -17,7 +17,8 @@ loop-i-preserved c =
     let x = c.args in
     let i = c.loop-i.i in
     let below : i < length x.out.now = omega arith in
-    ap (λ l. set l i c.record_at.result) c.loop-i.invariant
+    c.store_record.ensures
+    ∙ ap (λ l. set l i c.record_at.result) c.loop-i.invariant
     ∙ ap (set (fronted (records_at x.words.now x.ints.now i) x.out.now) i) c.record_at.ensures
     ∙ run-next x.words.now x.ints.now i x.out.now below
 
